@@ -1,0 +1,132 @@
+-- Clean stops, bit 2, and what K counts.
+use mathlib.Core.Path.{_≡_, refl, sym, _∙_}
+use mathlib.Core.Bool.{Bool, true, false, not, _&&_, _||_, cond}
+use mathlib.Core.List.{List, [], _∷_}
+use Prim.Native.Nat.{ℕ, zero, suc, min}
+use native.Mathlib.Omega.{arith}
+use Rattle.history.specs.Words.{anyOf, countOf, since, someWith}
+use Rattle.history.specs.StatusByte.{testFailedThisOperationCycle, pendingDTC, EventRecord, Limits, cleanCycle, countsForAgeing, countsForHealing}
+use Rattle.history.specs.History.{Token, passed, failed, start, stop, clear, History, recordAfter, Moment, moments, is, isPassed, isFailed, isResult, sinceL, sinceW, failureFree, clean, sinceCleanStop, runs, failedRuns, countedForAgeing, countedForHealing, reading}
+use Rattle.history.proofs.WordsLaws.{and-false, someWith-cong, someWith-none, parts-other, parts-more}
+use Rattle.history.proofs.Results.{bit1, bit6}
+
+-- the moment of a token, after this history
+abbrev pub now : Token → History → Moment
+now t l = record { what = t; before = l }
+
+results : (w : List Moment) → anyOf isResult w ≡ anyOf isPassed w || anyOf isFailed w
+results [] = refl
+results (m ∷ w) = rw (results w) (table (isPassed m) (isFailed m) (anyOf isPassed w) (anyOf isFailed w))
+  where
+    table : (a b c d : Bool) → (a || b) || (c || d) ≡ (a || c) || (b || d)
+    table true b c d = refl
+    table false true true d = refl
+    table false true false d = refl
+    table false false c d = refl
+
+module _ (n : Limits) (l : History) where
+  -- the rules take a stop for clean, for one that counts for healing, for one that counts for ageing, exactly where the reading does
+  pub clean-cycle-is : cleanCycle (recordAfter n l .status) ≡ clean (now stop l)
+  unfolding clean failureFree reading
+  clean-cycle-is = rw (bit1 n l, bit6 n l, results (sinceW l)) (table (anyOf isFailed (sinceW l)) (anyOf isPassed (sinceW l)))
+    where
+      table : (f p : Bool) → not f && not (not (p || f)) ≡ (true && not f) && p
+      table true p = refl
+      table false true = refl
+      table false false = refl
+
+  pub healing-is : countsForHealing (recordAfter n l .status) ≡ countedForHealing (now stop l)
+  healing-is = clean-cycle-is
+
+  pub ageing-is : countsForAgeing (recordAfter n l .status) ≡ countedForAgeing (now stop l)
+  unfolding failureFree reading
+  ageing-is = rw (bit1 n l)
+
+-- a clean stop has no failed result in its run
+clean-unfailed : (l : History) → clean (now stop l) ≡ true → anyOf isFailed (sinceW l) ≡ false
+unfolding clean failureFree
+clean-unfailed l = table (anyOf isFailed (sinceW l)) (anyOf isPassed (sinceW l))
+  where
+    table : (f p : Bool) → (true && not f) && p ≡ true → f ≡ false
+    table true p e = sym e
+    table false p e = refl
+
+-- the current run holds a failed result after the last clean stop exactly where bit 1 reads set
+this-run : (n : Limits) (l : History) → anyOf isFailed (since (is start) (sinceCleanStop l)) ≡ reading n l testFailedThisOperationCycle
+unfolding sinceCleanStop reading sinceW moments clean failureFree
+this-run n [] = refl
+this-run n (passed ∷ l) = this-run n l
+this-run n (failed ∷ l) = refl
+this-run n (start ∷ l) = refl
+this-run n (stop ∷ l) = go (clean (now stop l)) refl (this-run n l)
+  where
+    go : (b : Bool) → clean (now stop l) ≡ b → anyOf isFailed (since (is start) (sinceCleanStop l)) ≡ anyOf isFailed (sinceW l)
+        → anyOf isFailed (since (is start) (cond b [] (now stop l ∷ sinceCleanStop l))) ≡ anyOf isFailed (sinceW l)
+    go true e ih = sym (clean-unfailed l e)
+    go false e ih = ih
+this-run n (clear ∷ l) = refl
+
+-- ---- the runs that hold failed results after the later of L and the last clean stop, one thing after the other
+
+unfoldable pub failedRunsNow : History → ℕ
+failedRunsNow l = failedRuns (sinceCleanStop l)
+
+runs-failed : (n : Limits) (l : History) → failedRunsNow (failed ∷ l) ≡ cond (reading n l testFailedThisOperationCycle) (failedRunsNow l) (suc (failedRunsNow l))
+unfolding failedRunsNow sinceCleanStop moments clean failureFree
+runs-failed n l = rw (← (this-run n l)) (parts-more (is start) isFailed (now failed l) (sinceCleanStop l) refl refl)
+
+runs-passed : (l : History) → failedRunsNow (passed ∷ l) ≡ failedRunsNow l
+unfolding failedRunsNow sinceCleanStop moments clean failureFree
+runs-passed l = parts-other (is start) isFailed (now passed l) (sinceCleanStop l) refl refl
+
+runs-start : (l : History) → failedRunsNow (start ∷ l) ≡ failedRunsNow l
+unfolding failedRunsNow sinceCleanStop moments clean failureFree
+runs-start l = refl
+
+runs-stop : (l : History) → failedRunsNow (stop ∷ l) ≡ cond (clean (now stop l)) 0 (failedRunsNow l)
+unfolding failedRunsNow sinceCleanStop moments
+runs-stop l = go (clean (now stop l))
+  where
+    go : (b : Bool) → failedRuns (cond b [] (now stop l ∷ sinceCleanStop l)) ≡ cond b 0 (failedRuns (sinceCleanStop l))
+    go true = refl
+    go false = parts-other (is start) isFailed (now stop l) (sinceCleanStop l) refl refl
+
+runs-none : failedRunsNow [] ≡ 0
+unfolding failedRunsNow sinceCleanStop moments
+runs-none = refl
+
+runs-clear : (l : History) → failedRunsNow (clear ∷ l) ≡ 0
+unfolding failedRunsNow sinceCleanStop moments
+runs-clear l = refl
+
+-- K is their number, at most 255
+pub K-is : (n : Limits) (l : History) → recordAfter n l .K ≡ min 255 (failedRunsNow l)
+unfolding recordAfter
+K-is n [] = rw runs-none
+K-is n (passed ∷ l) = rw (runs-passed l) (K-is n l)
+K-is n (failed ∷ l) = rw (runs-failed n l, bit1 n l, K-is n l) (table (reading n l testFailedThisOperationCycle) (failedRunsNow l))
+  where
+    table : (b : Bool) (r : ℕ) → cond b (min 255 r) (min 255 (suc (min 255 r))) ≡ min 255 (cond b r (suc r))
+    table true r = refl
+    table false r = omega arith
+K-is n (start ∷ l) = rw (runs-start l) (K-is n l)
+K-is n (stop ∷ l) = rw (runs-stop l, clean-cycle-is n l, K-is n l) (table (clean (now stop l)) (failedRunsNow l))
+  where
+    table : (b : Bool) (r : ℕ) → cond b 0 (min 255 r) ≡ min 255 (cond b 0 r)
+    table true r = refl
+    table false r = refl
+K-is n (clear ∷ l) = rw (runs-clear l)
+
+-- a clean stop ends the pending of every failed result before it
+pending : (b : Bool) (ms : List Moment) → someWith (λ after m. isFailed m && not (b || anyOf clean after)) ms ≡ cond b false (someWith (λ after m. isFailed m && not (anyOf clean after)) ms)
+pending true ms = someWith-cong (λ after m. isFailed m && false) (λ after m. false) ms (λ a x r q. and-false (isFailed x)) ∙ someWith-none ms
+pending false ms = refl
+
+pub bit2 : (n : Limits) (l : History) → recordAfter n l .status pendingDTC ≡ reading n l pendingDTC
+unfolding recordAfter reading sinceL moments clean failureFree
+bit2 n [] = refl
+bit2 n (passed ∷ l) = bit2 n l
+bit2 n (failed ∷ l) = refl
+bit2 n (start ∷ l) = bit2 n l
+bit2 n (stop ∷ l) = rw (clean-cycle-is n l, bit2 n l) (sym (pending (clean (now stop l)) (sinceL l)))
+bit2 n (clear ∷ l) = refl

@@ -1,0 +1,4 @@
+pub mod Words
+pub mod StatusByte
+pub mod WellFormed
+pub mod History

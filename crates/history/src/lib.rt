@@ -1,0 +1,1 @@
+// One event's status byte and its history: definitions (specs/) and theorems (proofs/), no code.
