@@ -4,3 +4,6 @@ pub mod WordsLaws
 pub mod StatusByteLaws
 pub mod Results
 pub mod Runs
+pub mod Standing
+pub mod Counts
+pub mod ByteIsReading
