@@ -7,3 +7,6 @@ pub mod Runs
 pub mod Standing
 pub mod Counts
 pub mod ByteIsReading
+pub mod WordsMean
+pub mod RunsHoweverCut
+pub mod RecordStaysWellFormed

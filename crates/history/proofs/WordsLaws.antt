@@ -3,10 +3,21 @@ use mathlib.Core.Path.{_≡_, refl, sym, ap, ap₂, _∙_}
 use mathlib.Core.Bool.{Bool, true, false, not, _&&_, _||_, cond}
 use mathlib.Core.List.{List, [], _∷_, _++_, tail}
 use Prim.Native.Nat.{ℕ, zero, suc}
-use Rattle.history.specs.Words.{anyOf, allOf, countOf, since, someWith, joined, cutAt}
-use Rattle.history.proofs.Truth.{truth, same-eq}
+use lib.ListN.{getD}
+use Rattle.history.specs.Words.{holds, anyOf, allOf, countOf, since, someWith, joined, cutAt}
 
 -- ---- tests
+
+pub and-left : (a b : Bool) → a && b ≡ true → a ≡ true
+and-left true b e = refl
+and-left false b e = e
+
+pub and-right : (a b : Bool) → a && b ≡ true → b ≡ true
+and-right true b e = e
+and-right false b e = cc
+
+pub both : (a b : Bool) → a ≡ true → b ≡ true → a && b ≡ true
+both a b p q = rw (p, q)
 
 pub and-true : (a : Bool) → a && true ≡ a
 and-true true = refl
@@ -40,6 +51,25 @@ swapped true false t e = cc
 swapped false true true e = refl
 swapped false true false e = refl
 swapped false false t e = refl
+
+-- ---- holds
+
+-- each clause of a list that holds
+pub part : (l : List Bool) → holds l ≡ true → (i : ℕ) → getD l i true ≡ true
+unfolding holds
+part [] e i = refl
+part (b ∷ bs) e zero = and-left b (holds bs) e
+part (b ∷ bs) e (suc i) = part bs (and-right b (holds bs) e) i
+
+-- a list each clause of which holds
+abbrev pub Each : List Bool → Type 0
+Each [] = Unit {0}
+Each (b ∷ bs) = (b ≡ true) × Each bs
+
+pub parts : (l : List Bool) → Each l → holds l ≡ true
+unfolding holds
+parts [] e = refl
+parts (b ∷ bs) e = both b (holds bs) (e .0) (parts bs (e .1))
 
 module _ {A : Type 0} where
   -- ---- someWith

@@ -2,3 +2,4 @@ pub mod Words
 pub mod StatusByte
 pub mod WellFormed
 pub mod History
+pub mod Legal
