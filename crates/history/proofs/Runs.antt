@@ -1,5 +1,5 @@
 -- Clean stops, bit 2, and what K counts.
-use mathlib.Core.Path.{_≡_, refl, sym, _∙_}
+use mathlib.Core.Path.{_≡_, refl, sym, ap, ap₂, _∙_}
 use mathlib.Core.Bool.{Bool, true, false, not, _&&_, _||_, cond}
 use mathlib.Core.List.{List, [], _∷_}
 use Prim.Native.Nat.{ℕ, zero, suc, min}
@@ -28,7 +28,9 @@ module _ (n : Limits) (l : History) where
   -- the rules take a stop for clean, for one that counts for healing, for one that counts for ageing, exactly where the reading does
   pub clean-cycle-is : cleanCycle (recordAfter n l .status) ≡ clean (now stop l)
   unfolding clean failureFree reading
-  clean-cycle-is = rw (bit1 n l, bit6 n l, results (sinceW l)) (table (anyOf isFailed (sinceW l)) (anyOf isPassed (sinceW l)))
+  clean-cycle-is =
+      ap₂ (λ failed untested. not failed && not untested) (bit1 n l) (bit6 n l)
+      ∙ rw (results (sinceW l)) (table (anyOf isFailed (sinceW l)) (anyOf isPassed (sinceW l)))
     where
       table : (f p : Bool) → not f && not (not (p || f)) ≡ (true && not f) && p
       table true p = refl
@@ -40,7 +42,7 @@ module _ (n : Limits) (l : History) where
 
   pub ageing-is : countsForAgeing (recordAfter n l .status) ≡ countedForAgeing (now stop l)
   unfolding failureFree reading
-  ageing-is = rw (bit1 n l)
+  ageing-is = ap (λ failed. not failed) (bit1 n l)
 
 -- a clean stop has no failed result in its run
 clean-unfailed : (l : History) → clean (now stop l) ≡ true → anyOf isFailed (sinceW l) ≡ false

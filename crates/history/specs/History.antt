@@ -22,7 +22,7 @@ step n passed r = onPassed r
 step n failed r = onFailed n r
 step n start r = onStart r
 step n stop r = onStop n r
-step n clear r = onClear
+step n clear r = onClear r
 
 unfoldable pub recordAfter : Limits → History → EventRecord
 recordAfter n [] = freshRecord

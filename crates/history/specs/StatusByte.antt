@@ -175,5 +175,5 @@ abbrev pub agesAtStop : Limits → EventRecord → Bool
 agesAtStop n r = ages n (stopA n r)
 
 -- "Clear …: each covered event gets status 50h, K = h = g = D = 0"
-abbrev pub onClear : EventRecord
-onClear = freshRecord
+abbrev pub onClear : EventRecord → EventRecord
+onClear r = record { status = statusOf 0x50; K = 0; h = 0; g = 0 }
