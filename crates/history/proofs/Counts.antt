@@ -10,7 +10,7 @@ use Rattle.history.specs.Words.{countOf, since}
 use Rattle.history.specs.StatusByte.{confirmedDTC, warningIndicatorRequested, EventRecord, Limits, confirms}
 use Rattle.history.specs.History.{Token, passed, failed, start, stop, clear, History, recordAfter, Moment, moments, isPassed, isFailed, sinceL, sinceW, failureFree, clean, sinceCleanStop, confirming, countedForAgeing, countedForHealing, notAged, notHealed, standing, reading, Allowed}
 use Rattle.history.proofs.WordsLaws.{and-true, and-false, and-assoc, or-comm}
-use Rattle.history.proofs.Runs.{now, healing-is, clean-cycle-is, ageing-is, failedRunsNow, K-is}
+use Rattle.history.proofs.Runs.{moment, healing-is, clean-cycle-is, ageing-is, failedRunsNow, K-is}
 use Rattle.history.proofs.Standing.{newest, standing-newest, standing-failed, standing-stop, standing-passed, standing-start}
 
 -- ---- counts and limits
@@ -133,9 +133,9 @@ module _ (A fs : ℕ) where
     stop-h false false true true x y e = rw (← e)
 
 -- a stop that counts for healing counts for ageing
-healing-ages : (l : History) → countedForHealing (now stop l) ≡ countedForHealing (now stop l) && countedForAgeing (now stop l)
+healing-ages : (l : History) → countedForHealing (moment stop l) ≡ countedForHealing (moment stop l) && countedForAgeing (moment stop l)
 unfolding clean
-healing-ages l = table (failureFree (now stop l)) _
+healing-ages l = table (failureFree (moment stop l)) _
   where
     table : (f p : Bool) → f && p ≡ (f && p) && f
     table true true = refl
@@ -175,7 +175,7 @@ module _ (n : Limits) (a : Allowed n) where
   r7 l = reading n l warningIndicatorRequested
 
   confirmingNow : History → Bool
-  confirmingNow l = confirming (n .C) (now failed l)
+  confirmingNow l = confirming (n .C) (moment failed l)
 
   -- the rules confirm exactly at a confirming result
   confirms-is : (l : History) → confirms n (recordAfter n l) ≡ confirmingNow l
@@ -192,7 +192,7 @@ module _ (n : Limits) (a : Allowed n) where
   unfolding reading confirmingNow
   r3-failed l = standing-failed (n .C) (notAged n) not-aged-empty not-aged-mono l
 
-  r3-stop : (l : History) → r3 (stop ∷ l) ≡ r3 l && not (leb (n .A) (cond (countedForAgeing (now stop l)) (suc (agedBy l)) (agedBy l)))
+  r3-stop : (l : History) → r3 (stop ∷ l) ≡ r3 l && not (leb (n .A) (cond (countedForAgeing (moment stop l)) (suc (agedBy l)) (agedBy l)))
   unfolding reading agedBy
   r3-stop l = standing-stop (n .C) (notAged n) not-aged-empty not-aged-mono l
 
@@ -230,9 +230,9 @@ module _ (n : Limits) (a : Allowed n) where
       table false b c = refl
 
   r7-stop : (l : History) → r7 (stop ∷ l)
-      ≡ r7 l && (not (leb (n .H) (cond (countedForHealing (now stop l)) (suc (healedBy l)) (healedBy l))) && not (leb (n .A) (cond (countedForAgeing (now stop l)) (suc (agedBy l)) (agedBy l))))
+      ≡ r7 l && (not (leb (n .H) (cond (countedForHealing (moment stop l)) (suc (healedBy l)) (healedBy l))) && not (leb (n .A) (cond (countedForAgeing (moment stop l)) (suc (agedBy l)) (agedBy l))))
   unfolding reading agedBy healedBy lasting
-  r7-stop l = with-indicator (standing-stop (n .C) lasting lasting-empty lasting-mono l) ∙ and-assoc (n .indicator) (standing (n .C) lasting l) (lasting (now stop l ∷ newest l))
+  r7-stop l = with-indicator (standing-stop (n .C) lasting lasting-empty lasting-mono l) ∙ and-assoc (n .indicator) (standing (n .C) lasting l) (lasting (moment stop l ∷ newest l))
 
   r7-passed : (l : History) → r7 (passed ∷ l) ≡ r7 l
   unfolding reading failureFree clean lasting
@@ -303,10 +303,10 @@ module _ (n : Limits) (a : Allowed n) where
   }
     where
       ages : Bool
-      ages = countedForAgeing (now stop l)
+      ages = countedForAgeing (moment stop l)
 
       heals : Bool
-      heals = countedForHealing (now stop l)
+      heals = countedForHealing (moment stop l)
 
       at-A : (ages && r3 l) && eqb (suc (cond (r3 l) (agedBy l) 0)) (n .A) ≡ (ages && r3 l) && leb (n .A) (suc (agedBy l))
       at-A = at-N (n .A) (agedBy l) ages (r3 l) (r3-newest l)

@@ -8,7 +8,7 @@ use lib.Dec.{T, leb, ltb, eqb}
 use lib.ListN.{getD}
 use borrow.Author.Tests.{ltb-true, lt-ltb, le-leb, eqb-false}
 use Rattle.history.specs.Words.{implies, same, holds}
-use Rattle.history.specs.StatusByte.{testFailed, testFailedThisOperationCycle, pendingDTC, confirmedDTC, testNotCompletedSinceLastClear, testFailedSinceLastClear, testNotCompletedThisOperationCycle, warningIndicatorRequested, Status, EventRecord, Limits, freshRecord, onPassed, onFailed, onStart, onStop, sets, clears, setsIf, clearsIf, confirms, risenK, cleanCycle, countsForHealing, countsForAgeing, heals, agesAtStop}
+use Rattle.history.specs.StatusByte.{testFailed, testFailedThisOperationCycle, pendingDTC, confirmedDTC, testNotCompletedSinceLastClear, testFailedSinceLastClear, testNotCompletedThisOperationCycle, warningIndicatorRequested, Status, EventRecord, Limits, freshRecord, onPassed, onFailed, onStart, onStop, setBits, clearBits, setBitsIf, clearBitsIf, confirms, risenK, cleanCycle, countsForHealing, countsForAgeing, heals, agesAtStop}
 use Rattle.history.specs.WellFormed.{untestedIsFresh, faultyHasFailed, failedIsPending, wellFormedRecord}
 use Rattle.history.specs.History.{Token, passed, failed, start, stop, clear, History, step, recordAfter, Allowed}
 use Rattle.history.proofs.Truth.{Law, always, truth, implied, same-eq, so, yes-so}
@@ -104,7 +104,7 @@ module _ (n : Limits) (a : Allowed n) where
   passed-tells : (r : EventRecord) → Tells n r → Tells n (onPassed r)
   unfolding holds
   passed-tells r t = record {
-    bits = bits-kept (λ i x y s. clears (testFailed ∷ testNotCompletedSinceLastClear ∷ testNotCompletedThisOperationCycle ∷ []) s) tt (n .indicator) true true (r .status) (t .bits);
+    bits = bits-kept (λ i x y s. clearBits (testFailed ∷ testNotCompletedSinceLastClear ∷ testNotCompletedThisOperationCycle ∷ []) s) tt (n .indicator) true true (r .status) (t .bits);
     cycles = t .cycles;
     h-below = t .h-below;
     h-warned = t .h-warned;
@@ -115,7 +115,7 @@ module _ (n : Limits) (a : Allowed n) where
   start-tells : (r : EventRecord) → Tells n r → Tells n (onStart r)
   unfolding holds
   start-tells r t = record {
-    bits = bits-kept (λ i x y s. sets (testNotCompletedThisOperationCycle ∷ []) (clears (testFailedThisOperationCycle ∷ []) s)) tt (n .indicator) true true (r .status) (t .bits);
+    bits = bits-kept (λ i x y s. setBits (testNotCompletedThisOperationCycle ∷ []) (clearBits (testFailedThisOperationCycle ∷ []) s)) tt (n .indicator) true true (r .status) (t .bits);
     cycles = t .cycles;
     h-below = t .h-below;
     h-warned = t .h-warned;
@@ -128,10 +128,10 @@ module _ (n : Limits) (a : Allowed n) where
   failed-tells r t = record {
     bits =
         bits-kept
-        (λ i x y s. setsIf x (confirmedDTC ∷ [])
-        (setsIf (i && x) (warningIndicatorRequested ∷ [])
-        (clears (testNotCompletedSinceLastClear ∷ testNotCompletedThisOperationCycle ∷ [])
-        (sets (testFailed ∷ testFailedThisOperationCycle ∷ pendingDTC ∷ testFailedSinceLastClear ∷ []) s))))
+        (λ i x y s. setBitsIf x (confirmedDTC ∷ [])
+        (setBitsIf (i && x) (warningIndicatorRequested ∷ [])
+        (clearBits (testNotCompletedSinceLastClear ∷ testNotCompletedThisOperationCycle ∷ [])
+        (setBits (testFailed ∷ testFailedThisOperationCycle ∷ pendingDTC ∷ testFailedSinceLastClear ∷ []) s))))
         tt (n .indicator) (confirms n r) true (r .status) (t .bits);
     cycles = rise (r .status testFailedThisOperationCycle) refl;
     h-below = a .H-least;
@@ -153,7 +153,7 @@ module _ (n : Limits) (a : Allowed n) where
   stop-tells r t = record {
     bits =
         bits-kept
-        (λ i x y s. clearsIf y (confirmedDTC ∷ warningIndicatorRequested ∷ []) (clearsIf x (warningIndicatorRequested ∷ []) (clearsIf (cleanCycle s) (pendingDTC ∷ []) s)))
+        (λ i x y s. clearBitsIf y (confirmedDTC ∷ warningIndicatorRequested ∷ []) (clearBitsIf x (warningIndicatorRequested ∷ []) (clearBitsIf (cleanCycle s) (pendingDTC ∷ []) s)))
         tt (n .indicator) (heals n r) (agesAtStop n r) (r .status) (t .bits);
     cycles = fall (cleanCycle (r .status));
     h-below = below (agesAtStop n r);

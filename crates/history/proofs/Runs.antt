@@ -11,8 +11,8 @@ use Rattle.history.proofs.WordsLaws.{and-false, someWith-cong, someWith
 use Rattle.history.proofs.Results.{bit1, bit6}
 
 -- the moment of a token, after this history
-abbrev pub now : Token → History → Moment
-now t l = record { what = t; before = l }
+abbrev pub moment : Token → History → Moment
+moment t l = record { what = t; before = l }
 
 results : (w : List Moment) → anyOf isResult w ≡ anyOf isPassed w || anyOf isFailed w
 results [] = refl
@@ -26,7 +26,7 @@ results (m ∷ w) = rw (results w) (table (isPassed m) (isFailed m) (anyOf isPas
 
 module _ (n : Limits) (l : History) where
   -- the rules take a stop for clean, for one that counts for healing, for one that counts for ageing, exactly where the reading does
-  pub clean-cycle-is : cleanCycle (recordAfter n l .status) ≡ clean (now stop l)
+  pub clean-cycle-is : cleanCycle (recordAfter n l .status) ≡ clean (moment stop l)
   unfolding clean failureFree reading
   clean-cycle-is =
       ap₂ (λ failed untested. not failed && not untested) (bit1 n l) (bit6 n l)
@@ -37,15 +37,15 @@ module _ (n : Limits) (l : History) where
       table false true = refl
       table false false = refl
 
-  pub healing-is : countsForHealing (recordAfter n l .status) ≡ countedForHealing (now stop l)
+  pub healing-is : countsForHealing (recordAfter n l .status) ≡ countedForHealing (moment stop l)
   healing-is = clean-cycle-is
 
-  pub ageing-is : countsForAgeing (recordAfter n l .status) ≡ countedForAgeing (now stop l)
+  pub ageing-is : countsForAgeing (recordAfter n l .status) ≡ countedForAgeing (moment stop l)
   unfolding failureFree reading
   ageing-is = ap (λ failed. not failed) (bit1 n l)
 
 -- a clean stop has no failed result in its run
-clean-unfailed : (l : History) → clean (now stop l) ≡ true → anyOf isFailed (sinceW l) ≡ false
+clean-unfailed : (l : History) → clean (moment stop l) ≡ true → anyOf isFailed (sinceW l) ≡ false
 unfolding clean failureFree
 clean-unfailed l = table (anyOf isFailed (sinceW l)) (anyOf isPassed (sinceW l))
   where
@@ -60,10 +60,10 @@ this-run n [] = refl
 this-run n (passed ∷ l) = this-run n l
 this-run n (failed ∷ l) = refl
 this-run n (start ∷ l) = refl
-this-run n (stop ∷ l) = go (clean (now stop l)) refl (this-run n l)
+this-run n (stop ∷ l) = go (clean (moment stop l)) refl (this-run n l)
   where
-    go : (b : Bool) → clean (now stop l) ≡ b → anyOf isFailed (since (is start) (sinceCleanStop l)) ≡ anyOf isFailed (sinceW l)
-        → anyOf isFailed (since (is start) (cond b [] (now stop l ∷ sinceCleanStop l))) ≡ anyOf isFailed (sinceW l)
+    go : (b : Bool) → clean (moment stop l) ≡ b → anyOf isFailed (since (is start) (sinceCleanStop l)) ≡ anyOf isFailed (sinceW l)
+        → anyOf isFailed (since (is start) (cond b [] (moment stop l ∷ sinceCleanStop l))) ≡ anyOf isFailed (sinceW l)
     go true e ih = sym (clean-unfailed l e)
     go false e ih = ih
 this-run n (clear ∷ l) = refl
@@ -75,23 +75,23 @@ failedRunsNow l = failedRuns (sinceCleanStop l)
 
 runs-failed : (n : Limits) (l : History) → failedRunsNow (failed ∷ l) ≡ cond (reading n l testFailedThisOperationCycle) (failedRunsNow l) (suc (failedRunsNow l))
 unfolding failedRunsNow sinceCleanStop moments clean failureFree
-runs-failed n l = rw (← (this-run n l)) (parts-more (is start) isFailed (now failed l) (sinceCleanStop l) refl refl)
+runs-failed n l = rw (← (this-run n l)) (parts-more (is start) isFailed (moment failed l) (sinceCleanStop l) refl refl)
 
 runs-passed : (l : History) → failedRunsNow (passed ∷ l) ≡ failedRunsNow l
 unfolding failedRunsNow sinceCleanStop moments clean failureFree
-runs-passed l = parts-other (is start) isFailed (now passed l) (sinceCleanStop l) refl refl
+runs-passed l = parts-other (is start) isFailed (moment passed l) (sinceCleanStop l) refl refl
 
 runs-start : (l : History) → failedRunsNow (start ∷ l) ≡ failedRunsNow l
 unfolding failedRunsNow sinceCleanStop moments clean failureFree
 runs-start l = refl
 
-runs-stop : (l : History) → failedRunsNow (stop ∷ l) ≡ cond (clean (now stop l)) 0 (failedRunsNow l)
+runs-stop : (l : History) → failedRunsNow (stop ∷ l) ≡ cond (clean (moment stop l)) 0 (failedRunsNow l)
 unfolding failedRunsNow sinceCleanStop moments
-runs-stop l = go (clean (now stop l))
+runs-stop l = go (clean (moment stop l))
   where
-    go : (b : Bool) → failedRuns (cond b [] (now stop l ∷ sinceCleanStop l)) ≡ cond b 0 (failedRuns (sinceCleanStop l))
+    go : (b : Bool) → failedRuns (cond b [] (moment stop l ∷ sinceCleanStop l)) ≡ cond b 0 (failedRuns (sinceCleanStop l))
     go true = refl
-    go false = parts-other (is start) isFailed (now stop l) (sinceCleanStop l) refl refl
+    go false = parts-other (is start) isFailed (moment stop l) (sinceCleanStop l) refl refl
 
 runs-none : failedRunsNow [] ≡ 0
 unfolding failedRunsNow sinceCleanStop moments
@@ -112,7 +112,7 @@ K-is n (failed ∷ l) = rw (runs-failed n l, bit1 n l, K-is n l) (table (reading
     table true r = refl
     table false r = omega arith
 K-is n (start ∷ l) = rw (runs-start l) (K-is n l)
-K-is n (stop ∷ l) = rw (runs-stop l, clean-cycle-is n l, K-is n l) (table (clean (now stop l)) (failedRunsNow l))
+K-is n (stop ∷ l) = rw (runs-stop l, clean-cycle-is n l, K-is n l) (table (clean (moment stop l)) (failedRunsNow l))
   where
     table : (b : Bool) (r : ℕ) → cond b 0 (min 255 r) ≡ min 255 (cond b 0 r)
     table true r = refl
@@ -130,5 +130,5 @@ bit2 n [] = refl
 bit2 n (passed ∷ l) = bit2 n l
 bit2 n (failed ∷ l) = refl
 bit2 n (start ∷ l) = bit2 n l
-bit2 n (stop ∷ l) = rw (clean-cycle-is n l, bit2 n l) (sym (pending (clean (now stop l)) (sinceL l)))
+bit2 n (stop ∷ l) = rw (clean-cycle-is n l, bit2 n l) (sym (pending (clean (moment stop l)) (sinceL l)))
 bit2 n (clear ∷ l) = refl

@@ -10,7 +10,7 @@ use Rattle.history.specs.History.{Token, passed, failed, start, stop, cl
 use Rattle.history.specs.Legal.{running, legal}
 use Rattle.history.proofs.Truth.{both-left, both-right, yes-so}
 use Rattle.history.proofs.WordsLaws.{parts-other, parts-more}
-use Rattle.history.proofs.Runs.{now}
+use Rattle.history.proofs.Runs.{moment}
 
 -- "A run goes from a start to its stop."
 abbrev pub edge : Moment → Bool
@@ -33,18 +33,18 @@ pub runs-however-cut : (l : History) → T (legal l) → failedRunsByEdges (sinc
 unfolding sinceCleanStop moments clean failureFree
 runs-however-cut [] t = refl
 runs-however-cut (passed ∷ l) t =
-    parts-other edge isFailed (now passed l) (sinceCleanStop l) refl refl
+    parts-other edge isFailed (moment passed l) (sinceCleanStop l) refl refl
     ∙ runs-however-cut l (both-right (running l) (legal l) t)
-    ∙ sym (parts-other (is start) isFailed (now passed l) (sinceCleanStop l) refl refl)
+    ∙ sym (parts-other (is start) isFailed (moment passed l) (sinceCleanStop l) refl refl)
 runs-however-cut (failed ∷ l) t =
-    parts-more edge isFailed (now failed l) (sinceCleanStop l) refl refl
+    parts-more edge isFailed (moment failed l) (sinceCleanStop l) refl refl
     ∙ rw (current l (yes-so (running l) (both-left (running l) (legal l) t)), runs-however-cut l (both-right (running l) (legal l) t))
-    (sym (parts-more (is start) isFailed (now failed l) (sinceCleanStop l) refl refl))
+    (sym (parts-more (is start) isFailed (moment failed l) (sinceCleanStop l) refl refl))
 runs-however-cut (start ∷ l) t = runs-however-cut l (both-right (not (running l)) (legal l) t)
-runs-however-cut (stop ∷ l) t = go (clean (now stop l)) (runs-however-cut l (both-right (running l) (legal l) t))
+runs-however-cut (stop ∷ l) t = go (clean (moment stop l)) (runs-however-cut l (both-right (running l) (legal l) t))
   where
     go : (b : Bool) → failedRunsByEdges (sinceCleanStop l) ≡ failedRuns (sinceCleanStop l)
-        → failedRunsByEdges (cond b [] (now stop l ∷ sinceCleanStop l)) ≡ failedRuns (cond b [] (now stop l ∷ sinceCleanStop l))
+        → failedRunsByEdges (cond b [] (moment stop l ∷ sinceCleanStop l)) ≡ failedRuns (cond b [] (moment stop l ∷ sinceCleanStop l))
     go true ih = refl
-    go false ih = ih ∙ sym (parts-other (is start) isFailed (now stop l) (sinceCleanStop l) refl refl)
+    go false ih = ih ∙ sym (parts-other (is start) isFailed (moment stop l) (sinceCleanStop l) refl refl)
 runs-however-cut (clear ∷ l) t = refl

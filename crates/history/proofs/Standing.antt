@@ -6,7 +6,7 @@ use Prim.Native.Nat.{ℕ}
 use Rattle.history.specs.Words.{allOf, since, someWith, cutAt}
 use Rattle.history.specs.History.{Token, passed, failed, start, stop, clear, History, Moment, moments, isFailed, sinceL, confirming, confirmingWith, standing}
 use Rattle.history.proofs.WordsLaws.{and-true, someWith-cong, someWith-and, since-front, cutAt-newest, allOf-cutAt}
-use Rattle.history.proofs.Runs.{now}
+use Rattle.history.proofs.Runs.{moment}
 
 under : (c z y y′ : Bool) → c && y′ ≡ c && y → c && (z && y) ≡ (c && z) && y′
 under true z y y′ e = ap (λ t. z && t) (sym e)
@@ -58,19 +58,19 @@ module _ (C : ℕ) (ok : List Moment → Bool) (empty : ok [] ≡ true) (mono : 
   unfolding standing
   standing-newest l = with-newest C ok (sinceL l)
 
-  pub standing-failed : (l : History) → standing C ok (failed ∷ l) ≡ confirming C (now failed l) || standing C ok l
+  pub standing-failed : (l : History) → standing C ok (failed ∷ l) ≡ confirming C (moment failed l) || standing C ok l
   unfolding standing sinceL moments
-  standing-failed l = with-failed C ok (now failed l) (sinceL l) refl empty
+  standing-failed l = with-failed C ok (moment failed l) (sinceL l) refl empty
 
-  pub standing-stop : (l : History) → standing C ok (stop ∷ l) ≡ standing C ok l && ok (now stop l ∷ newest l)
+  pub standing-stop : (l : History) → standing C ok (stop ∷ l) ≡ standing C ok l && ok (moment stop l ∷ newest l)
   unfolding standing sinceL moments
-  standing-stop l = with-other C ok (now stop l) (sinceL l) refl (mono _)
+  standing-stop l = with-other C ok (moment stop l) (sinceL l) refl (mono _)
 
   -- a passed result and a start, which no stretch counts
-  pub standing-passed : (l : History) → ((s : List Moment) → ok (now passed l ∷ s) ≡ ok s) → standing C ok (passed ∷ l) ≡ standing C ok l
+  pub standing-passed : (l : History) → ((s : List Moment) → ok (moment passed l ∷ s) ≡ ok s) → standing C ok (passed ∷ l) ≡ standing C ok l
   unfolding standing sinceL moments
-  standing-passed l still = with-other C ok (now passed l) (sinceL l) refl (mono _) ∙ rw (still (newest l)) (sym (standing-newest l))
+  standing-passed l still = with-other C ok (moment passed l) (sinceL l) refl (mono _) ∙ rw (still (newest l)) (sym (standing-newest l))
 
-  pub standing-start : (l : History) → ((s : List Moment) → ok (now start l ∷ s) ≡ ok s) → standing C ok (start ∷ l) ≡ standing C ok l
+  pub standing-start : (l : History) → ((s : List Moment) → ok (moment start l ∷ s) ≡ ok s) → standing C ok (start ∷ l) ≡ standing C ok l
   unfolding standing sinceL moments
-  standing-start l still = with-other C ok (now start l) (sinceL l) refl (mono _) ∙ rw (still (newest l)) (sym (standing-newest l))
+  standing-start l still = with-other C ok (moment start l) (sinceL l) refl (mono _) ∙ rw (still (newest l)) (sym (standing-newest l))

@@ -10,7 +10,7 @@ use lib.Dec.{T}
 use lib.ListN.{length}
 use Rattle.history.specs.Words.{anyOf, allOf, countOf, since, someWith, lastOf, cutAt}
 use Rattle.history.specs.History.{Token, History, Moment, moments}
-use Rattle.history.proofs.Runs.{now}
+use Rattle.history.proofs.Runs.{moment}
 
 or-cases : (a b : Bool) → T (a || b) → T a ⊎ T b
 or-cases true b t = inl tt
@@ -105,7 +105,7 @@ module _ {A : Type 0} where
     cutAt-none (y ∷ l) t = rw (neither-left (p y) (anyOf p l) t, cutAt-none l (neither-right (p y) (anyOf p l) t))
 
 -- the moment of a token in a history: as many moments after it as tokens, and before it what lay before it
-pub moments-at : (after : History) (t : Token) (before : History) → (ms : List Moment) × (moments (after ++ t ∷ before) ≡ ms ++ now t before ∷ moments before) × (length ms ≡ length after)
+pub moments-at : (after : History) (t : Token) (before : History) → (ms : List Moment) × (moments (after ++ t ∷ before) ≡ ms ++ moment t before ∷ moments before) × (length ms ≡ length after)
 unfolding moments
 moments-at [] t b = ([], refl, refl)
-moments-at (x ∷ a) t b = let (ms, e, k) = moments-at a t b in (now x (a ++ t ∷ b) ∷ ms, ap (λ z. now x (a ++ t ∷ b) ∷ z) e, ap suc k)
+moments-at (x ∷ a) t b = let (ms, e, k) = moments-at a t b in (moment x (a ++ t ∷ b) ∷ ms, ap (λ z. moment x (a ++ t ∷ b) ∷ z) e, ap suc k)

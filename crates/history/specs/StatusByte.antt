@@ -68,17 +68,17 @@ abbrev pub among : List Bit → Bit → Bool
 among [] b = false
 among (a ∷ rest) b = eqb (weight a) (weight b) || among rest b
 
-abbrev pub sets : List Bit → Status → Status
-sets bits s b = among bits b || s b
+abbrev pub setBits : List Bit → Status → Status
+setBits bits s b = among bits b || s b
 
-abbrev pub clears : List Bit → Status → Status
-clears bits s b = not (among bits b) && s b
+abbrev pub clearBits : List Bit → Status → Status
+clearBits bits s b = not (among bits b) && s b
 
-abbrev pub setsIf : Bool → List Bit → Status → Status
-setsIf test bits s b = (among bits b && test) || s b
+abbrev pub setBitsIf : Bool → List Bit → Status → Status
+setBitsIf test bits s b = (among bits b && test) || s b
 
-abbrev pub clearsIf : Bool → List Bit → Status → Status
-clearsIf test bits s b = cond (among bits b && test) false (s b)
+abbrev pub clearBitsIf : Bool → List Bit → Status → Status
+clearBitsIf test bits s b = cond (among bits b && test) false (s b)
 
 -- ---- what happens to an event
 
@@ -89,7 +89,7 @@ freshRecord = record { status = statusOf 0x50; K = 0; h = 0; g = 0 }
 -- "Passed: clears 0, 4, 6."
 abbrev pub onPassed : EventRecord → EventRecord
 onPassed r = record {
-  status = clears (testFailed ∷ testNotCompletedSinceLastClear ∷ testNotCompletedThisOperationCycle ∷ []) (r .status);
+  status = clearBits (testFailed ∷ testNotCompletedSinceLastClear ∷ testNotCompletedThisOperationCycle ∷ []) (r .status);
   K = r .K;
   h = r .h;
   g = r .g;
@@ -107,10 +107,10 @@ confirms n r = leb (n .C) (risenK r)
 abbrev pub onFailed : Limits → EventRecord → EventRecord
 onFailed n r = record {
   status =
-      setsIf (confirms n r) (confirmedDTC ∷ [])
-      (setsIf (n .indicator && confirms n r) (warningIndicatorRequested ∷ [])
-      (clears (testNotCompletedSinceLastClear ∷ testNotCompletedThisOperationCycle ∷ [])
-      (sets (testFailed ∷ testFailedThisOperationCycle ∷ pendingDTC ∷ testFailedSinceLastClear ∷ []) (r .status))));
+      setBitsIf (confirms n r) (confirmedDTC ∷ [])
+      (setBitsIf (n .indicator && confirms n r) (warningIndicatorRequested ∷ [])
+      (clearBits (testNotCompletedSinceLastClear ∷ testNotCompletedThisOperationCycle ∷ [])
+      (setBits (testFailed ∷ testFailedThisOperationCycle ∷ pendingDTC ∷ testFailedSinceLastClear ∷ []) (r .status))));
   K = risenK r;
   h = 0;
   g = 0;
@@ -123,7 +123,7 @@ freshFailure r = not (r .status testFailed)
 -- "Start of a stopped cycle: for its events clears 1, sets 6."
 abbrev pub onStart : EventRecord → EventRecord
 onStart r = record {
-  status = sets (testNotCompletedThisOperationCycle ∷ []) (clears (testFailedThisOperationCycle ∷ []) (r .status));
+  status = setBits (testNotCompletedThisOperationCycle ∷ []) (clearBits (testFailedThisOperationCycle ∷ []) (r .status));
   K = r .K;
   h = r .h;
   g = r .g;
@@ -144,7 +144,7 @@ heals n r = countsForHealing (r .status) && r .status warningIndicatorRequested 
 -- "(a) if 1 and 6 are clear: bit 2 clear, K = 0, and if bit 7 is set h rises by one; at H, bit 7 clear and h = 0."
 abbrev pub stopA : Limits → EventRecord → EventRecord
 stopA n r = record {
-  status = clearsIf (heals n r) (warningIndicatorRequested ∷ []) (clearsIf (cleanCycle (r .status)) (pendingDTC ∷ []) (r .status));
+  status = clearBitsIf (heals n r) (warningIndicatorRequested ∷ []) (clearBitsIf (cleanCycle (r .status)) (pendingDTC ∷ []) (r .status));
   K = cond (cleanCycle (r .status)) 0 (r .K);
   h = cond (heals n r) 0 (cond (countsForHealing (r .status) && r .status warningIndicatorRequested) (suc (r .h)) (r .h));
   g = r .g;
@@ -161,7 +161,7 @@ ages n r = countsForAgeing (r .status) && r .status confirmedDTC && eqb (suc (r 
 -- "(b) then, if 1 is clear and 3 is set: g rises by one; at A the event ages: 3 and 7 clear, h = g = 0, its entry leaves memory."
 abbrev pub stopB : Limits → EventRecord → EventRecord
 stopB n r = record {
-  status = clearsIf (ages n r) (confirmedDTC ∷ warningIndicatorRequested ∷ []) (r .status);
+  status = clearBitsIf (ages n r) (confirmedDTC ∷ warningIndicatorRequested ∷ []) (r .status);
   K = r .K;
   h = cond (ages n r) 0 (r .h);
   g = cond (ages n r) 0 (cond (countsForAgeing (r .status) && r .status confirmedDTC) (suc (r .g)) (r .g));
