@@ -1,0 +1,67 @@
+-- Laws of specs/Answers.antt: what an accepted call tells, and what a refused one leaves.
+use mathlib.Core.Path.{_≡_, refl, sym, ap, subst, _∙_}
+use mathlib.Core.Logic.{_≢_}
+use mathlib.Core.Bool.{Bool, true, false, not, _&&_, cond}
+use mathlib.Core.List.{List, [], _∷_, _++_}
+use Prim.Native.Nat.{ℕ, zero, suc, _<_}
+use native.Mathlib.Omega.{arith}
+use lib.Dec.{eqb, ltb}
+use borrow.Author.Tests.{eqb-true, eqb-false, eq-eqb, ltb-true}
+use Rattle.history.proofs.WordsLaws.{and-left, and-right}
+use Rattle.manual.specs.State.{State}
+use Rattle.manual.specs.Answers.{Outcome, refused, Rule, firstThatApplies, judged}
+use Rattle.manual.proofs.WordsLaws.{clash}
+
+-- the test of rule i
+abbrev pub appliesAt : List Rule → ℕ → Bool
+appliesAt [] i = false
+appliesAt (r ∷ rs) zero = r .applies
+appliesAt (r ∷ rs) (suc i) = appliesAt rs i
+
+-- no number of the list is 0, which means done
+abbrev pub numbered : List Rule → Bool
+numbered [] = true
+numbered (r ∷ rs) = ltb 0 (r .number) && numbered rs
+
+-- where 0 is answered, no rule applies
+pub none-applies : (rules : List Rule) → firstThatApplies rules ≡ 0 → numbered rules ≡ true → (i : ℕ) → appliesAt rules i ≡ false
+unfolding firstThatApplies
+none-applies [] z n i = refl
+none-applies (r ∷ rs) z n i = go (r .applies) refl z i (λ t. none-applies rs t (and-right (ltb 0 (r .number)) (numbered rs) n))
+  where
+    go : (b : Bool) → r .applies ≡ b → cond b (r .number) (firstThatApplies rs) ≡ 0 → (i : ℕ) → (firstThatApplies rs ≡ 0 → (i : ℕ) → appliesAt rs i ≡ false) → appliesAt (r ∷ rs) i ≡ false
+    go true q t i ih = absurd (let h = ltb-true 0 (r .number) (and-left (ltb 0 (r .number)) (numbered rs) n) in let w : ⊥ = omega arith in w)
+    go false q t zero ih = q
+    go false q t (suc i) ih = ih t i
+
+module _ (rules : List Rule) (room : List ℕ) (s : State) (o : Outcome) where
+  -- an accepted call has the outcome that its definition gives it
+  pub accepted : judged rules room s o .answer ≡ 0 → (firstThatApplies rules ≡ 0) × (judged rules room s o ≡ o)
+  unfolding judged
+  accepted = go (eqb (firstThatApplies rules) 0) refl
+    where
+      go : (b : Bool) → eqb (firstThatApplies rules) 0 ≡ b → cond b o (refused (firstThatApplies rules) room s) .answer ≡ 0 → (firstThatApplies rules ≡ 0) × (cond b o (refused (firstThatApplies rules) room s) ≡ o)
+      go true e z = (eqb-true (firstThatApplies rules) 0 e, refl)
+      go false e z = absurd (eqb-false (firstThatApplies rules) 0 e z)
+
+  pub goes-through : firstThatApplies rules ≡ 0 → judged rules room s o ≡ o
+  unfolding judged
+  goes-through z = rw z
+
+  -- a refused call leaves all as found
+  pub left-alone : o .answer ≡ 0 → judged rules room s o .answer ≢ 0 → judged rules room s o ≡ refused (firstThatApplies rules) room s
+  unfolding judged
+  left-alone z = go (eqb (firstThatApplies rules) 0)
+    where
+      go : (b : Bool) → cond b o (refused (firstThatApplies rules) room s) .answer ≢ 0 → cond b o (refused (firstThatApplies rules) room s) ≡ refused (firstThatApplies rules) room s
+      go true n = absurd (n z)
+      go false n = refl
+
+  -- so what holds of the state before, and of the state after where the call was accepted, holds of the state after
+  pub judged-keeps : (P : State → Type 0) → P s → (firstThatApplies rules ≡ 0 → P (o .state)) → P (judged rules room s o .state)
+  unfolding judged
+  judged-keeps P p f = go (eqb (firstThatApplies rules) 0) refl
+    where
+      go : (b : Bool) → eqb (firstThatApplies rules) 0 ≡ b → P (cond b o (refused (firstThatApplies rules) room s) .state)
+      go true e = f (eqb-true (firstThatApplies rules) 0 e)
+      go false e = p

@@ -1,0 +1,188 @@
+-- Laws of specs/Words.antt, in its order, and of the words on lists that it stands on.
+use mathlib.Core.Path.{_≡_, refl, sym, ap, subst, _∙_}
+use mathlib.Core.Logic.{_⊎_, inl, inr, ⊎-elim}
+use mathlib.Core.Bool.{Bool, true, false, not, _&&_, _||_, cond, true≢false}
+use mathlib.Core.List.{List, [], _∷_, _++_}
+use mathlib.Core.Option.{Option, none, some}
+use Prim.Native.Nat.{ℕ, zero, suc, _+_, _≤_, _<_}
+use native.Mathlib.Nat.{eq-or-lt-of-le, le-of-suc-le-suc, not-suc-le-zero, le-refl}
+use native.Mathlib.Omega.{arith}
+use lib.Dec.{T, eqb, leb, ltb}
+use lib.ListN.{length, replicate}
+use lib.IntN.{ℤ, pos, negsuc}
+use lib.Signed.{leZ}
+use borrow.Author.Tests.{eq-eqb, eqb-true}
+use Rattle.history.specs.Words.{anyOf, allOf}
+use Rattle.history.proofs.WordsLaws.{and-left, and-right, both}
+use Rattle.manual.specs.Words.{allBelow, forBelow, firstOf, those, equal, eqZ, between}
+
+-- ---- tests
+
+-- no test both holds and fails
+pub clash : {A : Type 0} (a : Bool) → a ≡ true → a ≡ false → A
+clash a p q = absurd (true≢false (sym p ∙ q))
+
+-- what holds of each branch holds of the choice
+pub by : {A : Type 0} (b : Bool) (P : A → Type 0) {x y : A} → (b ≡ true → P x) → (b ≡ false → P y) → P (cond b x y)
+by true P f g = f refl
+by false P f g = g refl
+
+pub cond-true : {A : Type 0} (b : Bool) (x y : A) → b ≡ true → cond b x y ≡ x
+cond-true b x y e = rw e
+
+pub cond-false : {A : Type 0} (b : Bool) (x y : A) → b ≡ false → cond b x y ≡ y
+cond-false b x y e = rw e
+
+pub or-cases : (a b : Bool) → a || b ≡ true → (a ≡ true) ⊎ (b ≡ true)
+or-cases true b e = inl refl
+or-cases false b e = inr e
+
+pub or-right : (a b : Bool) → b ≡ true → a || b ≡ true
+or-right true b e = refl
+or-right false b e = e
+
+-- ---- the numbers below n
+
+pub all-below-at : (n : ℕ) (f : ℕ → Bool) → allBelow n f ≡ true → (e : ℕ) → e < n → f e ≡ true
+unfolding allBelow
+all-below-at zero f t e h = absurd (not-suc-le-zero h)
+all-below-at (suc n) f t e h =
+    ⊎-elim (λ q. subst (λ (k : ℕ). f k ≡ true) (sym q) (and-right (allBelow n f) (f n) t)) (λ q. all-below-at n f (and-left (allBelow n f) (f n) t) e q)
+    (eq-or-lt-of-le (le-of-suc-le-suc h))
+
+pub all-below : (n : ℕ) (f : ℕ → Bool) → ((e : ℕ) → e < n → f e ≡ true) → allBelow n f ≡ true
+unfolding allBelow
+all-below zero f h = refl
+all-below (suc n) f h = both (allBelow n f) (f n) (all-below n f (λ e q. h e (omega arith))) (h n (omega arith))
+
+-- what each step keeps, the whole keeps
+pub for-below-keeps : {S : Type 0} (P : S → Type 0) (one : ℕ → S → S) (n m : ℕ) → m ≤ n → ((k : ℕ) (s : S) → k < n → P s → P (one k s)) → (s : S) → P s → P (forBelow m one s)
+unfolding forBelow
+for-below-keeps P one n zero h f s p = p
+for-below-keeps P one n (suc m) h f s p = f m (forBelow m one s) h (for-below-keeps P one n m (omega arith) f s p)
+
+-- ---- lists
+
+module _ {A : Type 0} where
+  -- a property of each element
+  abbrev pub All : (A → Type 0) → List A → Type 0
+  All P [] = Unit {0}
+  All P (x ∷ xs) = P x × All P xs
+
+  pub all-map : (P Q : A → Type 0) → ((x : A) → P x → Q x) → (xs : List A) → All P xs → All Q xs
+  all-map P Q f [] a = tt
+  all-map P Q f (x ∷ xs) a = (f x (a .0), all-map P Q f xs (a .1))
+
+  pub all-both : (P Q R : A → Type 0) → ((x : A) → P x → Q x → R x) → (xs : List A) → All P xs → All Q xs → All R xs
+  all-both P Q R f [] a b = tt
+  all-both P Q R f (x ∷ xs) a b = (f x (a .0) (b .0), all-both P Q R f xs (a .1) (b .1))
+
+  pub all-append : (P : A → Type 0) (xs ys : List A) → All P xs → All P ys → All P (xs ++ ys)
+  all-append P [] ys a b = b
+  all-append P (x ∷ xs) ys a b = (a .0, all-append P xs ys (a .1) b)
+
+  -- the test allOf, and the property
+  pub all-of-test : (p : A → Bool) (xs : List A) → allOf p xs ≡ true → All (λ x. p x ≡ true) xs
+  all-of-test p [] e = tt
+  all-of-test p (x ∷ xs) e = (and-left (p x) (allOf p xs) e, all-of-test p xs (and-right (p x) (allOf p xs) e))
+
+  pub test-of-all : (P : A → Type 0) (p : A → Bool) → ((x : A) → P x → p x ≡ true) → (xs : List A) → All P xs → allOf p xs ≡ true
+  test-of-all P p f [] a = refl
+  test-of-all P p f (x ∷ xs) a = both (p x) (allOf p xs) (f x (a .0)) (test-of-all P p f xs (a .1))
+
+  pub anyOf-append : (p : A → Bool) (xs ys : List A) → anyOf p (xs ++ ys) ≡ (anyOf p xs || anyOf p ys)
+  anyOf-append p [] ys = refl
+  anyOf-append p (x ∷ xs) ys = rw (anyOf-append p xs ys) (or-assoc (p x) (anyOf p xs) (anyOf p ys))
+    where
+      or-assoc : (a b c : Bool) → a || (b || c) ≡ (a || b) || c
+      or-assoc true b c = refl
+      or-assoc false b c = refl
+
+  -- firstOf and anyOf
+  pub first-none : (p : A → Bool) (xs : List A) → firstOf p xs ≡ none → anyOf p xs ≡ false
+  unfolding firstOf
+  first-none p [] e = refl
+  first-none p (x ∷ xs) e = go (p x) e (λ t. first-none p xs t)
+    where
+      go : (b : Bool) → cond b (some x) (firstOf p xs) ≡ none → (firstOf p xs ≡ none → anyOf p xs ≡ false) → b || anyOf p xs ≡ false
+      go true t ih = absurd (let z : _≡_ {A = ℕ} 0 1 = cc in let w : ⊥ = omega arith in w)
+      go false t ih = ih t
+
+  pub none-first : (p : A → Bool) (xs : List A) → anyOf p xs ≡ false → firstOf p xs ≡ none
+  unfolding firstOf
+  none-first p [] e = refl
+  none-first p (x ∷ xs) e = go (p x) e (λ t. none-first p xs t)
+    where
+      go : (b : Bool) → b || anyOf p xs ≡ false → (anyOf p xs ≡ false → firstOf p xs ≡ none) → cond b (some x) (firstOf p xs) ≡ none
+      go true t ih = clash true refl t
+      go false t ih = ih t
+
+  -- those
+  pub all-those : (P Q : A → Type 0) (q : A → Bool) → ((x : A) → q x ≡ true → P x → Q x) → (xs : List A) → All P xs → All Q (those q xs)
+  unfolding those
+  all-those P Q q f [] a = tt
+  all-those P Q q f (x ∷ xs) a = go (q x) refl (all-those P Q q f xs (a .1))
+    where
+      go : (b : Bool) → q x ≡ b → All Q (those q xs) → All Q (cond b (x ∷ those q xs) (those q xs))
+      go true e ih = (f x e (a .0), ih)
+      go false e ih = ih
+
+  pub those-le : (q : A → Bool) (xs : List A) → length (those q xs) ≤ length xs
+  unfolding those
+  those-le q [] = le-refl 0
+  those-le q (x ∷ xs) = go (q x) (those-le q xs)
+    where
+      go : (b : Bool) → length (those q xs) ≤ length xs → length (cond b (x ∷ those q xs) (those q xs)) ≤ suc (length xs)
+      go true ih = omega arith
+      go false ih = omega arith
+
+  pub anyOf-those : (p q : A → Bool) (xs : List A) → anyOf p xs ≡ false → anyOf p (those q xs) ≡ false
+  unfolding those
+  anyOf-those p q [] e = refl
+  anyOf-those p q (x ∷ xs) e = go (p x) refl e (λ t. anyOf-those p q xs t)
+    where
+      go : (b : Bool) → p x ≡ b → b || anyOf p xs ≡ false → (anyOf p xs ≡ false → anyOf p (those q xs) ≡ false) → anyOf p (cond (q x) (x ∷ those q xs) (those q xs)) ≡ false
+      go true h t ih = clash true refl t
+      go false h t ih = by (q x) (λ l. anyOf p l ≡ false) (λ u. rw h (ih t)) (λ u. ih t)
+
+-- two lists of bytes are equal exactly where the test says so
+pub equal-refl : (l : List ℕ) → equal l l ≡ true
+unfolding equal
+equal-refl [] = refl
+equal-refl (x ∷ l) = both (eqb x x) (equal l l) (eq-eqb x x refl) (equal-refl l)
+
+pub equal-is : (l m : List ℕ) → equal l m ≡ true → l ≡ m
+unfolding equal
+equal-is [] [] e = refl
+equal-is [] (y ∷ ys) e = clash true refl (sym e)
+equal-is (x ∷ xs) [] e = clash true refl (sym e)
+equal-is (x ∷ xs) (y ∷ ys) e = λ i. eqb-true x y (and-left (eqb x y) (equal xs ys) e) i ∷ equal-is xs ys (and-right (eqb x y) (equal xs ys) e) i
+
+-- zeros
+pub zeros-pass : (k : ℕ) → allOf (λ b. eqb b 0) (replicate k 0) ≡ true
+zeros-pass zero = refl
+zeros-pass (suc k) = zeros-pass k
+
+pub zeros-are : (l : List ℕ) → allOf (λ b. eqb b 0) l ≡ true → l ≡ replicate (length l) 0
+zeros-are [] e = refl
+zeros-are (x ∷ l) e = λ i. eqb-true x 0 (and-left (eqb x 0) (allOf (λ b. eqb b 0) l) e) i ∷ zeros-are l (and-right (eqb x 0) (allOf (λ b. eqb b 0) l) e) i
+
+-- ---- signed numbers
+
+pub eqZ-true : (a b : ℤ) → eqZ a b ≡ true → a ≡ b
+eqZ-true (pos a) (pos b) e = ap pos (eqb-true a b e)
+eqZ-true (pos a) (negsuc b) e = clash true refl (sym e)
+eqZ-true (negsuc a) (pos b) e = clash true refl (sym e)
+eqZ-true (negsuc a) (negsuc b) e = ap negsuc (eqb-true a b e)
+
+pub between-from : (lo hi z : ℤ) → between lo hi z ≡ true → leZ lo z ≡ true
+unfolding between
+between-from lo hi z e = and-left (leZ lo z) (leZ z hi) e
+
+pub between-to : (lo hi z : ℤ) → between lo hi z ≡ true → leZ z hi ≡ true
+unfolding between
+between-to lo hi z e = and-right (leZ lo z) (leZ z hi) e
+
+pub between-is : (lo hi z : ℤ) → leZ lo z ≡ true → leZ z hi ≡ true → between lo hi z ≡ true
+unfolding between
+between-is lo hi z p q = both (leZ lo z) (leZ z hi) p q

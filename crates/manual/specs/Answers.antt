@@ -1,0 +1,102 @@
+-- Document 01, "Numbers a call answers with". Assumes nothing.
+use mathlib.Core.Bool.{Bool, true, false, cond}
+use mathlib.Core.List.{List, [], _∷_}
+use Prim.Native.Nat.{ℕ}
+use lib.Dec.{eqb}
+use Rattle.manual.specs.declared.Verdict.{Verdict}
+use Rattle.manual.specs.declared.Verdict.the-variants.{None}
+use Rattle.manual.specs.declared.Refusal.{Refusal}
+use Rattle.manual.specs.declared.Refusal.the-variants.{BadArgument, BadConfiguration, BadState, NoSuch, WrongCycleState, NoPreResult, RoomTooSmall, BadImage, WrongFrame, NoEntry}
+use Rattle.manual.specs.declared.Answer.{Answer}
+use Rattle.manual.specs.declared.Answer.the-variants.{Done}
+use Rattle.manual.specs.declared.ReportAnswer.{ReportAnswer}
+use Rattle.manual.specs.declared.ReportAnswer.the-variants.{Accepted}
+use Rattle.manual.specs.declared.StatusAnswer.{StatusAnswer}
+use Rattle.manual.specs.declared.StatusAnswer.the-variants.{Status}
+use Rattle.manual.specs.declared.FrameAnswer.{FrameAnswer}
+use Rattle.manual.specs.declared.FrameAnswer.the-variants.{At}
+use Rattle.manual.specs.declared.LengthAnswer.{LengthAnswer}
+use Rattle.manual.specs.declared.LengthAnswer.the-variants.{Written}
+use Rattle.manual.specs.State.{State}
+
+-- What a call answers and leaves: its number; a report's verdict; the status or length; the frame part; the output room; the blocks
+-- and the board.
+pub record Outcome : Type 0 where
+  pub answer : ℕ
+  pub verdict : Verdict
+  pub value : ℕ
+  pub part : List ℕ
+  pub room : List ℕ
+  pub state : State
+
+-- "A refusal changes nothing lent and hands back the board it was given; any status, count or length it answers is 0, a frame part
+-- empty, a verdict none."
+abbrev pub refused : ℕ → List ℕ → State → Outcome
+refused number room s = record { answer = number; verdict = None; value = 0; part = []; room = room; state = s }
+
+-- "0 | done"
+abbrev pub done : State → Outcome
+done s = record { answer = 0; verdict = None; value = 0; part = []; room = []; state = s }
+
+-- ---- "The first that applies, in the call's order, is given."
+
+-- a number, and the test of when it is given
+pub record Rule : Type 0 where
+  pub number : ℕ
+  pub applies : Bool
+
+abbrev pub _if_ : ℕ → Bool → Rule
+number if applies = record { number = number; applies = applies }
+
+infix 20 _if_
+unfoldable pub firstThatApplies : List Rule → ℕ
+firstThatApplies [] = 0
+firstThatApplies (r ∷ rs) = cond (r .applies) (r .number) (firstThatApplies rs)
+
+-- refused by the first that applies, and what the call does where none does
+unfoldable pub judged : List Rule → List ℕ → State → Outcome → Outcome
+judged rules room s accepted = cond (eqb (firstThatApplies rules) 0) accepted (refused (firstThatApplies rules) room s)
+
+-- ---- "Where an answer is an enum, a definition gives this paper's number and values for each of the enum's cases."
+
+abbrev pub numberOf : Refusal → ℕ
+numberOf BadArgument = 1
+numberOf BadConfiguration = 2
+numberOf BadState = 3
+numberOf NoSuch = 4
+numberOf WrongCycleState = 5
+numberOf NoPreResult = 6
+numberOf RoomTooSmall = 7
+numberOf BadImage = 8
+numberOf WrongFrame = 9
+numberOf NoEntry = 10
+
+-- an answer in this paper's numbers
+pub record Answered : Type 0 where
+  pub number : ℕ
+  pub verdict : Verdict
+  pub value : ℕ
+
+abbrev pub answered : ℕ → Verdict → ℕ → Answered
+answered number verdict value = record { number = number; verdict = verdict; value = value }
+
+abbrev pub ofAnswer : Answer → Answered
+ofAnswer Done = answered 0 None 0
+ofAnswer (Answer.Refused r) = answered (numberOf r) None 0
+
+abbrev pub ofReport : ReportAnswer → Answered
+ofReport (Accepted v) = answered 0 v 0
+ofReport (ReportAnswer.Refused r) = answered (numberOf r) None 0
+
+abbrev pub ofStatus : StatusAnswer → Answered
+ofStatus (Status byte) = answered 0 None byte
+ofStatus (StatusAnswer.Refused r) = answered (numberOf r) None 0
+
+-- the part is said of the caller's block beside it
+abbrev pub ofFrame : FrameAnswer → Answered
+ofFrame (At place) = answered 0 None 0
+ofFrame (FrameAnswer.Refused r) = answered (numberOf r) None 0
+
+abbrev pub ofLength : LengthAnswer → Answered
+ofLength (Written length) = answered 0 None length
+ofLength (LengthAnswer.Refused r) = answered (numberOf r) None 0

@@ -1,0 +1,182 @@
+-- Document 01: what each call does, from its refusals in their order to the last byte. Save and restore stand in Image.antt, the
+-- diagnostic request in Diagnostics.antt. Assumes nothing.
+use mathlib.Core.Bool.{Bool, true, false, not, _&&_, _||_, cond}
+use mathlib.Core.List.{List, [], _∷_}
+use mathlib.Core.Option.{Option, none, some}
+use Prim.Native.Nat.{ℕ, zero, suc}
+use lib.ListN.{length, replicate}
+use lib.IntN.{pos}
+use lib.Dec.{eqb, leb, ltb}
+use Rattle.history.specs.Words.{anyOf}
+use Rattle.history.specs.StatusByte.{byteOf, EventRecord, freshRecord}
+use Rattle.history.specs.History.{Token, start}
+use Rattle.manual.specs.declared.Board.{Board}
+use Rattle.manual.specs.declared.Verdict.the-variants.{None}
+use Rattle.manual.specs.Words.{allBelow, firstOf}
+use Rattle.manual.specs.Configuration.{Configuration, events, places, frameBytes, codeOf, cycleOf, isInternal, isTime, configOk}
+use Rattle.manual.specs.State.{State, Stored, stored, runs, allStopped, statusByte, D, withD, withOverflow, withCycle}
+use Rattle.manual.specs.WellFormed.{lengthsFit, wellFormed, entries}
+use Rattle.manual.specs.Answers.{Outcome, done, Rule, _if_, judged}
+use Rattle.manual.specs.Debouncing.{Debounced, reported, ticked}
+use Rattle.manual.specs.OneEvent.{happens, qualifies, stops, clears, forThose}
+use Rattle.manual.specs.Memory.{Entry, memoryLength, isOf, entryFor}
+
+-- the bytes of n fresh records
+unfoldable pub freshRecords : ℕ → List ℕ
+freshRecords zero = []
+freshRecords (suc n) = stored freshRecord .status ∷ stored freshRecord .K ∷ stored freshRecord .h ∷ stored freshRecord .g ∷ freshRecords n
+
+-- "FFFFFFh for all"
+abbrev pub forAll : ℕ → Bool
+forAll code = eqb code 0xFFFFFF
+
+abbrev pub frameOf : Option Entry → List ℕ
+frameOf (some x) = x .frame
+frameOf none = []
+
+module _ (cfg : Configuration) where
+  -- "Every call begins 2, 3."
+  abbrev pub begins : State → List Rule → List Rule
+  begins s rules = (2 if not (configOk cfg)) ∷ (3 if not (wellFormed cfg s)) ∷ rules
+
+  -- "For restore and for making a fresh state, 3 judges lengths only."
+  abbrev pub beginsWithLengths : State → List Rule → List Rule
+  beginsWithLengths s rules = (2 if not (configOk cfg)) ∷ (3 if not (lengthsFit cfg s)) ∷ rules
+
+  -- "4 | no such event, cycle (above 3)"
+  abbrev pub noSuchEvent : ℕ → Bool
+  noSuchEvent e = leb (events cfg) e
+
+  abbrev pub noSuchCycle : ℕ → Bool
+  noSuchCycle c = ltb 3 c
+
+  -- "9 | lent frame is not F bytes"
+  abbrev pub wrongFrame : List ℕ → Bool
+  wrongFrame frame = not (eqb (length frame) (frameBytes cfg))
+
+  -- event e's cycle runs
+  abbrev pub cycleRuns : Board → ℕ → Bool
+  cycleRuns b e = runs b (cycleOf cfg e)
+
+  -- ---- fresh
+
+  -- "Fresh: status 50h, K = h = g = 0, D = 0, memory empty (all bytes 0), cycles stopped, overflow clear."
+  unfoldable pub freshState : State
+  freshState = record {
+    records = freshRecords (events cfg);
+    debounce = replicate (events cfg) (pos 0);
+    memory = replicate (memoryLength (places cfg) (frameBytes cfg)) 0;
+    board = record { running = allStopped; overflow = false };
+  }
+
+  unfoldable pub freshRules : State → List Rule
+  freshRules s = beginsWithLengths s []
+
+  unfoldable pub fresh : State → Outcome
+  fresh s = judged (freshRules s) [] s (done freshState)
+
+  -- ---- report: "report 4, 1, 6, 9, 5"
+
+  unfoldable pub reportRules : ℕ → ℕ → List ℕ → State → List Rule
+  reportRules e code frame s =
+      begins s
+      ((4 if noSuchEvent e)
+      ∷ (1 if ltb 3 code)
+      ∷ (6 if (isInternal cfg e && ltb 1 code))
+      ∷ (9 if wrongFrame frame)
+      ∷ (5 if not (cycleRuns (s .board) e))
+      ∷ [])
+
+  -- the new D, then what the verdict does
+  unfoldable pub applied : List ℕ → ℕ → Debounced → State → State
+  applied frame e d s = qualifies cfg frame e (d .verdict) (withD e (d .number) s)
+
+  abbrev pub debouncedBy : ℕ → ℕ → State → Debounced
+  debouncedBy e code s = reported cfg e code (D s e)
+
+  abbrev pub reportDone : ℕ → ℕ → List ℕ → State → Outcome
+  reportDone e code frame s = record {
+    answer = 0;
+    verdict = debouncedBy e code s .verdict;
+    value = 0;
+    part = [];
+    room = [];
+    state = applied frame e (debouncedBy e code s) s;
+  }
+
+  unfoldable pub report : ℕ → ℕ → List ℕ → State → Outcome
+  report e code frame s = judged (reportRules e code frame s) [] s (reportDone e code frame s)
+
+  -- ---- tick: "tick 1, 9"
+
+  unfoldable pub tickRules : ℕ → List ℕ → State → List Rule
+  tickRules ms frame s = begins s ((1 if ltb 60000 ms) ∷ (9 if wrongFrame frame) ∷ [])
+
+  -- "events in rising number, only kind 2 with its cycle running"
+  abbrev pub timeRuns : Board → ℕ → Bool
+  timeRuns b e = isTime cfg e && cycleRuns b e
+
+  -- "Every event so qualified takes the lent frame."
+  abbrev pub ticks : ℕ → List ℕ → ℕ → State → State
+  ticks ms frame e s = applied frame e (ticked cfg e ms (D s e)) s
+
+  unfoldable pub tick : ℕ → List ℕ → State → Outcome
+  tick ms frame s = judged (tickRules ms frame s) [] s (done (forThose cfg (timeRuns (s .board)) (ticks ms frame) s))
+
+  -- ---- start and stop of a cycle: "start and stop 4, 5"
+
+  abbrev pub ofCycle : ℕ → ℕ → Bool
+  ofCycle c e = eqb (cycleOf cfg e) c
+
+  unfoldable pub startRules : ℕ → State → List Rule
+  startRules c s = begins s ((4 if noSuchCycle c) ∷ (5 if runs (s .board) c) ∷ [])
+
+  unfoldable pub startCycle : ℕ → State → Outcome
+  startCycle c s = judged (startRules c s) [] s (done (withCycle c true (forThose cfg (ofCycle c) (happens cfg start) s)))
+
+  unfoldable pub stopRules : ℕ → State → List Rule
+  stopRules c s = begins s ((4 if noSuchCycle c) ∷ (5 if not (runs (s .board) c)) ∷ [])
+
+  unfoldable pub stopCycle : ℕ → State → Outcome
+  stopCycle c s = judged (stopRules c s) [] s (done (withCycle c false (forThose cfg (ofCycle c) (stops cfg) s)))
+
+  -- ---- clear: "clear 4"
+
+  -- "Clear, by one trouble code or FFFFFFh for all"
+  abbrev pub covers : ℕ → ℕ → Bool
+  covers code e = forAll code || eqb (codeOf cfg e) code
+
+  -- "4 | no such … trouble code"
+  unfoldable pub unknownCode : ℕ → Bool
+  unknownCode code = allBelow (events cfg) (λ e. not (covers code e))
+
+  -- "clearing all also clears overflow"
+  abbrev pub overflowCleared : ℕ → State → State
+  overflowCleared code s = withOverflow (s .board .overflow && not (forAll code)) s
+
+  unfoldable pub cleared : ℕ → State → State
+  cleared code s = overflowCleared code (forThose cfg (covers code) (clears cfg) s)
+
+  unfoldable pub clearRules : ℕ → State → List Rule
+  clearRules code s = begins s ((4 if unknownCode code) ∷ [])
+
+  unfoldable pub clearCode : ℕ → State → Outcome
+  clearCode code s = judged (clearRules code s) [] s (done (cleared code s))
+
+  -- ---- read status: "read status 4"
+
+  unfoldable pub readStatusRules : ℕ → State → List Rule
+  readStatusRules e s = begins s ((4 if noSuchEvent e) ∷ [])
+
+  unfoldable pub readStatus : ℕ → State → Outcome
+  readStatus e s = judged (readStatusRules e s) [] s (record { answer = 0; verdict = None; value = statusByte s e; part = []; room = []; state = s })
+
+  -- ---- read frame: "read frame 4, 10"
+
+  -- "10 | event has no memory entry"
+  unfoldable pub readFrameRules : ℕ → State → List Rule
+  readFrameRules e s = begins s ((4 if noSuchEvent e) ∷ (10 if not (anyOf (isOf e) (entries cfg s))) ∷ [])
+
+  -- "The stored frame is read as a part of the caller's own memory block"
+  unfoldable pub readFrame : ℕ → State → Outcome
+  readFrame e s = judged (readFrameRules e s) [] s (record { answer = 0; verdict = None; value = 0; part = frameOf (entryFor e (entries cfg s)); room = []; state = s })

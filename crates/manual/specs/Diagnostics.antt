@@ -1,0 +1,121 @@
+-- Document 01, "Diagnostic requests". Assumes nothing.
+use mathlib.Core.Bool.{Bool, true, false, not, cond}
+use mathlib.Core.List.{List, [], _∷_, _++_}
+use mathlib.Core.Option.{Option, none, some}
+use Prim.Native.Nat.{ℕ, _%_}
+use lib.ListN.{length, getD, drop}
+use lib.Dec.{eqb, leb, ltb}
+use lib.Bits.{bitAnd}
+use Rattle.manual.specs.declared.Verdict.the-variants.{None}
+use Rattle.manual.specs.Words.{countBelow, joinBelow, firstOf, two, three, threeAt}
+use Rattle.manual.specs.Configuration.{Configuration, events, codeOf}
+use Rattle.manual.specs.State.{State, statusByte}
+use Rattle.manual.specs.Answers.{Outcome, Rule, _if_, judged}
+use Rattle.manual.specs.Calls.{begins, unknownCode, cleared}
+
+-- a reply, and its bytes: "Negative reply: 7F, request's first byte, code"
+pub data Reply : Type 0 where
+  positive : List ℕ → Reply
+  negative : ℕ → Reply
+
+abbrev pub replyBytes : ℕ → Reply → List ℕ
+replyBytes service (positive bytes) = bytes
+replyBytes service (negative code) = 0x7F ∷ service ∷ code ∷ []
+
+-- what a service replies, and the state after it
+pub record Served : Type 0 where
+  pub reply : Reply
+  pub state : State
+
+abbrev pub served : Reply → State → Served
+served reply s = record { reply = reply; state = s }
+
+-- a sub-function of service 19: its number, the length its request must have, and its reply
+pub record SubFunction : Type 0 where
+  pub number : ℕ
+  pub size : ℕ
+  pub reply : List ℕ → State → Reply
+
+abbrev pub subFunction : ℕ → ℕ → (List ℕ → State → Reply) → SubFunction
+subFunction number size reply = record { number = number; size = size; reply = reply }
+
+-- "With the top bit set a positive reply has length 0 and the room stays untouched. Otherwise one longer than the room: code 14."
+unfoldable pub fitted : Bool → ℕ → Reply → Reply
+fitted suppressed room (positive bytes) = cond suppressed (positive []) (cond (ltb room (length bytes)) (negative 0x14) (positive bytes))
+fitted suppressed room (negative code) = negative code
+
+module _ (cfg : Configuration) where
+  -- "An event matches if status and mask share a set bit."
+  abbrev pub matches : ℕ → State → ℕ → Bool
+  matches mask s e = not (eqb (bitAnd (statusByte s e) mask) 0)
+
+  -- "trouble code (3 bytes high first) and status"
+  abbrev pub line : State → ℕ → List ℕ
+  line s e = three (codeOf cfg e) ++ (statusByte s e ∷ [])
+
+  -- the lines of the events that pass, "rising"
+  unfoldable pub lines : (ℕ → Bool) → State → List ℕ
+  lines p s = joinBelow (events cfg) (λ e. cond (p e) (line s e) [])
+
+  abbrev pub maskOf : List ℕ → ℕ
+  maskOf request = getD request 2 0
+
+  -- "01 mask: `59 01 FF 01` and the number of matching events, 2 bytes high first."
+  unfoldable pub numberByMask : List ℕ → State → Reply
+  numberByMask request s = positive (0x59 ∷ 0x01 ∷ 0xFF ∷ 0x01 ∷ two (countBelow (events cfg) (matches (maskOf request) s)))
+
+  -- "02 mask: `59 02 FF`, then per matching event trouble code (3 bytes high first) and status, rising."
+  unfoldable pub listByMask : List ℕ → State → Reply
+  listByMask request s = positive (0x59 ∷ 0x02 ∷ 0xFF ∷ lines (matches (maskOf request) s) s)
+
+  -- "0A: `59 0A FF`, then all events likewise."
+  unfoldable pub listAll : List ℕ → State → Reply
+  listAll request s = positive (0x59 ∷ 0x0A ∷ 0xFF ∷ lines (λ e. true) s)
+
+  -- "not 01, 02, 0A: code 12. Length must be 3, 3, 2"
+  abbrev pub subFunctions : List SubFunction
+  subFunctions = subFunction 0x01 3 numberByMask ∷ subFunction 0x02 3 listByMask ∷ subFunction 0x0A 2 listAll ∷ []
+
+  -- "The second byte less its top bit is the sub-function"
+  abbrev pub subFunctionOf : List ℕ → Option SubFunction
+  subFunctionOf request = firstOf (λ f. eqb (f .number) (getD request 1 0 % 128)) subFunctions
+
+  abbrev pub suppresses : List ℕ → Bool
+  suppresses request = leb 128 (getD request 1 0)
+
+  unfoldable pub subFunctionReply : Option SubFunction → List ℕ → ℕ → State → Reply
+  subFunctionReply none request room s = negative 0x12
+  subFunctionReply (some f) request room s =
+      cond (not (eqb (length request) (f .size))) (negative 0x13) (fitted (suppresses request) room (f .reply request s))
+
+  -- "19: length 1: code 13. … not 01, 02, 0A: code 12. Length must be 3, 3, 2: else 13."
+  unfoldable pub service19 : List ℕ → ℕ → State → Reply
+  service19 request room s = cond (eqb (length request) 1) (negative 0x13) (subFunctionReply (subFunctionOf request) request room s)
+
+  -- "14: length must be 4 (else 13); the three bytes are a trouble code; unknown: code 31; else clear and `54`."
+  unfoldable pub service14 : List ℕ → State → Served
+  service14 request s =
+      cond (not (eqb (length request) 4)) (served (negative 0x13) s)
+      (cond (unknownCode cfg (threeAt 1 request)) (served (negative 0x31) s)
+      (served (positive (0x54 ∷ [])) (cleared cfg (threeAt 1 request) s)))
+
+  -- "First byte other than 19 or 14: code 11."
+  unfoldable pub servedBy : List ℕ → ℕ → State → Served
+  servedBy request room s =
+      cond (eqb (getD request 0 0) 0x19) (served (service19 request room s) s)
+      (cond (eqb (getD request 0 0) 0x14) (service14 request s)
+      (served (negative 0x11) s))
+
+  -- "Bytes past the reply stay." "the answer is 0"
+  unfoldable pub sent : List ℕ → List ℕ → State → Outcome
+  sent bytes room s = record { answer = 0; verdict = None; value = length bytes; part = []; room = bytes ++ drop (length bytes) room; state = s }
+
+  abbrev pub replied : ℕ → List ℕ → Served → Outcome
+  replied service room r = sent (replyBytes service (r .reply)) room (r .state)
+
+  -- "diagnostic request 7, 1": "The reply room must hold 3 bytes (else 7).", "1 | empty diagnostic request"
+  unfoldable pub requestRules : List ℕ → List ℕ → State → List Rule
+  requestRules request room s = begins cfg s ((7 if ltb (length room) 3) ∷ (1 if eqb (length request) 0) ∷ [])
+
+  unfoldable pub requestReply : List ℕ → List ℕ → State → Outcome
+  requestReply request room s = judged (requestRules request room s) room s (replied (getD request 0 0) room (servedBy request (length room) s))

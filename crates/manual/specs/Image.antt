@@ -1,0 +1,109 @@
+-- Document 01, "Saved image". Assumes nothing.
+use mathlib.Core.Bool.{Bool, true, false, not, _&&_, cond}
+use mathlib.Core.List.{List, [], _∷_, _++_}
+use Prim.Native.Nat.{ℕ, _+_, _-_, _*_}
+use lib.ListN.{length, getD, take, drop, replicate}
+use lib.IntN.{pos}
+use lib.Dec.{eqb, ltb}
+use Rattle.history.specs.Words.{anyOf}
+use Rattle.manual.specs.declared.Board.{Board}
+use Rattle.manual.specs.declared.Verdict.the-variants.{None}
+use Rattle.manual.specs.Words.{two, equal}
+use Rattle.manual.specs.Configuration.{Configuration, events, places, frameBytes}
+use Rattle.manual.specs.State.{State, allStopped, recordWidth}
+use Rattle.manual.specs.Memory.{entryWidth, entryCount, bytesInUse}
+use Rattle.manual.specs.WellFormed.{wellFormed}
+use Rattle.manual.specs.Answers.{Outcome, done, Rule, _if_, judged}
+use Rattle.manual.specs.Calls.{begins, beginsWithLengths}
+
+-- "Byte 0 = 3 bodies, byte 1 = edition 1, then three rows of 6"
+abbrev pub bodyCount : ℕ
+bodyCount = 3
+
+abbrev pub edition : ℕ
+edition = 1
+
+abbrev pub headerLength : ℕ
+headerLength = 20
+
+-- "kind (1, 2, 3 in that order)": "1 the records; 2 the entry count and the entries in use; 3 the overflow flag"
+abbrev pub kindRecords : ℕ
+kindRecords = 1
+
+abbrev pub kindMemory : ℕ
+kindMemory = 2
+
+abbrev pub kindOverflow : ℕ
+kindOverflow = 3
+
+-- "kind …, 0, offset (2), length (2)", "Numbers are high byte first."
+abbrev pub row : ℕ → ℕ → ℕ → List ℕ
+row kind offset size = kind ∷ 0 ∷ (two offset ++ two size)
+
+-- the header of bodies of these lengths: "Bodies follow without gaps"
+abbrev pub header : ℕ → ℕ → ℕ → List ℕ
+header r m o =
+    bodyCount ∷ edition ∷ (row kindRecords headerLength r ++ (row kindMemory (headerLength + r) m ++ row kindOverflow (headerLength + r + m) o))
+
+unfoldable pub imageFrom : List ℕ → List ℕ → List ℕ → List ℕ
+imageFrom records memory overflow = header (length records) (length memory) (length overflow) ++ (records ++ (memory ++ overflow))
+
+module _ (cfg : Configuration) where
+  -- "2 the entry count and the entries in use"
+  abbrev pub memoryBody : State → List ℕ
+  memoryBody s = take (bytesInUse (frameBytes cfg) (entryCount (s .memory))) (s .memory)
+
+  -- "3 the overflow flag (0 or 1)"
+  abbrev pub overflowBody : State → List ℕ
+  overflowBody s = cond (s .board .overflow) 1 0 ∷ []
+
+  unfoldable pub imageOf : State → List ℕ
+  imageOf s = imageFrom (s .records) (memoryBody s) (overflowBody s)
+
+  -- ---- the state, with all cycles stopped, that an image would be the image of
+
+  abbrev pub recordsOf : List ℕ → List ℕ
+  recordsOf image = take (recordWidth * events cfg) (drop headerLength image)
+
+  abbrev pub afterRecords : List ℕ → List ℕ
+  afterRecords image = drop (headerLength + recordWidth * events cfg) image
+
+  abbrev pub usedIn : List ℕ → ℕ
+  usedIn image = bytesInUse (frameBytes cfg) (entryCount (afterRecords image))
+
+  unfoldable pub stateOf : List ℕ → State
+  stateOf image = record {
+    records = recordsOf image;
+    debounce = replicate (events cfg) (pos 0);
+    memory = take (usedIn image) (afterRecords image) ++ replicate (entryWidth (frameBytes cfg) * (places cfg - entryCount (afterRecords image))) 0;
+    board = record { running = allStopped; overflow = eqb (getD (drop (usedIn image) (afterRecords image)) 0 0) 1 };
+  }
+
+  -- "Restore accepts exactly the images of well-formed states with all cycles stopped"
+  unfoldable pub acceptable : List ℕ → Bool
+  acceptable image = wellFormed cfg (stateOf image) && equal (imageOf (stateOf image)) image
+
+  -- ---- save: "save 5, 7"
+
+  -- "5 | save, any cycle running"
+  abbrev pub anyRuns : Board → Bool
+  anyRuns b = anyOf (λ r. r) (b .running)
+
+  unfoldable pub saveRules : List ℕ → State → List Rule
+  saveRules room s = begins cfg s ((5 if anyRuns (s .board)) ∷ (7 if ltb (length room) (length (imageOf s))) ∷ [])
+
+  -- "Save writes the image, no more, and answers its length."
+  abbrev pub saved : List ℕ → List ℕ → State → Outcome
+  saved image room s = record { answer = 0; verdict = None; value = length image; part = []; room = image ++ drop (length image) room; state = s }
+
+  unfoldable pub save : List ℕ → State → Outcome
+  save room s = judged (saveRules room s) room s (saved (imageOf s) room s)
+
+  -- ---- restore: "restore 8"
+
+  unfoldable pub restoreRules : List ℕ → State → List Rule
+  restoreRules image s = beginsWithLengths cfg s ((8 if not (acceptable image)) ∷ [])
+
+  -- "and makes that state"
+  unfoldable pub restore : List ℕ → State → Outcome
+  restore image s = judged (restoreRules image s) [] s (done (stateOf image))

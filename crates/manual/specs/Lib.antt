@@ -1,0 +1,12 @@
+pub mod Words
+pub mod Configuration
+pub mod State
+pub mod WellFormed
+pub mod Answers
+pub mod Debouncing
+pub mod OneEvent
+pub mod Memory
+pub mod Calls
+pub mod Diagnostics
+pub mod Image
+pub mod Sequences
