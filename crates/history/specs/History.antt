@@ -7,8 +7,8 @@ use lib.Dec.{leb, eqb}
 use Rattle.history.specs.Words.{anyOf, allOf, countOf, since, someWith, lastOf, cutAt}
 use Rattle.history.specs.StatusByte.{Bit, testFailed, testFailedThisOperationCycle, pendingDTC, confirmedDTC, testNotCompletedSinceLastClear, testFailedSinceLastClear, testNotCompletedThisOperationCycle, warningIndicatorRequested, Status, EventRecord, Limits, freshRecord, onPassed, onFailed, onStart, onStop, onClear}
 
--- "that event's whole history of qualified results, its cycle's starts and stops, and its clears":
--- a token is one thing that happened; a history holds all since the fresh state, the newest first.
+-- An event's history is all its qualified results, its cycle's starts and stops, and its clears since the fresh state, the newest
+-- first; a token is one of these.
 pub data Token : Type 0 where
   passed failed start stop clear : Token
 
