@@ -1,3 +1,4 @@
 pub mod Examples
 pub mod WordsLaws
 pub mod AnswersLaws
+pub mod AnswerIsFirstThatApplies

@@ -1,0 +1,133 @@
+-- Every call answers k exactly when k's test is the first of the call's list that holds, and 0 exactly when none does; and a refused
+-- call leaves every block, the board and the room as found, and answers no verdict, value or part.
+use mathlib.Core.Path.{_≡_, refl, sym, ap, subst, _∙_}
+use mathlib.Core.Logic.{_≢_, _↔_}
+use mathlib.Core.Bool.{Bool, true, false, _||_, cond}
+use mathlib.Core.List.{List, [], _∷_, _++_}
+use Prim.Native.Nat.{ℕ}
+use lib.Dec.{eqb}
+use borrow.Author.Tests.{eqb-true}
+use Rattle.history.specs.Words.{anyOf}
+use Rattle.manual.specs.Configuration.{Configuration}
+use Rattle.manual.specs.State.{State}
+use Rattle.manual.specs.Answers.{Outcome, refused, Rule, firstThatApplies, judged}
+use Rattle.manual.specs.Calls.{freshRules, fresh, reportRules, report, tickRules, tick, startRules, startCycle, stopRules, stopCycle, clearRules, clearCode, readStatusRules, readStatus, readFrameRules, readFrame}
+use Rattle.manual.specs.Image.{saveRules, save, restoreRules, restore}
+use Rattle.manual.specs.Diagnostics.{requestRules, sent, requestReply}
+use Rattle.manual.specs.Sequences.{Call, Fresh, Report, Tick, Start, Stop, Clear, ReadStatus, ReadFrame, Save, Restore, Request, outcome}
+use Rattle.manual.proofs.AnswersLaws.{left-alone}
+use Rattle.manual.proofs.WordsLaws.{clash}
+
+-- "The first that applies, in the call's order, is given."
+pub data Given : List Rule → ℕ → Type 0 where
+  -- no test of the list holds
+  done : (rules : List Rule) → anyOf (λ r. r .applies) rules ≡ false → Given rules 0
+  -- the test of r holds, and none before it does
+  refusal : (earlier : List Rule) (r : Rule) (later : List Rule) → anyOf (λ r. r .applies) earlier ≡ false → r .applies ≡ true → Given (earlier ++ r ∷ later) (r .number)
+
+given : (rules : List Rule) → Given rules (firstThatApplies rules)
+unfolding firstThatApplies
+given [] = done [] refl
+given (r ∷ rs) = go (r .applies) refl (given rs)
+  where
+    later : {k : ℕ} {l : List Rule} → r .applies ≡ false → Given l k → Given (r ∷ l) k
+    later e (done l n) = done (r ∷ l) (rw (e, n))
+    later e (refusal a x b n q) = refusal (r ∷ a) x b (rw (e, n)) q
+
+    go : (b : Bool) → r .applies ≡ b → Given rs (firstThatApplies rs) → Given (r ∷ rs) (cond b (r .number) (firstThatApplies rs))
+    go true e g = refusal [] r rs refl e
+    go false e g = later e g
+
+none-first : (rules : List Rule) → anyOf (λ r. r .applies) rules ≡ false → firstThatApplies rules ≡ 0
+unfolding firstThatApplies
+none-first [] n = refl
+none-first (r ∷ rs) n = go (r .applies) n (λ t. none-first rs t)
+  where
+    go : (b : Bool) → b || anyOf (λ r. r .applies) rs ≡ false → (anyOf (λ r. r .applies) rs ≡ false → firstThatApplies rs ≡ 0) → cond b (r .number) (firstThatApplies rs) ≡ 0
+    go true t ih = clash true refl t
+    go false t ih = ih t
+
+this-first : (earlier : List Rule) (r : Rule) (later : List Rule) → anyOf (λ r. r .applies) earlier ≡ false → r .applies ≡ true → firstThatApplies (earlier ++ r ∷ later) ≡ r .number
+unfolding firstThatApplies
+this-first [] r later n q = rw q
+this-first (x ∷ xs) r later n q = go (x .applies) n (λ t. this-first xs r later t q)
+  where
+    go : (b : Bool) → b || anyOf (λ r. r .applies) xs ≡ false → (anyOf (λ r. r .applies) xs ≡ false → firstThatApplies (xs ++ r ∷ later) ≡ r .number) → cond b (x .number) (firstThatApplies (xs ++ r ∷ later)) ≡ r .number
+    go true t ih = clash true refl t
+    go false t ih = ih t
+
+only : {rules : List Rule} {k : ℕ} → Given rules k → firstThatApplies rules ≡ k
+only (done rules n) = none-first rules n
+only (refusal a r b n q) = this-first a r b n q
+
+module _ (cfg : Configuration) where
+  -- the list of refusals of a call, in its order
+  abbrev pub rulesOf : Call → State → List Rule
+  rulesOf Fresh s = freshRules cfg s
+  rulesOf (Report k code frame) s = reportRules cfg k code frame s
+  rulesOf (Tick ms frame) s = tickRules cfg ms frame s
+  rulesOf (Start c) s = startRules cfg c s
+  rulesOf (Stop c) s = stopRules cfg c s
+  rulesOf (Clear code) s = clearRules cfg code s
+  rulesOf (ReadStatus k) s = readStatusRules cfg k s
+  rulesOf (ReadFrame k) s = readFrameRules cfg k s
+  rulesOf (Save room) s = saveRules cfg room s
+  rulesOf (Restore image) s = restoreRules cfg image s
+  rulesOf (Request bytes room) s = requestRules cfg bytes room s
+
+  -- the room that was lent to a call
+  abbrev pub roomOf : Call → List ℕ
+  roomOf Fresh = []
+  roomOf (Report k code frame) = []
+  roomOf (Tick ms frame) = []
+  roomOf (Start c) = []
+  roomOf (Stop c) = []
+  roomOf (Clear code) = []
+  roomOf (ReadStatus k) = []
+  roomOf (ReadFrame k) = []
+  roomOf (Save room) = room
+  roomOf (Restore image) = []
+  roomOf (Request bytes room) = room
+
+  -- every call is judged by its list, and accepted answers 0
+  record Judged (c : Call) (s : State) : Type 0 where
+    accepts : Outcome
+    zero : accepts .answer ≡ 0
+    is : outcome cfg c s ≡ judged (rulesOf c s) (roomOf c) s accepts
+
+  judges : (c : Call) (s : State) → Judged c s
+  unfolding fresh report tick startCycle stopCycle clearCode readStatus readFrame save restore requestReply sent
+  judges Fresh s = record { accepts = _; zero = refl; is = refl }
+  judges (Report k code frame) s = record { accepts = _; zero = refl; is = refl }
+  judges (Tick ms frame) s = record { accepts = _; zero = refl; is = refl }
+  judges (Start c) s = record { accepts = _; zero = refl; is = refl }
+  judges (Stop c) s = record { accepts = _; zero = refl; is = refl }
+  judges (Clear code) s = record { accepts = _; zero = refl; is = refl }
+  judges (ReadStatus k) s = record { accepts = _; zero = refl; is = refl }
+  judges (ReadFrame k) s = record { accepts = _; zero = refl; is = refl }
+  judges (Save room) s = record { accepts = _; zero = refl; is = refl }
+  judges (Restore image) s = record { accepts = _; zero = refl; is = refl }
+  judges (Request bytes room) s = record { accepts = _; zero = refl; is = refl }
+
+  judged-answer : (rules : List Rule) (room : List ℕ) (s : State) (o : Outcome) → o .answer ≡ 0 → judged rules room s o .answer ≡ firstThatApplies rules
+  unfolding judged
+  judged-answer rules room s o z = go (eqb (firstThatApplies rules) 0) refl
+    where
+      go : (b : Bool) → eqb (firstThatApplies rules) 0 ≡ b → cond b o (refused (firstThatApplies rules) room s) .answer ≡ firstThatApplies rules
+      go true e = z ∙ sym (eqb-true (firstThatApplies rules) 0 e)
+      go false e = refl
+
+  pub answer-is : (c : Call) (s : State) → outcome cfg c s .answer ≡ firstThatApplies (rulesOf c s)
+  answer-is c s = let j = judges c s in ap (λ (o : Outcome). o .answer) (j .is) ∙ judged-answer (rulesOf c s) (roomOf c) s (j .accepts) (j .zero)
+
+  -- exactly when
+  pub answer-is-given : (c : Call) (s : State) (k : ℕ) → (outcome cfg c s .answer ≡ k) ↔ Given (rulesOf c s) k
+  answer-is-given c s k = (λ e. subst (Given (rulesOf c s)) (sym (answer-is c s) ∙ e) (given (rulesOf c s)), λ g. answer-is c s ∙ only g)
+
+  -- "A refusal changes nothing lent and hands back the board it was given"
+  pub refusal-leaves-all : (c : Call) (s : State) → outcome cfg c s .answer ≢ 0 → outcome cfg c s ≡ refused (outcome cfg c s .answer) (roomOf c) s
+  refusal-leaves-all c s n =
+      let j = judges c s in
+      j .is
+      ∙ left-alone (rulesOf c s) (roomOf c) s (j .accepts) (j .zero) (subst (λ (o : Outcome). o .answer ≢ 0) (j .is) n)
+      ∙ ap (λ (k : ℕ). refused k (roomOf c) s) (sym (answer-is c s))
