@@ -2,3 +2,9 @@ pub mod Examples
 pub mod WordsLaws
 pub mod AnswersLaws
 pub mod AnswerIsFirstThatApplies
+pub mod WellFormedLaws
+pub mod DebouncingLaws
+pub mod ImageLaws
+pub mod AcceptedImages
+pub mod RestoreAfterSave
+pub mod SaveAfterRestore

@@ -1,0 +1,49 @@
+-- An accepted image restored and saved again gives the same bytes.
+use mathlib.Core.Path.{_≡_, refl, sym, ap, subst, _∙_}
+use mathlib.Core.Bool.{Bool, true, false, not}
+use mathlib.Core.List.{List, [], _∷_, _++_}
+use Prim.Native.Nat.{ℕ, _≤_}
+use native.Mathlib.Omega.{arith}
+use lib.Dec.{ltb}
+use lib.ListN.{length, drop}
+use borrow.Author.Tests.{not-false, le-ltb}
+use Rattle.manual.specs.Configuration.{Configuration, configOk}
+use Rattle.manual.specs.State.{State}
+use Rattle.manual.specs.Answers.{Outcome, firstThatApplies, _if_}
+use Rattle.manual.specs.WellFormed.{wellFormed}
+use Rattle.manual.specs.Image.{imageOf, stateOf, acceptable, anyRuns, saveRules, saved, save, restoreRules, restore}
+use Rattle.manual.proofs.AnswersLaws.{none-applies, accepted, goes-through}
+use Rattle.manual.proofs.ImageLaws.{Still}
+use Rattle.manual.proofs.AcceptedImages.{accepted-state, accepted-image}
+
+four-pass : (a b c d : Bool) → a ≡ true → b ≡ true → c ≡ false → d ≡ false → firstThatApplies ((2 if not a) ∷ (3 if not b) ∷ (5 if c) ∷ (7 if d) ∷ []) ≡ 0
+unfolding firstThatApplies
+four-pass a b c d p q r t = rw (p, q, r, t)
+
+module _ (cfg : Configuration) (image : List ℕ) (s : State) (z : restore cfg image s .answer ≡ 0) where
+  accepts : (configOk cfg ≡ true) × (acceptable cfg image ≡ true)
+  unfolding restore restoreRules
+  accepts = let none = none-applies _ (accepted _ [] s _ z .0) refl in (not-false (configOk cfg) (none 0), not-false (acceptable cfg image) (none 2))
+
+  pub restored-state : restore cfg image s .state ≡ stateOf cfg image
+  unfolding restore
+  restored-state = ap (λ (o : Outcome). o .state) (accepted _ [] s _ z .1)
+
+  -- the image of the restored state is the image
+  pub same-image : imageOf cfg (restore cfg image s .state) ≡ image
+  same-image = ap (imageOf cfg) restored-state ∙ accepted-image cfg image (accepts .1)
+
+  -- saved into any room that holds it, it is written there, with its length, and nothing else is changed
+  pub save-after-restore : (room : List ℕ) → length image ≤ length room → save cfg room (restore cfg image s .state) ≡ saved cfg image room (restore cfg image s .state)
+  unfolding save saveRules
+  save-after-restore room fits =
+      goes-through _ room t (saved cfg (imageOf cfg t) room t)
+      (four-pass (configOk cfg) (wellFormed cfg t) (anyRuns cfg (t .board)) (ltb (length room) (length (imageOf cfg t))) (accepts .0) (still .formed) (still .stopped)
+      (le-ltb (length room) (length (imageOf cfg t)) (let e = ap length same-image in omega arith)))
+      ∙ ap (λ (l : List ℕ). saved cfg l room t) same-image
+    where
+      t : State
+      t = restore cfg image s .state
+
+      still : Still cfg t
+      still = subst (Still cfg) (sym restored-state) (accepted-state cfg image (accepts .1))

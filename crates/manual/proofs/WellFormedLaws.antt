@@ -1,0 +1,105 @@
+-- What a well-formed state tells, clause by clause, and that these clauses make a state well formed.
+use mathlib.Core.Path.{_≡_, refl, sym, ap, subst, _∙_}
+use mathlib.Core.Bool.{Bool, true, false, not, _&&_}
+use mathlib.Core.List.{List, [], _∷_, _++_}
+use Prim.Native.Nat.{ℕ, _+_, _-_, _*_, _≤_, _<_}
+use native.Mathlib.Nat.{mul-comm, mul-sub, mul-le-mul-left}
+use native.Mathlib.Omega.{arith}
+use lib.Dec.{eqb, leb}
+use lib.ListN.{length, take, drop, replicate, length-drop, take-append-drop}
+use lib.Seq.{length-take-le}
+use borrow.Author.Tests.{eqb-true, eq-eqb, leb-true, le-leb}
+use Rattle.history.specs.Words.{holds, allOf}
+use Rattle.history.specs.StatusByte.{EventRecord}
+use Rattle.history.proofs.WordsLaws.{and-left, and-right, both, part, parts}
+use Rattle.manual.specs.Words.{allBelow}
+use Rattle.manual.specs.Configuration.{Configuration, events, places, frameBytes}
+use Rattle.manual.specs.State.{State, recordWidth, recordOf, D}
+use Rattle.manual.specs.Memory.{Entry, entryWidth, memoryLength, entryCount, bytesInUse, noTwice}
+use Rattle.manual.specs.WellFormed.{lengthsFit, recordOk, DOk, eventOk, atMostM, entries, entryOk, zeroTail, memoryOk, wellFormed}
+use Rattle.manual.proofs.WordsLaws.{all-below-at, all-below, zeros-are}
+
+module _ (cfg : Configuration) (s : State) where
+  pub record LengthsTell : Type 0 where
+    pub records : length (s .records) ≡ recordWidth * events cfg
+    pub debounce : length (s .debounce) ≡ events cfg
+    pub memory : length (s .memory) ≡ memoryLength (places cfg) (frameBytes cfg)
+
+  pub lengths-tell : lengthsFit cfg s ≡ true → LengthsTell
+  unfolding lengthsFit
+  lengths-tell l = record { records = eqb-true _ _ (part _ l 0); debounce = eqb-true _ _ (part _ l 1); memory = eqb-true _ _ (part _ l 2) }
+
+  pub lengths-told : LengthsTell → lengthsFit cfg s ≡ true
+  unfolding lengthsFit
+  lengths-told t =
+      parts _ (
+        eq-eqb (length (s .records)) (recordWidth * events cfg) (t .records),
+        (eq-eqb (length (s .debounce)) (events cfg) (t .debounce), (eq-eqb (length (s .memory)) (memoryLength (places cfg) (frameBytes cfg)) (t .memory), tt)),
+      )
+
+  pub record StateTells : Type 0 where
+    pub lengths : LengthsTell
+    pub records : (e : ℕ) → e < events cfg → recordOk cfg e (recordOf s e) ≡ true
+    pub numbers : (e : ℕ) → e < events cfg → DOk cfg (s .board) e (D s e) ≡ true
+    pub few : entryCount (s .memory) ≤ places cfg
+    pub each : allOf (entryOk cfg s) (entries cfg s) ≡ true
+    pub once : noTwice (entries cfg s) ≡ true
+    pub tail : zeroTail cfg s ≡ true
+
+  pub state-tells : wellFormed cfg s ≡ true → StateTells
+  unfolding wellFormed memoryOk
+  state-tells w =
+      let events-ok : allBelow (events cfg) (eventOk cfg s) ≡ true = part _ w 1 in
+      let memory-ok : memoryOk cfg s ≡ true = part _ w 2 in
+      record {
+        lengths = lengths-tell (part _ w 0);
+        records = λ e h. and-left (recordOk cfg e (recordOf s e)) (DOk cfg (s .board) e (D s e)) (all-below-at (events cfg) (eventOk cfg s) events-ok e h);
+        numbers = λ e h. and-right (recordOk cfg e (recordOf s e)) (DOk cfg (s .board) e (D s e)) (all-below-at (events cfg) (eventOk cfg s) events-ok e h);
+        few = leb-true _ _ (part _ memory-ok 0);
+        each = part _ memory-ok 1;
+        once = part _ memory-ok 2;
+        tail = part _ memory-ok 3;
+      }
+
+  pub state-told : StateTells → wellFormed cfg s ≡ true
+  unfolding wellFormed memoryOk
+  state-told t =
+      parts _ (
+        lengths-told (t .lengths),
+        (
+          all-below (events cfg) (eventOk cfg s) (λ e h. both (recordOk cfg e (recordOf s e)) (DOk cfg (s .board) e (D s e)) (t .records e h) (t .numbers e h)),
+          (parts _ (le-leb (entryCount (s .memory)) (places cfg) (t .few), (t .each, (t .once, (t .tail, tt)))), tt),
+        ),
+      )
+
+  pub well-formed-lengths : wellFormed cfg s ≡ true → lengthsFit cfg s ≡ true
+  unfolding wellFormed
+  well-formed-lengths w = part _ w 0
+
+  -- ---- the bytes in use, and the zeros behind them
+
+  module _ (t : StateTells) where
+    abbrev used : ℕ
+    used = bytesInUse (frameBytes cfg) (entryCount (s .memory))
+
+    pub used-fits : used ≤ length (s .memory)
+    used-fits =
+        let most : entryWidth (frameBytes cfg) * entryCount (s .memory) ≤ places cfg * entryWidth (frameBytes cfg) =
+        subst (λ (j : ℕ). entryWidth (frameBytes cfg) * entryCount (s .memory) ≤ j) (mul-comm (entryWidth (frameBytes cfg)) (places cfg)) (mul-le-mul-left (entryWidth (frameBytes cfg)) (t .few)) in
+        let l = t .lengths .memory in
+        omega arith
+
+    pub used-length : length (take used (s .memory)) ≡ used
+    used-length = length-take-le used (s .memory) used-fits
+
+    pub zeros-behind : drop used (s .memory) ≡ replicate (entryWidth (frameBytes cfg) * (places cfg - entryCount (s .memory))) 0
+    zeros-behind =
+        zeros-are (drop used (s .memory)) (t .tail)
+        ∙ ap (λ (j : ℕ). replicate j 0)
+        (length-drop used (s .memory)
+        ∙ (let l = t .lengths .memory in let e : length (s .memory) - used ≡ places cfg * entryWidth (frameBytes cfg) - entryWidth (frameBytes cfg) * entryCount (s .memory) = omega arith in e)
+        ∙ ap (λ (j : ℕ). j - entryWidth (frameBytes cfg) * entryCount (s .memory)) (mul-comm (places cfg) (entryWidth (frameBytes cfg)))
+        ∙ sym (mul-sub (entryWidth (frameBytes cfg)) (places cfg) (entryCount (s .memory))))
+
+    pub memory-split : s .memory ≡ take used (s .memory) ++ replicate (entryWidth (frameBytes cfg) * (places cfg - entryCount (s .memory))) 0
+    memory-split = sym (take-append-drop used (s .memory)) ∙ ap (λ (l : List ℕ). take used (s .memory) ++ l) zeros-behind
