@@ -21,9 +21,13 @@ unfolding firstThatApplies
 four-pass a b c d p q r t = rw (p, q, r, t)
 
 module _ (cfg : Configuration) (image : List ℕ) (s : State) (z : restore cfg image s .answer ≡ 0) where
-  accepts : (configOk cfg ≡ true) × (acceptable cfg image ≡ true)
+  configured : configOk cfg ≡ true
   unfolding restore restoreRules
-  accepts = let none = none-applies _ (accepted _ [] s _ z .0) refl in (not-false (configOk cfg) (none 0), not-false (acceptable cfg image) (none 2))
+  configured = not-false (configOk cfg) (none-applies _ (accepted _ [] s _ z .0) refl 0)
+
+  pub restored-accepts : acceptable cfg image ≡ true
+  unfolding restore restoreRules
+  restored-accepts = not-false (acceptable cfg image) (none-applies _ (accepted _ [] s _ z .0) refl 2)
 
   pub restored-state : restore cfg image s .state ≡ stateOf cfg image
   unfolding restore
@@ -31,14 +35,14 @@ module _ (cfg : Configuration) (image : List ℕ) (s : State) (z : restore cfg i
 
   -- the image of the restored state is the image
   pub same-image : imageOf cfg (restore cfg image s .state) ≡ image
-  same-image = ap (imageOf cfg) restored-state ∙ accepted-image cfg image (accepts .1)
+  same-image = ap (imageOf cfg) restored-state ∙ accepted-image cfg image restored-accepts
 
   -- saved into any room that holds it, it is written there, with its length, and nothing else is changed
   pub save-after-restore : (room : List ℕ) → length image ≤ length room → save cfg room (restore cfg image s .state) ≡ saved cfg image room (restore cfg image s .state)
   unfolding save saveRules
   save-after-restore room fits =
       goes-through _ room t (saved cfg (imageOf cfg t) room t)
-      (four-pass (configOk cfg) (wellFormed cfg t) (anyRuns cfg (t .board)) (ltb (length room) (length (imageOf cfg t))) (accepts .0) (still .formed) (still .stopped)
+      (four-pass (configOk cfg) (wellFormed cfg t) (anyRuns cfg (t .board)) (ltb (length room) (length (imageOf cfg t))) configured (still .formed) (still .stopped)
       (le-ltb (length room) (length (imageOf cfg t)) (let e = ap length same-image in omega arith)))
       ∙ ap (λ (l : List ℕ). saved cfg l room t) same-image
     where
@@ -46,4 +50,4 @@ module _ (cfg : Configuration) (image : List ℕ) (s : State) (z : restore cfg i
       t = restore cfg image s .state
 
       still : Still cfg t
-      still = subst (Still cfg) (sym restored-state) (accepted-state cfg image (accepts .1))
+      still = subst (Still cfg) (sym restored-state) (accepted-state cfg image restored-accepts)

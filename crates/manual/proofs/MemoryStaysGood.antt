@@ -1,0 +1,145 @@
+-- What each step of a call keeps of the memory block: it is the block of its entries, and these are in order.
+use mathlib.Core.Path.{_≡_, refl, sym, ap, subst, _∙_}
+use mathlib.Core.Logic.{_≢_}
+use mathlib.Core.Bool.{Bool, true, false, not, _&&_, _||_, cond}
+use mathlib.Core.List.{List, [], _∷_, _++_}
+use Prim.Native.Nat.{ℕ, _≤_, _<_}
+use native.Mathlib.Nat.{le-refl}
+use lib.Dec.{eqb}
+use lib.ListN.{length}
+use lib.IntN.{ℤ, pos}
+use borrow.Author.Tests.{eqb-true, eqb-false}
+use Rattle.history.specs.StatusByte.{testFailedSinceLastClear, EventRecord, Limits, freshFailure, agesAtStop}
+use Rattle.history.specs.History.{Token, passed, failed, start, stop, clear, step}
+use Rattle.manual.specs.declared.Board.{Board}
+use Rattle.manual.specs.declared.Verdict.{Verdict}
+use Rattle.manual.specs.declared.Verdict.the-variants.{None, Passed, Failed}
+use Rattle.manual.specs.Words.{forBelow}
+use Rattle.manual.specs.Configuration.{Configuration, events, places, frameBytes, priorityOf, limitsOf}
+use Rattle.manual.specs.State.{State, Stored, opened, recordOf, D, withD}
+use Rattle.manual.specs.Debouncing.{Debounced}
+use Rattle.manual.specs.Memory.{Entry, entriesOf, memoryOf, without, store}
+use Rattle.manual.specs.WellFormed.{entries}
+use Rattle.manual.specs.OneEvent.{happens, withEntries, entryLeaves, isQuiet, keeps, memoryTold, fails, qualifies, stops, clears, forThose}
+use Rattle.manual.specs.Calls.{applied}
+use Rattle.manual.proofs.WordsLaws.{by, for-below-keeps}
+use Rattle.manual.proofs.StateLaws.{opened-stored}
+use Rattle.manual.proofs.MemoryLaws.{Good, frames, memory-entries, good-bits, good-without, good-store}
+use Rattle.manual.proofs.OneEventLaws.{View, view, Sized, acts-happens, acts-D}
+
+module _ (cfg : Configuration) where
+  -- bit 5 of each event
+  abbrev pub hasFailedBit : State → ℕ → Bool
+  hasFailedBit s e = recordOf s e .status testFailedSinceLastClear
+
+  abbrev InOrder : State → List Entry → Type 0
+  InOrder s xs = Good (events cfg) (places cfg) (frameBytes cfg) (hasFailedBit s) xs
+
+  pub record MemoryGood (s : State) : Type 0 where
+    pub sized : Sized cfg s
+    pub block : s .memory ≡ memoryOf (places cfg) (frameBytes cfg) (entries cfg s)
+    pub good : InOrder s (entries cfg s)
+
+  -- a block made of entries in order
+  pub entries-are : (s : State) (xs : List Entry) → InOrder s xs → entries cfg (withEntries cfg xs s) ≡ xs
+  entries-are s xs g = memory-entries (places cfg) (frameBytes cfg) xs (frames (events cfg) (frameBytes cfg) (hasFailedBit s) xs (g .each))
+
+  pub made-good : (s : State) (xs : List Entry) → Sized cfg s → InOrder s xs → MemoryGood (withEntries cfg xs s)
+  made-good s xs z g = record {
+    sized = record { records = z .records; debounce = z .debounce };
+    block = ap (memoryOf (places cfg) (frameBytes cfg)) (sym (entries-are s xs g));
+    good = subst (InOrder s) (sym (entries-are s xs g)) g;
+  }
+
+  -- ---- bit 5 after something happened to event k
+
+  bit-own : (t : Token) (k : ℕ) (s : State) → Sized cfg s → k < events cfg → hasFailedBit (happens cfg t k s) k ≡ step (limitsOf cfg k) t (recordOf s k) .status testFailedSinceLastClear
+  bit-own t k s z h =
+      ap (λ (v : View). opened (v .stored) .status testFailedSinceLastClear) (acts-happens cfg t .own k s z h)
+      ∙ ap (λ (r : EventRecord). r .status testFailedSinceLastClear) (opened-stored (step (limitsOf cfg k) t (recordOf s k)))
+
+  bit-other : (t : Token) (k e : ℕ) (s : State) → e ≢ k → hasFailedBit (happens cfg t k s) e ≡ hasFailedBit s e
+  bit-other t k e s d = ap (λ (v : View). opened (v .stored) .status testFailedSinceLastClear) (acts-happens cfg t .other k e s d)
+
+  -- what happens to an event leaves bit 5 set, but for a clear
+  abbrev Keeps5 : Token → Type 0
+  Keeps5 t = (n : Limits) (r : EventRecord) → r .status testFailedSinceLastClear ≡ true → step n t r .status testFailedSinceLastClear ≡ true
+
+  good-happens : (t : Token) → Keeps5 t → (k : ℕ) (s : State) → k < events cfg → MemoryGood s → MemoryGood (happens cfg t k s)
+  unfolding happens
+  good-happens t keep k s h m = record {
+    sized = acts-happens cfg t .sized k s (m .sized);
+    block = m .block;
+    good = good-bits (events cfg) (places cfg) (frameBytes cfg) (hasFailedBit s) (hasFailedBit (happens cfg t k s)) (entries cfg s) (λ e p q. still e q (eqb e k) refl) (m .good);
+  }
+    where
+      still : (e : ℕ) → hasFailedBit s e ≡ true → (b : Bool) → eqb e k ≡ b → hasFailedBit (happens cfg t k s) e ≡ true
+      still e q true w =
+          subst (λ (j : ℕ). hasFailedBit s j ≡ true → hasFailedBit (happens cfg t k s) j ≡ true) (sym (eqb-true e k w))
+          (λ u. bit-own t k s (m .sized) h ∙ keep (limitsOf cfg k) (recordOf s k) u) q
+      still e q false w = bit-other t k e s (eqb-false e k w) ∙ q
+
+  good-D : (k : ℕ) (d : ℤ) (s : State) → MemoryGood s → MemoryGood (withD k d s)
+  good-D k d s m = record { sized = acts-D cfg d .sized k s (m .sized); block = m .block; good = m .good }
+
+  -- ---- its entry leaves
+
+  good-leaves : (k : ℕ) (s : State) → MemoryGood s → MemoryGood (entryLeaves cfg k s)
+  unfolding entryLeaves
+  good-leaves k s m =
+      made-good s (without k (entries cfg s)) (m .sized)
+      (good-without (events cfg) (places cfg) (frameBytes cfg) (hasFailedBit s) (hasFailedBit s) k (entries cfg s) (λ e p d q. q) (m .good))
+
+  pub good-clears : (k : ℕ) (s : State) → k < events cfg → MemoryGood s → MemoryGood (clears cfg k s)
+  unfolding clears entryLeaves happens
+  good-clears k s h m =
+      good-D k (pos 0) (entryLeaves cfg k s′)
+      (made-good s′ (without k (entries cfg s)) (acts-happens cfg clear .sized k s (m .sized))
+      (good-without (events cfg) (places cfg) (frameBytes cfg) (hasFailedBit s) (hasFailedBit s′) k (entries cfg s) (λ e p d q. bit-other clear k e s d ∙ q) (m .good)))
+    where
+      s′ : State
+      s′ = happens cfg clear k s
+
+  pub good-stops : (k : ℕ) (s : State) → k < events cfg → MemoryGood s → MemoryGood (stops cfg k s)
+  unfolding stops
+  good-stops k s h m =
+      good-D k (pos 0) _
+      (by (agesAtStop (limitsOf cfg k) (recordOf s k)) MemoryGood (λ q. good-leaves k (happens cfg stop k s) stopped) (λ q. stopped))
+    where
+      stopped : MemoryGood (happens cfg stop k s)
+      stopped = good-happens stop (λ n r e. e) k s h m
+
+  pub good-starts : (k : ℕ) (s : State) → k < events cfg → MemoryGood s → MemoryGood (happens cfg start k s)
+  good-starts k s h m = good-happens start (λ n r e. e) k s h m
+
+  -- ---- a verdict
+
+  good-told : (frame : List ℕ) (k : ℕ) (s : State) → length frame ≡ frameBytes cfg → k < events cfg → hasFailedBit s k ≡ true → MemoryGood s → MemoryGood (memoryTold cfg frame k s)
+  unfolding memoryTold keeps
+  good-told frame k s f h five m =
+      let made = made-good s (store (places cfg) (priorityOf cfg) (isQuiet cfg s) k frame (entries cfg s) .entries) (m .sized)
+      (good-store (events cfg) (places cfg) (frameBytes cfg) (hasFailedBit s) (priorityOf cfg) (isQuiet cfg s) k frame h five f (entries cfg s) (m .good)) in
+      record { sized = record { records = made .sized .records; debounce = made .sized .debounce }; block = made .block; good = made .good }
+
+  good-fails : (frame : List ℕ) (k : ℕ) (s : State) → length frame ≡ frameBytes cfg → k < events cfg → MemoryGood s → MemoryGood (fails cfg frame k s)
+  unfolding fails
+  good-fails frame k s f h m =
+      let m′ = good-happens failed (λ n r e. refl) k s h m in
+      by (freshFailure (recordOf s k)) MemoryGood (λ q. good-told frame k (happens cfg failed k s) f h (bit-own failed k s (m .sized) h) m′) (λ q. m′)
+
+  good-qualifies : (frame : List ℕ) (k : ℕ) (v : Verdict) (s : State) → length frame ≡ frameBytes cfg → k < events cfg → MemoryGood s → MemoryGood (qualifies cfg frame k v s)
+  good-qualifies frame k None s f h m = m
+  good-qualifies frame k Passed s f h m = good-happens passed (λ n r e. e) k s h m
+  good-qualifies frame k Failed s f h m = good-fails frame k s f h m
+
+  pub good-applied : (frame : List ℕ) (k : ℕ) (d : Debounced) (s : State) → length frame ≡ frameBytes cfg → k < events cfg → MemoryGood s → MemoryGood (applied cfg frame k d s)
+  unfolding applied
+  good-applied frame k d s f h m = good-qualifies frame k (d .verdict) (withD k (d .number) s) f h (good-D k (d .number) s m)
+
+  -- ---- for all events of a call
+
+  pub good-those : (p : ℕ → Bool) (one : ℕ → State → State) → ((k : ℕ) (s : State) → k < events cfg → MemoryGood s → MemoryGood (one k s)) → (s : State) → MemoryGood s → MemoryGood (forThose cfg p one s)
+  unfolding forThose
+  good-those p one keep s m =
+      for-below-keeps MemoryGood (λ e s. cond (p e) (one e s) s) (events cfg) (events cfg) (le-refl (events cfg))
+      (λ k s h m. by (p k) MemoryGood (λ q. keep k s h m) (λ q. m)) s m

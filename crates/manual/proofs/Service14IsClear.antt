@@ -1,0 +1,47 @@
+-- Service 14 of a diagnostic request has the effect and the tokens of the clear call, wherever both are accepted.
+use mathlib.Core.Path.{_≡_, refl, sym, ap, _∙_}
+use mathlib.Core.Bool.{Bool, true, false, not, _&&_, cond}
+use mathlib.Core.List.{List, [], _∷_, _++_}
+use Prim.Native.Nat.{ℕ, _<_}
+use native.Mathlib.Omega.{arith}
+use lib.Dec.{eqb}
+use lib.ListN.{length, getD}
+use lib.IntN.{ℤ, pos}
+use borrow.Author.Tests.{eq-eqb}
+use Rattle.history.specs.History.{Token, clear}
+use Rattle.manual.specs.Words.{three, threeAt}
+use Rattle.manual.specs.Configuration.{Configuration}
+use Rattle.manual.specs.State.{State}
+use Rattle.manual.specs.Answers.{Outcome}
+use Rattle.manual.specs.Calls.{covers, unknownCode, cleared, clearRules, clearCode}
+use Rattle.manual.specs.Diagnostics.{Served, service14, servedBy, sent, requestReply}
+use Rattle.manual.specs.Sequences.{Clear, Request, tokens, tokensAt}
+use Rattle.manual.proofs.AnswersLaws.{none-applies, accepted}
+
+-- the three bytes of a trouble code are read back as the code
+pub code-back : (code : ℕ) → code < 16777216 → threeAt 1 (0x14 ∷ three code) ≡ code
+code-back code h = omega arith
+
+module _ (cfg : Configuration) (bytes room : List ℕ) (s : State) (is14 : getD bytes 0 0 ≡ 0x14) (four : length bytes ≡ 4) where
+  abbrev code : ℕ
+  code = threeAt 1 bytes
+
+  module _ (clears : clearCode cfg code s .answer ≡ 0) (replies : requestReply cfg bytes room s .answer ≡ 0) where
+    known : unknownCode cfg code ≡ false
+    unfolding clearCode clearRules
+    known = none-applies _ (accepted _ [] s _ clears .0) refl 2
+
+    served-clears : servedBy cfg bytes (length room) s .state ≡ cleared cfg code s
+    unfolding servedBy service14
+    served-clears = rw (is14, four, known)
+
+    pub same-effect : requestReply cfg bytes room s .state ≡ clearCode cfg code s .state
+    unfolding requestReply clearCode sent
+    same-effect =
+        ap (λ (o : Outcome). o .state) (accepted _ room s _ replies .1)
+        ∙ served-clears
+        ∙ sym (ap (λ (o : Outcome). o .state) (accepted _ [] s _ clears .1))
+
+    pub same-tokens : (e : ℕ) → tokensAt cfg (Request bytes room) s e ≡ tokensAt cfg (Clear code) s e
+    unfolding tokens
+    same-tokens e = rw (replies, clears, is14, four, known)
