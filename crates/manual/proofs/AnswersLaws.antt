@@ -6,7 +6,8 @@ use mathlib.Core.List.{List, [], _∷_, _++_}
 use Prim.Native.Nat.{ℕ, zero, suc, _<_}
 use native.Mathlib.Omega.{arith}
 use lib.Dec.{eqb, ltb}
-use borrow.Author.Tests.{eqb-true, eqb-false, eq-eqb, ltb-true}
+use borrow.Author.Tests.{eqb-true, eqb-false, ltb-true, not-true}
+use Rattle.history.specs.Words.{allOf}
 use Rattle.history.proofs.WordsLaws.{and-left, and-right}
 use Rattle.manual.specs.State.{State}
 use Rattle.manual.specs.Answers.{Outcome, refused, Rule, firstThatApplies, judged}
@@ -33,6 +34,19 @@ none-applies (r ∷ rs) z n i = go (r .applies) refl z i (λ t. none-applies rs 
     go true q t i ih = absurd (let h = ltb-true 0 (r .number) (and-left (ltb 0 (r .number)) (numbered rs) n) in let w : ⊥ = omega arith in w)
     go false q t zero ih = q
     go false q t (suc i) ih = ih t i
+
+-- a number that no rule of the list has is not answered
+abbrev pub lacks : ℕ → List Rule → Bool
+lacks k rules = allOf (λ r. not (eqb (r .number) k)) rules
+
+pub never-given : (k : ℕ) → k ≢ 0 → (rules : List Rule) → lacks k rules ≡ true → firstThatApplies rules ≢ k
+unfolding firstThatApplies
+never-given k n [] l q = n (sym q)
+never-given k n (r ∷ rs) l q = go (r .applies) q (never-given k n rs (and-right (not (eqb (r .number) k)) (lacks k rs) l))
+  where
+    go : (b : Bool) → cond b (r .number) (firstThatApplies rs) ≡ k → (firstThatApplies rs ≢ k) → ⊥
+    go true e ih = eqb-false (r .number) k (not-true (eqb (r .number) k) (and-left (not (eqb (r .number) k)) (lacks k rs) l)) e
+    go false e ih = ih e
 
 module _ (rules : List Rule) (room : List ℕ) (s : State) (o : Outcome) where
   -- an accepted call has the outcome that its definition gives it

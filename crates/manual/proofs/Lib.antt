@@ -18,3 +18,6 @@ pub mod SequencesLaws
 pub mod RecordsFollowHistories
 pub mod StaysWellFormed
 pub mod Service14IsClear
+pub mod ByteIsReadingInEverySequence
+pub mod HistoriesAreLegal
+pub mod NoCallLeftOut

@@ -1,24 +1,23 @@
 -- Laws of specs/OneEvent.antt and of a debounced report: what is done to an event changes that event's record and D alone.
-use mathlib.Core.Path.{_≡_, refl, sym, ap, subst, _∙_}
+use mathlib.Core.Path.{_≡_, refl, ap, _∙_}
 use mathlib.Core.Logic.{_≢_, _⊎_, inl, inr}
-use mathlib.Core.Bool.{Bool, true, false, not, cond}
+use mathlib.Core.Bool.{Bool, true, false, cond}
 use mathlib.Core.List.{List}
-use Prim.Native.Nat.{ℕ, zero, suc, _+_, _*_, _≤_, _<_}
+use Prim.Native.Nat.{ℕ, zero, suc, _*_, _≤_, _<_}
 use native.Mathlib.Nat.{eq-or-lt-of-le, le-of-suc-le-suc, not-suc-le-zero, le-refl}
 use native.Mathlib.Omega.{arith}
 use lib.Dec.{eqb}
-use lib.ListN.{length, getD, set, length-set}
+use lib.ListN.{length, length-set}
 use lib.Seq.{getD-set-same, getD-set-other}
 use lib.IntN.{ℤ, pos}
 use borrow.Author.Tests.{eqb-true, eqb-false}
 use Rattle.history.specs.StatusByte.{freshFailure, agesAtStop}
 use Rattle.history.specs.History.{Token, passed, failed, stop, clear, step}
-use Rattle.manual.specs.declared.Board.{Board}
 use Rattle.manual.specs.declared.Verdict.{Verdict}
 use Rattle.manual.specs.declared.Verdict.the-variants.{None, Passed, Failed}
 use Rattle.manual.specs.Words.{forBelow}
 use Rattle.manual.specs.Configuration.{Configuration, events, limitsOf}
-use Rattle.manual.specs.State.{State, recordWidth, Stored, opened, stored, storedAt, D, withD}
+use Rattle.manual.specs.State.{State, recordWidth, Stored, opened, stored, storedAt, D, withD, withMemory, withOverflow}
 use Rattle.manual.specs.Debouncing.{Debounced}
 use Rattle.manual.specs.OneEvent.{happens, entryLeaves, keeps, memoryTold, fails, qualifies, stops, clears, forThose}
 use Rattle.manual.specs.Calls.{applied}
@@ -41,13 +40,8 @@ pub record Sized (cfg : Configuration) (s : State) : Type 0 where
   pub records : length (s .records) ≡ recordWidth * events cfg
   pub debounce : length (s .debounce) ≡ events cfg
 
--- a state with these two blocks unchanged
-module _ (s t : State) (p : t .records ≡ s .records) (q : t .debounce ≡ s .debounce) where
-  pub sized-same : (cfg : Configuration) → Sized cfg s → Sized cfg t
-  sized-same cfg z = record { records = ap length p ∙ z .records; debounce = ap length q ∙ z .debounce }
-
-  pub view-same : (e : ℕ) → view t e ≡ view s e
-  view-same e = λ i. viewed (storedAt e (p i)) (getD (q i) e (pos 0))
+pub sized-same : {cfg : Configuration} (s t : State) → t .records ≡ s .records → t .debounce ≡ s .debounce → Sized cfg s → Sized cfg t
+sized-same s t p q z = record { records = ap length p ∙ z .records; debounce = ap length q ∙ z .debounce }
 
 -- `one k` does f k to event k, nothing to the others, and starts and stops no cycle
 pub record Acts (cfg : Configuration) (one : ℕ → State → State) (f : ℕ → View → View) : Type 0 where
@@ -89,7 +83,8 @@ module _ {cfg : Configuration} {one : ℕ → State → State} {f : ℕ → View
 -- ---- steps made of steps
 
 -- one after the other
-pub acts-then : {cfg : Configuration} {one two : ℕ → State → State} {f g : ℕ → View → View} → Acts cfg one f → Acts cfg two g → Acts cfg (λ k s. two k (one k s)) (λ k v. g k (f k v))
+pub acts-then : {cfg : Configuration} {one two : ℕ → State → State} {f g : ℕ → View → View} → Acts cfg one f → Acts cfg two g
+    → Acts cfg (λ k s. two k (one k s)) (λ k v. g k (f k v))
 acts-then {one = one} {g = g} a b = record {
   sized = λ k s z. b .sized k (one k s) (a .sized k s z);
   own = λ k s z h. b .own k (one k s) (a .sized k s z) h ∙ ap (g k) (a .own k s z h);
@@ -97,8 +92,9 @@ acts-then {one = one} {g = g} a b = record {
   running = λ k s. b .running k (one k s) ∙ a .running k s;
 }
 
--- a step that goes by what the event's own view was
-acts-given : {cfg : Configuration} (one : ℕ → View → ℕ → State → State) (f : ℕ → View → ℕ → View → View) → ((j : ℕ) (w : View) → Acts cfg (one j w) (f j w)) → Acts cfg (λ k s. one k (view s k) k s) (λ k v. f k v k v)
+-- a step that goes by the event's own view
+acts-given : {cfg : Configuration} (one : ℕ → View → ℕ → State → State) (f : ℕ → View → ℕ → View → View) → ((j : ℕ) (w : View) → Acts cfg (one j w) (f j w))
+    → Acts cfg (λ k s. one k (view s k) k s) (λ k v. f k v k v)
 acts-given one f a = record {
   sized = λ k s. a k (view s k) .sized k s;
   own = λ k s. a k (view s k) .own k s;
@@ -106,29 +102,36 @@ acts-given one f a = record {
   running = λ k s. a k (view s k) .running k s;
 }
 
+-- one of two, by a test of that view
 acts-choice : {cfg : Configuration} {one two : ℕ → State → State} {f g : ℕ → View → View} (test : ℕ → View → Bool) → Acts cfg one f → Acts cfg two g
     → Acts cfg (λ k s. cond (test k (view s k)) (one k s) (two k s)) (λ k v. cond (test k v) (f k v) (g k v))
-acts-choice {cfg} {one} {two} {f} {g} test a b = acts-given (λ j w k s. cond (test j w) (one k s) (two k s)) (λ j w k v. cond (test j w) (f k v) (g k v)) (λ j w. go (test j w))
+acts-choice {cfg} {one} {two} {f} {g} test a b =
+    acts-given (λ j w k s. cond (test j w) (one k s) (two k s)) (λ j w k v. cond (test j w) (f k v) (g k v)) (λ j w. go (test j w))
   where
     go : (t : Bool) → Acts cfg (λ k s. cond t (one k s) (two k s)) (λ k v. cond t (f k v) (g k v))
     go true = a
     go false = b
 
--- what touches neither the records nor the debounce numbers
-acts-aside : {cfg : Configuration} (one : ℕ → State → State) → ((k : ℕ) (s : State) → one k s .records ≡ s .records) → ((k : ℕ) (s : State) → one k s .debounce ≡ s .debounce)
-    → ((k : ℕ) (s : State) → one k s .board .running ≡ s .board .running) → Acts cfg one (λ k v. v)
-acts-aside {cfg} one p q r = record {
-  sized = λ k s. sized-same s (one k s) (p k s) (q k s) cfg;
-  own = λ k s z h. view-same s (one k s) (p k s) (q k s) k;
-  other = λ k e s h. view-same s (one k s) (p k s) (q k s) e;
-  running = r;
-}
+cond-same : {A : Type 0} (b : Bool) (x : A) → cond b x x ≡ x
+cond-same true x = refl
+cond-same false x = refl
+
+-- one of two that do the same to it
+acts-either : {cfg : Configuration} {one two : ℕ → State → State} {f : ℕ → View → View} (test : ℕ → View → Bool) → Acts cfg one f → Acts cfg two f
+    → Acts cfg (λ k s. cond (test k (view s k)) (one k s) (two k s)) f
+acts-either test a b = let c = acts-choice test a b in simp cond-same at c
+
+-- what changes memory and the overflow flag alone
+acts-aside : {cfg : Configuration} (memory : ℕ → State → List ℕ) (overflow : ℕ → State → Bool)
+    → Acts cfg (λ k s. withOverflow (overflow k s) (withMemory (memory k s) s)) (λ k v. v)
+acts-aside memory overflow = record { sized = λ k s. sized-same s _ refl refl; own = λ k s z h. refl; other = λ k e s h. refl; running = λ k s. refl }
 
 acts-not : {cfg : Configuration} → Acts cfg (λ k s. s) (λ k v. v)
-acts-not = acts-aside (λ k s. s) (λ k s. refl) (λ k s. refl) (λ k s. refl)
+acts-not = acts-aside _ _
 
 -- only for those that pass a test
-pub acts-cond : {cfg : Configuration} {one : ℕ → State → State} {f : ℕ → View → View} (p : ℕ → Bool) → Acts cfg one f → Acts cfg (λ k s. cond (p k) (one k s) s) (λ k v. cond (p k) (f k v) v)
+pub acts-cond : {cfg : Configuration} {one : ℕ → State → State} {f : ℕ → View → View} (p : ℕ → Bool) → Acts cfg one f
+    → Acts cfg (λ k s. cond (p k) (one k s) s) (λ k v. cond (p k) (f k v) v)
 acts-cond p a = acts-choice (λ k v. p k) a acts-not
 
 module _ {cfg : Configuration} {one : ℕ → State → State} {f : ℕ → View → View} (acts : Acts cfg one f) (p : ℕ → Bool) (s : State) where
@@ -145,13 +148,6 @@ module _ {cfg : Configuration} {one : ℕ → State → State} {f : ℕ → View
   those-own z e h = fold-own (acts-cond p acts) (events cfg) e s z (le-refl (events cfg)) h
 
 -- ---- what happens to an event
-
-cond-same : {A : Type 0} (b : Bool) (x : A) → cond b x x ≡ x
-cond-same true x = refl
-cond-same false x = refl
-
-acts-either : {cfg : Configuration} {one two : ℕ → State → State} {f : ℕ → View → View} (test : ℕ → View → Bool) → Acts cfg one f → Acts cfg two f → Acts cfg (λ k s. cond (test k (view s k)) (one k s) (two k s)) f
-acts-either test a b = let c = acts-choice test a b in simp cond-same at c
 
 module _ (cfg : Configuration) where
   -- the bytes of a record after a token
@@ -181,11 +177,11 @@ module _ (cfg : Configuration) where
 
   pub acts-entryLeaves : Acts cfg (entryLeaves cfg) (λ k v. v)
   unfolding entryLeaves
-  acts-entryLeaves = acts-aside _ (λ k s. refl) (λ k s. refl) (λ k s. refl)
+  acts-entryLeaves = acts-aside _ _
 
   pub acts-memoryTold : (frame : List ℕ) → Acts cfg (memoryTold cfg frame) (λ k v. v)
   unfolding memoryTold keeps
-  acts-memoryTold frame = acts-aside _ (λ k s. refl) (λ k s. refl) (λ k s. refl)
+  acts-memoryTold frame = acts-aside _ _
 
   pub acts-fails : (frame : List ℕ) → Acts cfg (fails cfg frame) (tokenView failed)
   unfolding fails

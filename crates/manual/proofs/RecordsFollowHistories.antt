@@ -42,11 +42,13 @@ module _ (cfg : Configuration) where
 
   -- the board and memory are no part of it
   follows-same : (s t : State) (H : Histories) → t .records ≡ s .records → t .debounce ≡ s .debounce → Follows s H → Follows t H
-  follows-same s t H p q f = record { sized = sized-same s t p q cfg (f .sized); records = λ e h. ap (storedAt e) p ∙ f .records e h }
+  follows-same s t H p q f = record { sized = sized-same s t p q (f .sized); records = λ e h. ap (storedAt e) p ∙ f .records e h }
 
   -- f does to a record what the tokens of g do
   abbrev Counts : (ℕ → View → View) → (ℕ → View → List Token) → Type 0
-  Counts f g = (e : ℕ) (v : View) (l : History) → v .stored ≡ stored (recordAfter (limitsOf cfg e) l) → f e v .stored ≡ stored (recordAfter (limitsOf cfg e) (g e v ++ l))
+  Counts f g =
+      (e : ℕ) (v : View) (l : History) → v .stored ≡ stored (recordAfter (limitsOf cfg e) l)
+      → f e v .stored ≡ stored (recordAfter (limitsOf cfg e) (g e v ++ l))
 
   counts-token : (t : Token) → Counts (tokenView cfg t) (λ e v. t ∷ [])
   unfolding recordAfter
@@ -57,7 +59,10 @@ module _ (cfg : Configuration) where
   counts-verdict Passed e v l h = counts-token passed e v l h
   counts-verdict Failed e v l h = counts-token failed e v l h
 
-  counts-debounced : (rule : ℕ → ℤ → Debounced) → Counts (debouncedView cfg rule) (λ e v. result (rule e (v .number) .verdict))
+  abbrev resultBy : (ℕ → ℤ → Debounced) → ℕ → View → List Token
+  resultBy rule e v = result (rule e (v .number) .verdict)
+
+  counts-debounced : (rule : ℕ → ℤ → Debounced) → Counts (debouncedView cfg rule) (resultBy rule)
   counts-debounced rule e v l h = counts-verdict (rule e (v .number) .verdict) e (viewed (v .stored) (rule e (v .number) .number)) l h
 
   module _ (s : State) (H : Histories) (follows : Follows s H) where
@@ -67,7 +72,8 @@ module _ (cfg : Configuration) where
         → Follows t (λ e. onlyIf (p e) (g e (view s e)) ++ H e)
     follows-step p f g counts t z own = record { sized = z; records = λ e h. ap (λ (v : View). v .stored) (own e h) ∙ go (p e) e h }
       where
-        go : (b : Bool) (e : ℕ) → e < events cfg → cond b (f e (view s e)) (view s e) .stored ≡ stored (recordAfter (limitsOf cfg e) (onlyIf b (g e (view s e)) ++ H e))
+        go : (b : Bool) (e : ℕ) → e < events cfg
+            → cond b (f e (view s e)) (view s e) .stored ≡ stored (recordAfter (limitsOf cfg e) (onlyIf b (g e (view s e)) ++ H e))
         go true e h = counts e (view s e) (H e) (follows .records e h)
         go false e h = follows .records e h
 
@@ -82,14 +88,15 @@ module _ (cfg : Configuration) where
     follows-accepted : KeptWhenAccepted cfg Follows s H
     unfolding cleared
     follows-accepted = record {
-      report = λ k code frame z. follows-one (acts-applied cfg frame (λ e. reported cfg e code)) (λ e v. result (reported cfg e code (v .number) .verdict)) (counts-debounced (λ e. reported cfg e code)) k;
-      tick = λ ms frame z. follows-those (acts-applied cfg frame (λ e. ticked cfg e ms)) (λ e v. result (ticked cfg e ms (v .number) .verdict)) (counts-debounced (λ e. ticked cfg e ms)) (timeRuns cfg (s .board));
+      report = λ k code frame z. follows-one (acts-applied cfg frame (λ e. reported cfg e code)) (resultBy (λ e. reported cfg e code)) (counts-debounced (λ e. reported cfg e code)) k;
+      tick = λ ms frame z. follows-those (acts-applied cfg frame (λ e. ticked cfg e ms)) (resultBy (λ e. ticked cfg e ms)) (counts-debounced (λ e. ticked cfg e ms)) (timeRuns cfg (s .board));
       start = λ c z. follows-same _ _ _ refl refl (follows-those (acts-happens cfg start) (λ e v. start ∷ []) (counts-token start) (ofCycle cfg c));
       stop = λ c z. follows-same _ _ _ refl refl (follows-those (acts-stops cfg) (λ e v. stop ∷ []) (counts-token stop) (ofCycle cfg c));
       clear = λ code z. follows-same _ _ _ refl refl (follows-those (acts-clears cfg) (λ e v. clear ∷ []) (counts-token clear) (covers cfg code));
     }
 
-  pub call-follows : (c : Call) (s : State) (H : Histories) → goesOn cfg c s ≡ true → Follows s H → Follows (outcome cfg c s .state) (λ e. tokensAt cfg c s e ++ H e)
+  pub call-follows : (c : Call) (s : State) (H : Histories) → goesOn cfg c s ≡ true → Follows s H
+      → Follows (outcome cfg c s .state) (λ e. tokensAt cfg c s e ++ H e)
   call-follows c s H g f = call-keeps cfg Follows s H f (follows-accepted s H f) c g
 
   pub fresh-follows : Follows (freshState cfg) (λ e. [])

@@ -32,7 +32,8 @@ pub judged-gives : (Q : State → Histories → Type 0) (rules : List Rule) (roo
 unfolding judged
 judged-gives Q rules room s o g H z q f = go (eqb (firstThatApplies rules) 0) refl
   where
-    go : (b : Bool) → eqb (firstThatApplies rules) 0 ≡ b → Q (cond b o (refused (firstThatApplies rules) room s) .state) (λ e. onlyIf (eqb (cond b o (refused (firstThatApplies rules) room s) .answer) 0) (g e) ++ H e)
+    go : (b : Bool) → eqb (firstThatApplies rules) 0 ≡ b
+        → Q (cond b o (refused (firstThatApplies rules) room s) .state) (λ e. onlyIf (eqb (cond b o (refused (firstThatApplies rules) room s) .answer) 0) (g e) ++ H e)
     go true e = rw z (f (eqb-true (firstThatApplies rules) 0 e))
     go false e = rw e q
 
@@ -51,7 +52,8 @@ module _ (cfg : Configuration) where
   request-state bytes room s h = rw h
 
   -- service 14 clears a known code, and nothing else changes the state
-  pub reply-keeps : (Q : State → Histories → Type 0) (bytes room : List ℕ) (s : State) (H : Histories) → Q s H → ((code : ℕ) → unknownCode cfg code ≡ false → Q (cleared cfg code s) (given (Clear code) s H))
+  pub reply-keeps : (Q : State → Histories → Type 0) (bytes room : List ℕ) (s : State) (H : Histories) → Q s H
+      → ((code : ℕ) → unknownCode cfg code ≡ false → Q (cleared cfg code s) (given (Clear code) s H))
       → Q (servedBy cfg bytes (length room) s .state) (given (Request bytes room) s H)
   unfolding servedBy service14
   reply-keeps Q bytes room s H q f = go (eqb (getD bytes 0 0) 0x14) refl
@@ -73,14 +75,20 @@ module _ (cfg : Configuration) where
 
   -- What a relation must keep for every call to keep it: the five that change the state, where they are accepted.
   pub record KeptWhenAccepted (Q : State → Histories → Type 0) (s : State) (H : Histories) : Type 0 where
-    pub report : (k code : ℕ) (frame : List ℕ) → firstThatApplies (reportRules cfg k code frame s) ≡ 0 → Q (applied cfg frame k (debouncedBy cfg k code s) s) (given (Report k code frame) s H)
-    pub tick : (ms : ℕ) (frame : List ℕ) → firstThatApplies (tickRules cfg ms frame s) ≡ 0 → Q (forThose cfg (timeRuns cfg (s .board)) (ticks cfg ms frame) s) (given (Tick ms frame) s H)
-    pub start : (c : ℕ) → firstThatApplies (startRules cfg c s) ≡ 0 → Q (withCycle c true (forThose cfg (ofCycle cfg c) (happens cfg Token.start) s)) (given (Start c) s H)
-    pub stop : (c : ℕ) → firstThatApplies (stopRules cfg c s) ≡ 0 → Q (withCycle c false (forThose cfg (ofCycle cfg c) (stops cfg) s)) (given (Stop c) s H)
-    pub clear : (code : ℕ) → firstThatApplies (clearRules cfg code s) ≡ 0 → Q (cleared cfg code s) (given (Clear code) s H)
+    pub report : (k code : ℕ) (frame : List ℕ) → firstThatApplies (reportRules cfg k code frame s) ≡ 0
+        → Q (applied cfg frame k (debouncedBy cfg k code s) s) (given (Report k code frame) s H)
+    pub tick : (ms : ℕ) (frame : List ℕ) → firstThatApplies (tickRules cfg ms frame s) ≡ 0
+        → Q (forThose cfg (timeRuns cfg (s .board)) (ticks cfg ms frame) s) (given (Tick ms frame) s H)
+    pub start : (c : ℕ) → firstThatApplies (startRules cfg c s) ≡ 0
+        → Q (withCycle c true (forThose cfg (ofCycle cfg c) (happens cfg start) s)) (given (Start c) s H)
+    pub stop : (c : ℕ) → firstThatApplies (stopRules cfg c s) ≡ 0
+        → Q (withCycle c false (forThose cfg (ofCycle cfg c) (stops cfg) s)) (given (Stop c) s H)
+    pub clear : (code : ℕ) → firstThatApplies (clearRules cfg code s) ≡ 0
+        → Q (cleared cfg code s) (given (Clear code) s H)
 
   -- where a request is accepted, so is a clear of a known code
-  request-clears : (bytes room : List ℕ) (s : State) (code : ℕ) → firstThatApplies (requestRules cfg bytes room s) ≡ 0 → unknownCode cfg code ≡ false → firstThatApplies (clearRules cfg code s) ≡ 0
+  request-clears : (bytes room : List ℕ) (s : State) (code : ℕ) → firstThatApplies (requestRules cfg bytes room s) ≡ 0 → unknownCode cfg code ≡ false
+      → firstThatApplies (clearRules cfg code s) ≡ 0
   unfolding firstThatApplies requestRules clearRules
   request-clears bytes room s code z u = rw (none-applies (requestRules cfg bytes room s) z refl 0, none-applies (requestRules cfg bytes room s) z refl 1, u)
 

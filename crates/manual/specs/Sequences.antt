@@ -4,7 +4,7 @@ use mathlib.Core.Bool.{Bool, true, false, not, _&&_, cond}
 use mathlib.Core.List.{List, [], _∷_, _++_}
 use Prim.Native.Nat.{ℕ}
 use lib.ListN.{length, getD, take}
-use lib.IntN.{ℤ, pos}
+use lib.IntN.{ℤ}
 use lib.Dec.{eqb}
 use Rattle.history.specs.History.{Token, passed, failed, start, stop, clear, History}
 use Rattle.manual.specs.declared.Board.{Board}
@@ -12,7 +12,7 @@ use Rattle.manual.specs.declared.Verdict.{Verdict}
 use Rattle.manual.specs.declared.Verdict.the-variants.{None, Passed, Failed}
 use Rattle.manual.specs.Words.{threeAt}
 use Rattle.manual.specs.Configuration.{Configuration}
-use Rattle.manual.specs.State.{State}
+use Rattle.manual.specs.State.{State, D}
 use Rattle.manual.specs.Answers.{Outcome}
 use Rattle.manual.specs.Debouncing.{Debounced, reported, ticked}
 use Rattle.manual.specs.Calls.{fresh, report, tick, startCycle, stopCycle, clearCode, readStatus, readFrame, timeRuns, ofCycle, covers, unknownCode}
@@ -93,7 +93,7 @@ module _ (cfg : Configuration) where
 
   -- the tokens that a call on state s gives each event
   abbrev pub tokensAt : Call → State → ℕ → List Token
-  tokensAt c s e = tokens (outcome c s .answer) c (s .board) e (getD (s .debounce) e (pos 0))
+  tokensAt c s e = tokens (outcome c s .answer) c (s .board) e (D s e)
 
   -- the call neither makes a second fresh state nor restores one
   abbrev pub goesOn : Call → State → Bool
