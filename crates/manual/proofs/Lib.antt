@@ -21,3 +21,5 @@ pub mod Service14IsClear
 pub mod ByteIsReadingInEverySequence
 pub mod HistoriesAreLegal
 pub mod NoCallLeftOut
+pub mod ExamplesAreASequence
+pub mod OnlyTheNamedEntryLeaves

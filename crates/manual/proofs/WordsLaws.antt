@@ -2,13 +2,13 @@
 use mathlib.Core.Path.{_≡_, refl, sym, ap, subst, _∙_}
 use mathlib.Core.Logic.{_⊎_, inl, inr, ⊎-elim}
 use mathlib.Core.Bool.{Bool, true, false, not, _&&_, _||_, cond, true≢false}
-use mathlib.Core.List.{List, [], _∷_, _++_}
-use mathlib.Core.Option.{Option, none, some}
+use mathlib.Core.List.{List, [], _∷_, _++_, List·Memᴰ, List·Memᴰ·cases-cons, List·Memᴰ·append-cases, Memᴰ·append-left, Memᴰ·append-right}
+use mathlib.Core.Option.{Option, none, some, Option·none-ne-some}
 use Prim.Native.Nat.{ℕ, zero, suc, _+_, _≤_, _<_}
 use native.Mathlib.Nat.{eq-or-lt-of-le, le-of-suc-le-suc, not-suc-le-zero, le-refl}
 use native.Mathlib.Omega.{arith}
 use lib.Dec.{T, eqb, leb, ltb}
-use lib.ListN.{length, replicate}
+use lib.ListN.{length, length-append, replicate}
 use lib.IntN.{ℤ, pos, negsuc}
 use lib.Signed.{leZ}
 use borrow.Author.Tests.{eq-eqb, eqb-true}
@@ -40,6 +40,10 @@ or-cases false b e = inr e
 pub or-right : (a b : Bool) → b ≡ true → a || b ≡ true
 or-right true b e = refl
 or-right false b e = e
+
+pub neither : (a b : Bool) → a || b ≡ false → (a ≡ false) × (b ≡ false)
+neither true b e = clash true refl e
+neither false b e = (refl, e)
 
 -- ---- the numbers below n
 
@@ -144,6 +148,61 @@ module _ {A : Type 0} where
       go : (b : Bool) → p x ≡ b → b || anyOf p xs ≡ false → (anyOf p xs ≡ false → anyOf p (those q xs) ≡ false) → anyOf p (cond (q x) (x ∷ those q xs) (those q xs)) ≡ false
       go true h t ih = clash true refl t
       go false h t ih = by (q x) (λ l. anyOf p l ≡ false) (λ u. rw h (ih t)) (λ u. ih t)
+
+-- ---- lists cut at an element
+
+module _ {A : Type 0} where
+  pub all-front : (P : A → Type 0) (xs ys : List A) → All P (xs ++ ys) → All P xs
+  all-front P [] ys a = tt
+  all-front P (x ∷ xs) ys a = (a .0, all-front P xs ys (a .1))
+
+  -- some number is at least each
+  pub bounded : (f : A → ℕ) (xs : List A) → (k : ℕ) × All (λ x. f x ≤ k) xs
+  bounded f [] = (0, tt)
+  bounded f (x ∷ xs) = let (k, a) = bounded f xs in (f x + k, (omega arith, all-map _ _ (λ y h. omega arith) xs a))
+
+  pub none-pass : (p : A → Bool) (xs : List A) → anyOf p xs ≡ false → All (λ x. p x ≡ false) xs
+  none-pass p [] e = tt
+  none-pass p (x ∷ xs) e = let n = neither (p x) (anyOf p xs) e in (n .0, none-pass p xs (n .1))
+
+  pub none-at : (p : A → Bool) (older : List A) (v : A) (newer : List A) → anyOf p (older ++ v ∷ newer) ≡ false → p v ≡ false
+  none-at p [] v newer e = neither (p v) (anyOf p newer) e .0
+  none-at p (y ∷ older) v newer e = none-at p older v newer (neither (p y) (anyOf p (older ++ v ∷ newer)) e .1)
+
+  -- the first that passes, between the older ones, none of which does, and the newer ones
+  pub record First (p : A → Bool) (xs : List A) (v : A) : Type 0 where
+    pub older : List A
+    pub newer : List A
+    pub there : xs ≡ older ++ v ∷ newer
+    pub passes : p v ≡ true
+    pub none-older : All (λ x. p x ≡ false) older
+
+  pub first-is : (p : A → Bool) (xs : List A) (v : A) → firstOf p xs ≡ some v → First p xs v
+  unfolding firstOf
+  first-is p [] v e = absurd (Option·none-ne-some v e)
+  first-is p (y ∷ xs) v e = go (p y) refl e (λ t. first-is p xs v t)
+    where
+      go : (b : Bool) → p y ≡ b → cond b (some y) (firstOf p xs) ≡ some v → (firstOf p xs ≡ some v → First p xs v) → First p (y ∷ xs) v
+      go true q t ih = record { older = []; newer = xs; there = cc; passes = cc; none-older = tt }
+      go false q t ih = let f = ih t in record { older = y ∷ f .older; newer = f .newer; there = ap (λ (l : List A). y ∷ l) (f .there); passes = f .passes; none-older = (q, f .none-older) }
+
+  pub those-all : (p : A → Bool) (xs : List A) → anyOf p xs ≡ false → those (λ x. not (p x)) xs ≡ xs
+  unfolding those
+  those-all p [] e = refl
+  those-all p (x ∷ xs) e = let n = neither (p x) (anyOf p xs) e in rw (n .0) (ap (λ (l : List A). x ∷ l) (those-all p xs (n .1)))
+
+-- one is taken out, one put at the end
+module _ {A : Type 0} (xs older : List A) (v : A) (newer : List A) (s : xs ≡ older ++ v ∷ newer) where
+  pub others-in : (x y : A) → List·Memᴰ x xs → (x ≡ v) ⊎ List·Memᴰ x (older ++ newer ++ (y ∷ []))
+  others-in x y m =
+      ⊎-elim (λ a. inr (Memᴰ·append-left (y ∷ []) (Memᴰ·append-left newer a)))
+      (λ b. ⊎-elim inl (λ t. inr (Memᴰ·append-left (y ∷ []) (Memᴰ·append-right older t))) (List·Memᴰ·cases-cons b))
+      (List·Memᴰ·append-cases older (rw s at m))
+
+  pub as-long : (y : A) → length (older ++ newer ++ (y ∷ [])) ≡ length xs
+  as-long y = rw s (simp length-append (omega arith))
+
+-- ---- lists of bytes
 
 -- two lists of bytes are equal exactly where the test says so
 pub equal-refl : (l : List ℕ) → equal l l ≡ true

@@ -10,3 +10,4 @@ pub mod Calls
 pub mod Diagnostics
 pub mod Image
 pub mod Sequences
+pub mod MarkedExamples
