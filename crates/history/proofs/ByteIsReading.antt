@@ -1,8 +1,7 @@
 -- For every history of an event, the status byte that the rules make is the byte read off that history, all eight bits,
 -- under what the configuration's table gives: 1 ≤ C ≤ 255, 1 ≤ H, 1 ≤ A.
 use mathlib.Core.Path.{_≡_, ap, fun-ext}
-use Prim.Native.Nat.{ℕ}
-use Rattle.history.specs.StatusByte.{Bit, byteOf, EventRecord, Limits}
+use Rattle.history.specs.StatusByte.{Bit, byteOf, Limits}
 use Rattle.history.specs.History.{History, recordAfter, reading, Allowed}
 use Rattle.history.proofs.StatusByteLaws.{each-bit}
 use Rattle.history.proofs.Results.{bit0, bit1, bit4, bit5, bit6}

@@ -2,15 +2,15 @@
 use mathlib.Core.Path.{_≡_, refl, sym, ap, _∙_}
 use mathlib.Core.Bool.{Bool, true, false, not, _&&_, _||_, cond, true≢false}
 use mathlib.Core.List.{List, [], _∷_}
-use Prim.Native.Nat.{ℕ, zero, suc, min, _≤_}
+use Prim.Native.Nat.{ℕ, suc, min, _≤_}
 use native.Mathlib.Omega.{arith}
 use lib.Dec.{leb, eqb}
 use borrow.Author.Tests.{leb-true, leb-false, le-leb, lt-leb, eq-eqb, ne-eqb, not-true}
-use Rattle.history.specs.Words.{countOf, since}
-use Rattle.history.specs.StatusByte.{confirmedDTC, warningIndicatorRequested, EventRecord, Limits, confirms}
-use Rattle.history.specs.History.{Token, passed, failed, start, stop, clear, History, recordAfter, Moment, moments, isPassed, isFailed, sinceL, sinceW, failureFree, clean, sinceCleanStop, confirming, countedForAgeing, countedForHealing, notAged, notHealed, standing, reading, Allowed}
-use Rattle.history.proofs.WordsLaws.{and-true, and-false, and-assoc, or-comm}
-use Rattle.history.proofs.Runs.{moment, healing-is, clean-cycle-is, ageing-is, failedRunsNow, K-is}
+use Rattle.history.specs.Words.{countOf}
+use Rattle.history.specs.StatusByte.{confirmedDTC, warningIndicatorRequested, Limits, confirms}
+use Rattle.history.specs.History.{passed, failed, start, stop, clear, History, recordAfter, Moment, moments, sinceL, failureFree, clean, sinceCleanStop, confirming, countedForAgeing, countedForHealing, notAged, notHealed, standing, reading, Allowed}
+use Rattle.history.proofs.WordsLaws.{and-true, and-false, and-assoc}
+use Rattle.history.proofs.Runs.{moment, healing-is, ageing-is, failedRunsNow, K-is}
 use Rattle.history.proofs.Standing.{newest, standing-newest, standing-failed, standing-stop, standing-passed, standing-start}
 
 -- ---- counts and limits
@@ -297,8 +297,8 @@ module _ (n : Limits) (a : Allowed n) where
   known-stop l k = record {
     at3 = rw (r3-stop l, ageing-is n l, k .at3, k .atg, at-A) (stop-bit3 (n .A) (agedBy l) ages (r3 l) (r3-newest l));
     atg = rw (r3-stop l, ageing-is n l, k .at3, k .atg, at-A) (stop-g (n .A) (agedBy l) ages (r3 l) (r3-newest l));
-    at7 = rw (r7-stop l, clean-cycle-is n l, ageing-is n l, k .at3, k .atg, k .at7, k .ath, at-A, at-H) (stop-bit7 (n .A) (agedBy l) (n .H) (healedBy l) ages heals (r7 l) (r3 l) (healing-ages l) (k .only) (r7-newest l));
-    ath = rw (r7-stop l, clean-cycle-is n l, ageing-is n l, k .at3, k .atg, k .at7, k .ath, at-A, at-H) (stop-h (n .A) (agedBy l) (n .H) (healedBy l) ages heals (r7 l) (r3 l) (healing-ages l) (k .only) (r7-newest l));
+    at7 = rw (r7-stop l, healing-is n l, ageing-is n l, k .at3, k .atg, k .at7, k .ath, at-A, at-H) (stop-bit7 (n .A) (agedBy l) (n .H) (healedBy l) ages heals (r7 l) (r3 l) (healing-ages l) (k .only) (r7-newest l));
+    ath = rw (r7-stop l, healing-is n l, ageing-is n l, k .at3, k .atg, k .at7, k .ath, at-A, at-H) (stop-h (n .A) (agedBy l) (n .H) (healedBy l) ages heals (r7 l) (r3 l) (healing-ages l) (k .only) (r7-newest l));
     only = rw (r7-stop l, r3-stop l) (table (r7 l) (r3 l) (not (leb (n .H) (cond heals (suc (healedBy l)) (healedBy l)))) (not (leb (n .A) (cond ages (suc (agedBy l)) (agedBy l)))) (k .only));
   }
     where

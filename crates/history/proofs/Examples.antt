@@ -1,11 +1,11 @@
 -- Document 01's examples E1 to E10 and the history of docs/HISTORY.md: the bytes that the rules make and the bytes that are read
 -- are the ones written down.
 use mathlib.Core.Path.{_≡_, refl}
-use mathlib.Core.Bool.{Bool, true, false, _&&_}
+use mathlib.Core.Bool.{Bool, true, _&&_}
 use mathlib.Core.List.{List, [], _∷_}
 use Prim.Native.Nat.{ℕ}
 use lib.Dec.{eqb}
-use Rattle.history.specs.StatusByte.{byteOf, EventRecord, Limits}
+use Rattle.history.specs.StatusByte.{byteOf, Limits}
 use Rattle.history.specs.History.{Token, passed, failed, start, stop, clear, History, recordAfter, moments, sinceL, sinceW, failureFree, clean, sinceCleanStop, confirming, confirmingWith, standing, reading}
 
 -- what happens, the oldest first, and the byte after it

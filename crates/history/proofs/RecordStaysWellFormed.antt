@@ -1,14 +1,14 @@
 -- The clauses of "well formed" on an event's record hold of the fresh record, and whatever happens to the event keeps them.
-use mathlib.Core.Path.{_≡_, refl, sym, _∙_}
-use mathlib.Core.Bool.{Bool, true, false, not, _&&_, _||_, cond}
+use mathlib.Core.Path.{_≡_, refl, _∙_}
+use mathlib.Core.Bool.{Bool, true, false, not, _&&_, cond}
 use mathlib.Core.List.{List, [], _∷_}
-use Prim.Native.Nat.{ℕ, zero, suc, min, _≤_, _<_}
+use Prim.Native.Nat.{ℕ, suc, min, _≤_, _<_}
 use native.Mathlib.Omega.{arith}
-use lib.Dec.{T, leb, ltb, eqb}
+use lib.Dec.{T, leb, eqb}
 use lib.ListN.{getD}
 use borrow.Author.Tests.{ltb-true, lt-ltb, le-leb, eqb-false}
 use Rattle.history.specs.Words.{implies, same, holds}
-use Rattle.history.specs.StatusByte.{testFailed, testFailedThisOperationCycle, pendingDTC, confirmedDTC, testNotCompletedSinceLastClear, testFailedSinceLastClear, testNotCompletedThisOperationCycle, warningIndicatorRequested, Status, EventRecord, Limits, freshRecord, onPassed, onFailed, onStart, onStop, setBits, clearBits, setBitsIf, clearBitsIf, confirms, risenK, cleanCycle, countsForHealing, countsForAgeing, heals, agesAtStop}
+use Rattle.history.specs.StatusByte.{testFailed, testFailedThisOperationCycle, pendingDTC, confirmedDTC, testNotCompletedSinceLastClear, testFailedSinceLastClear, testNotCompletedThisOperationCycle, warningIndicatorRequested, Status, EventRecord, Limits, freshRecord, onPassed, onFailed, onStart, onStop, setBits, clearBits, setBitsIf, clearBitsIf, confirms, cleanCycle, countsForHealing, countsForAgeing, heals, agesAtStop}
 use Rattle.history.specs.WellFormed.{untestedIsFresh, faultyHasFailed, failedIsPending, wellFormedRecord}
 use Rattle.history.specs.History.{Token, passed, failed, start, stop, clear, History, step, recordAfter, Allowed}
 use Rattle.history.proofs.Truth.{Law, always, truth, implied, same-eq, so, yes-so}

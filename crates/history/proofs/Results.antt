@@ -1,9 +1,8 @@
 -- The bits that no count decides: 0, 1, 4, 5 and 6 of the record are those of the reading.
 use mathlib.Core.Path.{_≡_, refl}
-use mathlib.Core.Bool.{Bool, true, false}
-use mathlib.Core.List.{List, [], _∷_}
-use Rattle.history.specs.StatusByte.{testFailed, testFailedThisOperationCycle, testNotCompletedSinceLastClear, testFailedSinceLastClear, testNotCompletedThisOperationCycle, EventRecord, Limits}
-use Rattle.history.specs.History.{Token, passed, failed, start, stop, clear, History, recordAfter, moments, sinceL, sinceW, reading}
+use mathlib.Core.List.{[], _∷_}
+use Rattle.history.specs.StatusByte.{testFailed, testFailedThisOperationCycle, testNotCompletedSinceLastClear, testFailedSinceLastClear, testNotCompletedThisOperationCycle, Limits}
+use Rattle.history.specs.History.{passed, failed, start, stop, clear, History, recordAfter, moments, sinceL, sinceW, reading}
 
 module _ (n : Limits) where
   pub bit0 : (l : History) → recordAfter n l .status testFailed ≡ reading n l testFailed

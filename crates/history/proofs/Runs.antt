@@ -2,11 +2,11 @@
 use mathlib.Core.Path.{_≡_, refl, sym, ap, ap₂, _∙_}
 use mathlib.Core.Bool.{Bool, true, false, not, _&&_, _||_, cond}
 use mathlib.Core.List.{List, [], _∷_}
-use Prim.Native.Nat.{ℕ, zero, suc, min}
+use Prim.Native.Nat.{ℕ, suc, min}
 use native.Mathlib.Omega.{arith}
-use Rattle.history.specs.Words.{anyOf, countOf, since, someWith}
-use Rattle.history.specs.StatusByte.{testFailedThisOperationCycle, pendingDTC, EventRecord, Limits, cleanCycle, countsForAgeing, countsForHealing}
-use Rattle.history.specs.History.{Token, passed, failed, start, stop, clear, History, recordAfter, Moment, moments, is, isPassed, isFailed, isResult, sinceL, sinceW, failureFree, clean, sinceCleanStop, runs, failedRuns, countedForAgeing, countedForHealing, reading}
+use Rattle.history.specs.Words.{anyOf, since, someWith}
+use Rattle.history.specs.StatusByte.{testFailedThisOperationCycle, pendingDTC, Limits, cleanCycle, countsForAgeing, countsForHealing}
+use Rattle.history.specs.History.{Token, passed, failed, start, stop, clear, History, recordAfter, Moment, moments, is, isPassed, isFailed, isResult, sinceL, sinceW, failureFree, clean, sinceCleanStop, failedRuns, countedForAgeing, countedForHealing, reading}
 use Rattle.history.proofs.WordsLaws.{and-false, someWith-cong, someWith-none, parts-other, parts-more}
 use Rattle.history.proofs.Results.{bit1, bit6}
 

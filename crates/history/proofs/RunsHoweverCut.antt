@@ -1,12 +1,12 @@
 -- On a legal history it makes no difference to what confirms whether runs are cut at their starts alone or at starts and stops:
 -- the number of runs that hold failed results is the same.
 use mathlib.Core.Path.{_≡_, refl, sym, _∙_}
-use mathlib.Core.Bool.{Bool, true, false, not, _&&_, _||_, cond}
+use mathlib.Core.Bool.{Bool, true, false, not, _||_, cond}
 use mathlib.Core.List.{List, [], _∷_}
 use Prim.Native.Nat.{ℕ}
 use lib.Dec.{T}
 use Rattle.history.specs.Words.{anyOf, countOf, since, cutAt}
-use Rattle.history.specs.History.{Token, passed, failed, start, stop, clear, History, Moment, moments, is, isFailed, failureFree, clean, sinceCleanStop, failedRuns}
+use Rattle.history.specs.History.{passed, failed, start, stop, clear, History, Moment, moments, is, isFailed, failureFree, clean, sinceCleanStop, failedRuns}
 use Rattle.history.specs.Legal.{running, legal}
 use Rattle.history.proofs.Truth.{both-left, both-right, yes-so}
 use Rattle.history.proofs.WordsLaws.{parts-other, parts-more}

@@ -4,7 +4,7 @@ use mathlib.Core.Bool.{Bool, true, false, _&&_, _||_}
 use mathlib.Core.List.{List, [], _∷_, _++_, tail}
 use Prim.Native.Nat.{ℕ}
 use Rattle.history.specs.Words.{allOf, since, someWith, cutAt}
-use Rattle.history.specs.History.{Token, passed, failed, start, stop, clear, History, Moment, moments, isFailed, sinceL, confirming, confirmingWith, standing}
+use Rattle.history.specs.History.{passed, failed, start, stop, History, Moment, moments, isFailed, sinceL, confirming, confirmingWith, standing}
 use Rattle.history.proofs.WordsLaws.{and-true, someWith-cong, someWith-and, since-front, cutAt-newest, allOf-cutAt}
 use Rattle.history.proofs.Runs.{moment}
 

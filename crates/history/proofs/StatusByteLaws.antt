@@ -1,12 +1,12 @@
 -- Laws of specs/StatusByte.antt: a byte and its bits.
-use mathlib.Core.Path.{_≡_, refl, sym, ap, _∙_, fun-ext}
-use mathlib.Core.Bool.{Bool, true, false, cond}
+use mathlib.Core.Path.{_≡_, fun-ext}
+use mathlib.Core.Bool.{Bool, cond}
 use Prim.Native.Nat.{ℕ, zero, suc, _+_, _*_, _/_, _%_, _<_}
 use native.Mathlib.Omega.{arith}
 use lib.Dec.{T, eqb}
 use Rattle.history.specs.Words.{same}
 use Rattle.history.specs.StatusByte.{Bit, testFailed, testFailedThisOperationCycle, pendingDTC, confirmedDTC, testNotCompletedSinceLastClear, testFailedSinceLastClear, testNotCompletedThisOperationCycle, warningIndicatorRequested, Status, byteOf, statusOf}
-use Rattle.history.proofs.Truth.{Row, at, always, truth, same-eq}
+use Rattle.history.proofs.Truth.{Row, always, truth, same-eq}
 
 -- eight tests as a status, and back
 abbrev pub eight : Bool → Bool → Bool → Bool → Bool → Bool → Bool → Bool → Status

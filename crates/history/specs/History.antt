@@ -1,11 +1,11 @@
 -- Document 01, "The same byte, read off the history": one event's history, the newest first, and the eight bits read off it.
 -- No status, K, h or g runs along here: each reading looks at the whole history. Assumes nothing.
-use mathlib.Core.Bool.{Bool, true, false, not, _&&_, _||_}
+use mathlib.Core.Bool.{Bool, not, _&&_, _||_}
 use mathlib.Core.List.{List, [], _∷_}
 use Prim.Native.Nat.{ℕ, _≤_}
 use lib.Dec.{leb, eqb}
 use Rattle.history.specs.Words.{anyOf, allOf, countOf, since, someWith, lastOf, cutAt}
-use Rattle.history.specs.StatusByte.{Bit, testFailed, testFailedThisOperationCycle, pendingDTC, confirmedDTC, testNotCompletedSinceLastClear, testFailedSinceLastClear, testNotCompletedThisOperationCycle, warningIndicatorRequested, Status, EventRecord, Limits, freshRecord, onPassed, onFailed, onStart, onStop, onClear}
+use Rattle.history.specs.StatusByte.{testFailed, testFailedThisOperationCycle, pendingDTC, confirmedDTC, testNotCompletedSinceLastClear, testFailedSinceLastClear, testNotCompletedThisOperationCycle, warningIndicatorRequested, Status, EventRecord, Limits, freshRecord, onPassed, onFailed, onStart, onStop, onClear}
 
 -- An event's history is all its qualified results, its cycle's starts and stops, and its clears since the fresh state, the newest
 -- first; a token is one of these.

@@ -1,8 +1,8 @@
 -- Document 01, "Status byte": an event's record, and what each thing that happens to the event does to it.
 -- Assumes nothing.
-use mathlib.Core.Bool.{Bool, true, false, not, _&&_, _||_, cond}
+use mathlib.Core.Bool.{Bool, false, not, _&&_, _||_, cond}
 use mathlib.Core.List.{List, [], _∷_}
-use Prim.Native.Nat.{ℕ, zero, suc, _+_, _/_, _%_, min}
+use Prim.Native.Nat.{ℕ, suc, _+_, _/_, _%_, min}
 use lib.Dec.{eqb, leb}
 
 -- "The eight bits have the names and weights of ISO 14229-1."

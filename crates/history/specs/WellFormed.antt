@@ -1,7 +1,7 @@
 -- Document 01, "A state is well formed when …, and for each event: …": what it asks of the event's record, a line for each clause.
 -- Assumes nothing.
 use mathlib.Core.Bool.{Bool, not, _&&_, _||_}
-use mathlib.Core.List.{List, [], _∷_}
+use mathlib.Core.List.{[], _∷_}
 use lib.Dec.{eqb, leb, ltb}
 use Rattle.history.specs.Words.{implies, same, holds}
 use Rattle.history.specs.StatusByte.{testFailed, testFailedThisOperationCycle, pendingDTC, confirmedDTC, testNotCompletedSinceLastClear, testFailedSinceLastClear, testNotCompletedThisOperationCycle, warningIndicatorRequested, Status, byteOf, EventRecord, Limits}

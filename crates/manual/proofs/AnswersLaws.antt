@@ -1,9 +1,9 @@
 -- Laws of specs/Answers.antt: what an accepted call tells, and what a refused one leaves.
-use mathlib.Core.Path.{_≡_, refl, sym, ap, subst, _∙_}
+use mathlib.Core.Path.{_≡_, refl, sym}
 use mathlib.Core.Logic.{_≢_}
 use mathlib.Core.Bool.{Bool, true, false, not, _&&_, cond}
-use mathlib.Core.List.{List, [], _∷_, _++_}
-use Prim.Native.Nat.{ℕ, zero, suc, _<_}
+use mathlib.Core.List.{List, [], _∷_}
+use Prim.Native.Nat.{ℕ, zero, suc}
 use native.Mathlib.Omega.{arith}
 use lib.Dec.{eqb, ltb}
 use borrow.Author.Tests.{eqb-true, eqb-false, ltb-true, not-true}
@@ -11,7 +11,6 @@ use Rattle.history.specs.Words.{allOf}
 use Rattle.history.proofs.WordsLaws.{and-left, and-right}
 use Rattle.manual.specs.State.{State}
 use Rattle.manual.specs.Answers.{Outcome, refused, Rule, firstThatApplies, judged}
-use Rattle.manual.proofs.WordsLaws.{clash}
 
 -- the test of rule i
 abbrev pub appliesAt : List Rule → ℕ → Bool
@@ -70,12 +69,3 @@ module _ (rules : List Rule) (room : List ℕ) (s : State) (o : Outcome) where
       go : (b : Bool) → cond b o (refused (firstThatApplies rules) room s) .answer ≢ 0 → cond b o (refused (firstThatApplies rules) room s) ≡ refused (firstThatApplies rules) room s
       go true n = absurd (n z)
       go false n = refl
-
-  -- so what holds of the state before, and of the state after where the call was accepted, holds of the state after
-  pub judged-keeps : (P : State → Type 0) → P s → (firstThatApplies rules ≡ 0 → P (o .state)) → P (judged rules room s o .state)
-  unfolding judged
-  judged-keeps P p f = go (eqb (firstThatApplies rules) 0) refl
-    where
-      go : (b : Bool) → eqb (firstThatApplies rules) 0 ≡ b → P (cond b o (refused (firstThatApplies rules) room s) .state)
-      go true e = f (eqb-true (firstThatApplies rules) 0 e)
-      go false e = p

@@ -2,34 +2,30 @@
 -- formed, so no call is refused with 2 or 3; memory lists no event twice; and for every event e below n the byte at 4e of the records
 -- is the byte read off that event's history, all eight bits.
 use mathlib.Core.Path.{_≡_, refl, sym, ap, subst, _∙_}
-use mathlib.Core.Logic.{_≢_, _⊎_, inl, inr}
-use mathlib.Core.Bool.{Bool, true, false, not, _&&_, cond}
+use mathlib.Core.Logic.{_≢_}
+use mathlib.Core.Bool.{Bool, true, not}
 use mathlib.Core.List.{List, [], _∷_, _++_}
 use Prim.Native.Nat.{ℕ, _*_, _<_}
 use native.Mathlib.Omega.{arith}
-use lib.ListN.{length, getD, set, length-set}
-use lib.IntN.{pos}
-use borrow.Author.Tests.{not-false, eqb-true}
-use Rattle.history.specs.StatusByte.{Bit, statusOf, byteOf, EventRecord}
-use Rattle.history.specs.History.{History, recordAfter, reading}
+use lib.ListN.{length, getD, length-set}
+use borrow.Author.Tests.{not-false}
+use Rattle.history.specs.StatusByte.{Bit, statusOf, byteOf}
+use Rattle.history.specs.History.{reading}
 use Rattle.history.proofs.StatusByteLaws.{status-of-byte}
 use Rattle.history.proofs.ByteIsReading.{byte-is-reading}
-use Rattle.history.proofs.WordsLaws.{and-left, and-right}
-use Rattle.manual.specs.declared.Board.{Board}
 use Rattle.manual.specs.Configuration.{Configuration, events, limitsOf, configOk}
-use Rattle.manual.specs.State.{State, Stored, recordWidth, storedAt, statusByte, recordOf}
-use Rattle.manual.specs.Answers.{Outcome, done, Rule, _if_, firstThatApplies}
+use Rattle.manual.specs.State.{State, Stored, recordWidth, storedAt}
+use Rattle.manual.specs.Answers.{Outcome, Rule, _if_, firstThatApplies}
 use Rattle.manual.specs.Memory.{noTwice}
-use Rattle.manual.specs.WellFormed.{lengthsFit, entries, wellFormed}
-use Rattle.manual.specs.OneEvent.{forThose}
+use Rattle.manual.specs.WellFormed.{entries, wellFormed}
 use Rattle.manual.specs.Calls.{freshRules, fresh, freshState, reportRules, tickRules, startRules, stopRules, clearRules, readStatusRules, readFrameRules, cleared}
 use Rattle.manual.specs.Image.{save, restore, saveRules, restoreRules}
 use Rattle.manual.specs.Diagnostics.{requestRules}
 use Rattle.manual.specs.Debouncing.{reported, ticked}
-use Rattle.manual.specs.Sequences.{Call, Fresh, Report, Tick, Start, Stop, Clear, ReadStatus, ReadFrame, Save, Restore, Request, beginsAnew, outcome, written, tokensAt, goesOn, Reached, begun, called, restored}
+use Rattle.manual.specs.Sequences.{Call, Fresh, Report, Tick, Start, Stop, Clear, ReadStatus, ReadFrame, Save, Restore, Request, outcome, written, tokensAt, goesOn, Reached, begun, called, restored}
 use Rattle.manual.proofs.AnswersLaws.{none-applies, accepted, lacks, never-given}
 use Rattle.manual.proofs.ConfigurationLaws.{config-tells}
-use Rattle.manual.proofs.WellFormedLaws.{StateTells, state-tells, well-formed-lengths}
+use Rattle.manual.proofs.WellFormedLaws.{state-tells, well-formed-lengths}
 use Rattle.manual.proofs.OneEventLaws.{those-running, acts-happens, acts-stops, acts-clears, acts-applied}
 use Rattle.manual.proofs.SequencesLaws.{Histories, KeptWhenAccepted, call-keeps}
 use Rattle.manual.proofs.RecordsFollowHistories.{Follows, call-follows, fresh-follows}

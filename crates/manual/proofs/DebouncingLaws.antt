@@ -1,5 +1,5 @@
 -- The debounce number D stays where a well-formed state has it.
-use mathlib.Core.Path.{_≡_, refl}
+use mathlib.Core.Path.{_≡_, refl, subst}
 use mathlib.Core.Logic.{⊎-elim}
 use mathlib.Core.Bool.{Bool, true, false, not, _&&_, _||_, cond}
 use Prim.Native.Nat.{ℕ}
@@ -9,7 +9,7 @@ use lib.IntN.{ℤ, pos, _+ℤ_, _-ℤ_}
 use lib.Signed.{leZ, ltZ}
 use borrow.Author.Tests.{eqb-true}
 use Rattle.manual.specs.declared.Board.{Board}
-use Rattle.manual.specs.Words.{between, smaller, larger}
+use Rattle.manual.specs.Words.{between, eqZ, smaller, larger}
 use Rattle.manual.specs.Configuration.{Configuration, cycleOf, kindOf, isInternal, isTime, lowOf, highOf, upOf, downOf}
 use Rattle.manual.specs.State.{runs}
 use Rattle.manual.specs.Debouncing.{Debounced, top, bottom, codePassed, codeFailed, codePreFailed, leavesAt, jumpUp, jumpDown, counterUp, counterDown, counterReport, timeReport, internalReport, reported, ticked}
@@ -109,6 +109,19 @@ module _ (cfg : Configuration) (e : ℕ) where
 
 -- ---- as a well-formed state says it
 
+module _ (cfg : Configuration) where
+  -- the clause, by whether the event's cycle runs
+  abbrev asked : ℕ → ℤ → Bool → Bool
+  asked e d runs = cond (not runs || isInternal cfg e) (eqZ d (pos 0)) (between (bottom cfg e) (top cfg e) d)
+
+  pub stopped-zero : (b : Board) (e : ℕ) (d : ℤ) → runs b (cycleOf cfg e) ≡ false → DOk cfg b e d ≡ true → d ≡ pos 0
+  unfolding DOk
+  stopped-zero b e d r h = eqZ-true d (pos 0) (subst (λ (x : Bool). asked e d x ≡ true) r h)
+
+  pub DOk-by-running : (b b′ : Board) (e : ℕ) (d : ℤ) → runs b (cycleOf cfg e) ≡ runs b′ (cycleOf cfg e) → DOk cfg b e d ≡ true → DOk cfg b′ e d ≡ true
+  unfolding DOk
+  DOk-by-running b b′ e d r h = subst (λ (x : Bool). asked e d x ≡ true) r h
+
 module _ (cfg : Configuration) (b : Board) (e : ℕ) where
   -- a step of an event whose cycle runs
   step-ok : (d d′ : ℤ) → runs b (cycleOf cfg e) ≡ true → (isInternal cfg e ≡ true → d′ ≡ d) → (isInternal cfg e ≡ false → InEnds cfg e d → InEnds cfg e d′) → DOk cfg b e d ≡ true → DOk cfg b e d′ ≡ true
@@ -136,12 +149,3 @@ module _ (cfg : Configuration) (b : Board) (e : ℕ) where
 
       pub tick-ok : isTime cfg e ≡ true → (ms : ℕ) (d : ℤ) → DOk cfg b e d ≡ true → DOk cfg b e (ticked cfg e ms d .number) ≡ true
       tick-ok t ms d = step-ok d (ticked cfg e ms d .number) r (λ k. absurd (omega (arith, eqb-true))) (λ k. ticked-in cfg e ms d)
-
-module _ (cfg : Configuration) where
-  pub stopped-zero : (b : Board) (e : ℕ) (d : ℤ) → runs b (cycleOf cfg e) ≡ false → DOk cfg b e d ≡ true → d ≡ pos 0
-  unfolding DOk
-  stopped-zero b e d r h = eqZ-true d (pos 0) (rw r at h)
-
-  pub DOk-by-running : (b b′ : Board) (e : ℕ) (d : ℤ) → runs b (cycleOf cfg e) ≡ runs b′ (cycleOf cfg e) → DOk cfg b e d ≡ true → DOk cfg b′ e d ≡ true
-  unfolding DOk
-  DOk-by-running b b′ e d r h = rw r at h

@@ -1,27 +1,24 @@
 -- The definitions make E1 to E12 of document 01, and its image of a fresh state and its diagnostic reply.
 use mathlib.Core.Path.{_≡_, refl}
-use mathlib.Core.Bool.{Bool, true, false, _&&_}
+use mathlib.Core.Bool.{true, false}
 use mathlib.Core.List.{List, [], _∷_, _++_}
-use Prim.Native.Nat.{ℕ, zero, suc, _+_, _*_}
-use lib.Dec.{eqb}
-use lib.ListN.{length, getD, replicate}
-use lib.IntN.{ℤ, pos, negsuc}
+use Prim.Native.Nat.{ℕ}
+use lib.ListN.{replicate}
+use lib.IntN.{ℤ, pos}
 use Rattle.history.specs.Words.{holds}
 use Rattle.history.specs.WellFormed.{wellFormedRecord}
-use Rattle.manual.specs.declared.Board.{Board}
-use Rattle.manual.specs.Words.{allBelow, countBelow, forBelow, joinBelow, firstOf, those, equal, eqZ, between, smaller, larger}
+use Rattle.manual.specs.Words.{allBelow, forBelow, joinBelow, firstOf, those, equal, between, smaller, larger}
 use Rattle.manual.specs.Configuration.{Configuration, events, places, frameBytes, column, rowOk, configOk}
-use Rattle.manual.specs.State.{State, Stored, storedAt, withStored, statusByte, D, allStopped}
+use Rattle.manual.specs.State.{State, storedAt, withStored, allStopped}
 use Rattle.manual.specs.WellFormed.{lengthsFit, DOk, memoryOk, wellFormed}
 use Rattle.manual.specs.Answers as Answers
-use Rattle.manual.specs.Answers.{Outcome, firstThatApplies}
+use Rattle.manual.specs.Answers.{firstThatApplies}
 use Rattle.manual.specs.Debouncing.{top, bottom, verdictAt, leavesAt, internalReport, counterUp, counterDown, counterReport, timeReport, reported, ticked}
 use Rattle.manual.specs.OneEvent.{happens, entryLeaves, keeps, memoryTold, fails, stops, clears, forThose}
-use Rattle.manual.specs.Memory.{memoryLength, entriesFrom, entriesOf, entriesBytes, memoryOf, without, noTwice, victim, displaced, admitted, renewed, store}
+use Rattle.manual.specs.Memory.{entriesFrom, entriesOf, entriesBytes, memoryOf, without, noTwice, victim, displaced, admitted, renewed, store}
 use Rattle.manual.specs.Calls.{freshRecords, freshState, freshRules, fresh, reportRules, applied, report, tickRules, tick, startRules, startCycle, stopRules, stopCycle}
-use Rattle.manual.specs.Image.{imageFrom, imageOf, stateOf, acceptable, saveRules, save, restoreRules, restore}
+use Rattle.manual.specs.Image.{imageFrom, imageOf, stateOf, acceptable, restoreRules, restore}
 use Rattle.manual.specs.Diagnostics.{fitted, lines, listByMask, subFunctionReply, service19, servedBy, sent, requestRules, requestReply}
-use Rattle.manual.specs.Sequences.{Call, Report, Tick, Start, Stop, outcome}
 use Rattle.manual.specs.MarkedExamples.{blank, noEntry, table, holdsOf}
 
 pub e1-to-e12 : holdsOf table ≡ true

@@ -1,21 +1,18 @@
 -- E1 to E10 of document 01 are one sequence of calls: from the fresh state, with the history that event 0 then has, whose reading is
 -- the last example's 60h.
 use mathlib.Core.Path.{_≡_, refl}
-use mathlib.Core.Bool.{Bool, true, false, _&&_}
+use mathlib.Core.Bool.{Bool, true, _&&_}
 use mathlib.Core.List.{List, [], _∷_, _++_}
-use Prim.Native.Nat.{ℕ, _<_}
-use lib.Dec.{lit<}
 use Rattle.history.specs.Words.{holds}
-use Rattle.history.specs.StatusByte.{byteOf}
 use Rattle.history.specs.WellFormed.{wellFormedRecord}
-use Rattle.history.specs.History.{Token, passed, failed, start, stop, History, reading}
+use Rattle.history.specs.History.{passed, failed, start, stop, History}
 use Rattle.history.proofs.WordsLaws.{and-left, and-right}
 use Rattle.manual.specs.Words.{allBelow, forBelow, firstOf, those, equal, between, smaller, larger}
-use Rattle.manual.specs.Configuration.{Configuration, events, places, frameBytes, column, limitsOf, rowOk, configOk}
+use Rattle.manual.specs.Configuration.{Configuration, events, places, frameBytes, column, rowOk, configOk}
 use Rattle.manual.specs.State.{State, storedAt, withStored, statusByte}
 use Rattle.manual.specs.WellFormed.{lengthsFit, DOk, memoryOk, wellFormed}
 use Rattle.manual.specs.Answers as Answers
-use Rattle.manual.specs.Answers.{Outcome, firstThatApplies}
+use Rattle.manual.specs.Answers.{firstThatApplies}
 use Rattle.manual.specs.Debouncing.{top, bottom, verdictAt, leavesAt, internalReport, counterUp, counterDown, counterReport, timeReport, reported, ticked}
 use Rattle.manual.specs.OneEvent.{happens, entryLeaves, keeps, memoryTold, fails, stops, clears, forThose}
 use Rattle.manual.specs.Memory.{entriesFrom, entriesOf, entriesBytes, memoryOf, without, noTwice, victim, displaced, admitted, renewed, store}
@@ -23,7 +20,6 @@ use Rattle.manual.specs.Calls.{freshRecords, freshState, freshRules, fre
 use Rattle.manual.specs.Sequences.{Call, Report, Start, Stop, outcome, tokens, tokensAt, goesOn, Reached, begun, called}
 use Rattle.manual.proofs.SequencesLaws.{Histories}
 use Rattle.manual.specs.MarkedExamples.{marked, blank}
-use Rattle.manual.proofs.ByteIsReadingInEverySequence.{byte-is-reading-in-sequence}
 
 module _ (cfg : Configuration) where
   -- calls one after the other, the oldest first: the state after them, the histories, and that each of them goes on

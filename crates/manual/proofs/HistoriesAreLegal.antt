@@ -2,32 +2,29 @@
 -- and the run goes on exactly where the board says that the cycle runs. So "a run goes from a start to its stop" and the reading's
 -- runs count the same.
 use mathlib.Core.Path.{_≡_, refl, sym, ap, subst, _∙_}
-use mathlib.Core.Bool.{Bool, true, false, not, _&&_, cond}
+use mathlib.Core.Bool.{Bool, true, false, not, _&&_}
 use mathlib.Core.List.{List, [], _∷_, _++_}
 use Prim.Native.Nat.{ℕ, zero, suc, _<_}
 use native.Mathlib.Omega.{arith}
-use lib.Dec.{T, eqb, ltb}
+use lib.Dec.{T, eqb}
 use lib.ListN.{length, getD, set, length-set}
 use lib.Seq.{getD-set-same, getD-set-other}
-use borrow.Author.Tests.{eqb-true, eqb-false, leb-false, ltb-false, not-false}
-use Rattle.history.specs.History.{Token, passed, failed, start, stop, clear, History, sinceCleanStop, failedRuns}
+use borrow.Author.Tests.{eqb-true, eqb-false, ltb-false, not-false}
+use Rattle.history.specs.History.{Token, start, stop, clear, History, sinceCleanStop, failedRuns}
 use Rattle.history.specs.Legal.{running, legal}
 use Rattle.history.proofs.RunsHoweverCut.{failedRunsByEdges, runs-however-cut}
 use Rattle.history.proofs.WordsLaws.{and-right}
-use Rattle.manual.specs.declared.Board.{Board}
 use Rattle.manual.specs.declared.Verdict.{Verdict}
 use Rattle.manual.specs.declared.Verdict.the-variants.{None, Passed, Failed}
 use Rattle.manual.specs.Configuration.{Configuration, events, cycleOf, isTime}
 use Rattle.manual.specs.State.{State, runs, allStopped, D}
 use Rattle.manual.specs.Answers.{Outcome, firstThatApplies}
 use Rattle.manual.specs.Debouncing.{reported, ticked}
-use Rattle.manual.specs.OneEvent.{happens, stops, clears, forThose}
-use Rattle.manual.specs.Calls.{freshState, freshRules, fresh, cycleRuns, reportRules, tickRules, timeRuns, ofCycle, startRules, stopRules, covers, cleared}
-use Rattle.manual.specs.Sequences.{result, onlyIf, gives, Report, Tick, Start, Stop, Clear, Reached, begun, called, restored}
-use Rattle.manual.proofs.WordsLaws.{clash}
+use Rattle.manual.specs.Calls.{freshState, fresh, cycleRuns, reportRules, timeRuns, ofCycle, startRules, stopRules, covers, cleared}
+use Rattle.manual.specs.Sequences.{result, onlyIf, Report, Tick, Reached, begun, called, restored}
 use Rattle.manual.proofs.AnswersLaws.{none-applies, accepted}
 use Rattle.manual.proofs.WellFormedLaws.{well-formed-lengths}
-use Rattle.manual.proofs.OneEventLaws.{Acts, those-running, acts-happens, acts-stops, acts-clears, acts-applied}
+use Rattle.manual.proofs.OneEventLaws.{those-running, acts-happens, acts-stops, acts-clears, acts-applied}
 use Rattle.manual.proofs.SequencesLaws.{Histories, given, KeptWhenAccepted, call-keeps}
 use Rattle.manual.proofs.RestoreAfterSave.{restore-after-save}
 use Rattle.manual.proofs.ByteIsReadingInEverySequence.{config-accepted, well-formed, four-cycles}

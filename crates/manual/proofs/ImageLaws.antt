@@ -1,21 +1,20 @@
 -- Laws of specs/Image.antt: the image of a well-formed state with all cycles stopped tells that state, whatever follows the image.
 use mathlib.Core.Path.{_≡_, refl, sym, ap, subst, _∙_}
-use mathlib.Core.Bool.{Bool, true, false, not, _&&_, _||_, cond}
+use mathlib.Core.Bool.{Bool, true, false, cond}
 use mathlib.Core.List.{List, [], _∷_, _++_, append-assoc, append-nil}
-use Prim.Native.Nat.{ℕ, zero, suc, _+_, _-_, _*_, _≤_, _<_}
+use Prim.Native.Nat.{ℕ, zero, suc, _-_, _*_, _<_}
 use native.Mathlib.Omega.{arith}
 use lib.Dec.{eqb}
 use lib.ListN.{length, getD, take, drop, replicate, length-replicate, getD-replicate, List·getD-append}
 use lib.Seq.{take-at, drop-at, drop-drop, ext-getD, getD-take}
-use lib.IntN.{ℤ, pos}
+use lib.IntN.{pos}
 use Rattle.history.specs.Words.{anyOf}
-use Rattle.manual.specs.declared.Board.{Board}
 use Rattle.manual.specs.Words.{equal}
 use Rattle.manual.specs.Configuration.{Configuration, events, places, frameBytes, cycleOf}
-use Rattle.manual.specs.State.{State, runs, allStopped, recordWidth, D}
+use Rattle.manual.specs.State.{State, allStopped, recordWidth, D}
 use Rattle.manual.specs.Memory.{entryWidth, entryCount, bytesInUse}
 use Rattle.manual.specs.WellFormed.{wellFormed}
-use Rattle.manual.specs.Image.{headerLength, imageFrom, memoryBody, overflowBody, imageOf, recordsOf, afterRecords, usedIn, stateOf, acceptable, anyRuns}
+use Rattle.manual.specs.Image.{headerLength, imageFrom, memoryBody, overflowBody, imageOf, recordsOf, afterRecords, stateOf, acceptable, anyRuns}
 use Rattle.history.proofs.WordsLaws.{both}
 use Rattle.manual.proofs.WordsLaws.{clash, equal-refl}
 use Rattle.manual.proofs.DebouncingLaws.{stopped-zero}

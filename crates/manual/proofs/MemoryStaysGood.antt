@@ -1,9 +1,9 @@
 -- What each step of a call keeps of the memory block: it is the block of its entries, and these are in order.
 use mathlib.Core.Path.{_≡_, refl, sym, ap, subst, _∙_}
 use mathlib.Core.Logic.{_≢_}
-use mathlib.Core.Bool.{Bool, true, false, not, _&&_, _||_, cond}
-use mathlib.Core.List.{List, [], _∷_, _++_}
-use Prim.Native.Nat.{ℕ, _≤_, _<_}
+use mathlib.Core.Bool.{Bool, true, false, cond}
+use mathlib.Core.List.{List}
+use Prim.Native.Nat.{ℕ, _<_}
 use native.Mathlib.Nat.{le-refl}
 use lib.Dec.{eqb}
 use lib.ListN.{length}
@@ -11,21 +11,19 @@ use lib.IntN.{ℤ, pos}
 use borrow.Author.Tests.{eqb-true, eqb-false}
 use Rattle.history.specs.StatusByte.{testFailedSinceLastClear, EventRecord, Limits, freshFailure, agesAtStop}
 use Rattle.history.specs.History.{Token, passed, failed, start, stop, clear, step}
-use Rattle.manual.specs.declared.Board.{Board}
 use Rattle.manual.specs.declared.Verdict.{Verdict}
 use Rattle.manual.specs.declared.Verdict.the-variants.{None, Passed, Failed}
-use Rattle.manual.specs.Words.{forBelow}
 use Rattle.manual.specs.Configuration.{Configuration, events, places, frameBytes, priorityOf, limitsOf}
-use Rattle.manual.specs.State.{State, Stored, opened, recordOf, D, withD}
+use Rattle.manual.specs.State.{State, opened, recordOf, withD}
 use Rattle.manual.specs.Debouncing.{Debounced}
-use Rattle.manual.specs.Memory.{Entry, entriesOf, memoryOf, without, store}
+use Rattle.manual.specs.Memory.{Entry, memoryOf, without, store}
 use Rattle.manual.specs.WellFormed.{entries}
 use Rattle.manual.specs.OneEvent.{happens, withEntries, entryLeaves, isQuiet, keeps, memoryTold, fails, qualifies, stops, clears, forThose}
 use Rattle.manual.specs.Calls.{applied}
 use Rattle.manual.proofs.WordsLaws.{by, for-below-keeps}
 use Rattle.manual.proofs.StateLaws.{opened-stored}
 use Rattle.manual.proofs.MemoryLaws.{Good, frames, memory-entries, good-bits, good-without, good-store}
-use Rattle.manual.proofs.OneEventLaws.{View, view, Sized, acts-happens, acts-D}
+use Rattle.manual.proofs.OneEventLaws.{View, Sized, acts-happens, acts-D}
 
 module _ (cfg : Configuration) where
   -- bit 5 of each event
@@ -84,27 +82,23 @@ module _ (cfg : Configuration) where
 
   -- ---- its entry leaves
 
-  good-leaves : (k : ℕ) (s : State) → MemoryGood s → MemoryGood (entryLeaves cfg k s)
+  -- the bit of its event is asked no more, whatever has become of it
+  good-leaves : (B : ℕ → Bool) (k : ℕ) (s : State) → Sized cfg s → Good (events cfg) (places cfg) (frameBytes cfg) B (entries cfg s)
+      → ((e : ℕ) → e < events cfg → e ≢ k → B e ≡ true → hasFailedBit s e ≡ true) → MemoryGood (entryLeaves cfg k s)
   unfolding entryLeaves
-  good-leaves k s m =
-      made-good s (without k (entries cfg s)) (m .sized)
-      (good-without (events cfg) (places cfg) (frameBytes cfg) (hasFailedBit s) (hasFailedBit s) k (entries cfg s) (λ e p d q. q) (m .good))
+  good-leaves B k s z g f = made-good s (without k (entries cfg s)) z (good-without (events cfg) (places cfg) (frameBytes cfg) B (hasFailedBit s) k (entries cfg s) f g)
 
   pub good-clears : (k : ℕ) (s : State) → k < events cfg → MemoryGood s → MemoryGood (clears cfg k s)
-  unfolding clears entryLeaves happens
+  unfolding clears happens
   good-clears k s h m =
-      good-D k (pos 0) (entryLeaves cfg k s′)
-      (made-good s′ (without k (entries cfg s)) (acts-happens cfg clear .sized k s (m .sized))
-      (good-without (events cfg) (places cfg) (frameBytes cfg) (hasFailedBit s) (hasFailedBit s′) k (entries cfg s) (λ e p d q. bit-other clear k e s d ∙ q) (m .good)))
-    where
-      s′ : State
-      s′ = happens cfg clear k s
+      good-D k (pos 0) _
+      (good-leaves (hasFailedBit s) k (happens cfg clear k s) (acts-happens cfg clear .sized k s (m .sized)) (m .good) (λ e p d q. bit-other clear k e s d ∙ q))
 
   pub good-stops : (k : ℕ) (s : State) → k < events cfg → MemoryGood s → MemoryGood (stops cfg k s)
   unfolding stops
   good-stops k s h m =
       good-D k (pos 0) _
-      (by (agesAtStop (limitsOf cfg k) (recordOf s k)) MemoryGood (λ q. good-leaves k (happens cfg stop k s) stopped) (λ q. stopped))
+      (by (agesAtStop (limitsOf cfg k) (recordOf s k)) MemoryGood (λ q. good-leaves _ k (happens cfg stop k s) (stopped .sized) (stopped .good) (λ e p d q. q)) (λ q. stopped))
     where
       stopped : MemoryGood (happens cfg stop k s)
       stopped = good-happens stop (λ n r e. e) k s h m

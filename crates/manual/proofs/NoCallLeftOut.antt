@@ -1,18 +1,16 @@
 -- No call is left out of the sequences: from a state that calls lead to, any of the eleven calls with any arguments leads to such a
 -- state again, with the tokens that it gave; but for an accepted fresh, with which a sequence begins, and an accepted restore, which
 -- leads on where the image was saved in the sequence.
-use mathlib.Core.Path.{_≡_, refl, sym, subst}
+use mathlib.Core.Path.{_≡_, refl, sym}
 use mathlib.Core.Logic.{_⊎_, inl, inr}
-use mathlib.Core.Bool.{Bool, true, false, not, _&&_}
-use mathlib.Core.List.{List, [], _∷_, _++_}
+use mathlib.Core.Bool.{Bool, true, false, _&&_}
+use mathlib.Core.List.{List, _++_}
 use Prim.Native.Nat.{ℕ}
 use lib.Dec.{eqb}
 use borrow.Author.Tests.{eqb-true, not-false}
-use Rattle.history.specs.History.{History}
 use Rattle.history.proofs.WordsLaws.{and-left, and-right}
 use Rattle.manual.specs.Configuration.{Configuration}
 use Rattle.manual.specs.State.{State}
-use Rattle.manual.specs.Answers.{Outcome}
 use Rattle.manual.specs.Calls.{fresh}
 use Rattle.manual.specs.Image.{restore}
 use Rattle.manual.specs.Sequences.{Call, Fresh, Report, Tick, Start, Stop, Clear, ReadStatus, ReadFrame, Save, Restore, Request, beginsAnew, outcome, tokensAt, goesOn, Reached, called}

@@ -1,18 +1,17 @@
 -- Restoring the bytes that save wrote gives the saved state, every block and the board, whatever state of fitting lengths it is
 -- restored into.
-use mathlib.Core.Path.{_≡_, refl, sym, ap, subst, _∙_}
-use mathlib.Core.Bool.{Bool, true, false, not}
+use mathlib.Core.Path.{_≡_, refl, ap, _∙_}
+use mathlib.Core.Bool.{Bool, true, not}
 use mathlib.Core.List.{List, [], _∷_}
 use Prim.Native.Nat.{ℕ}
 use lib.ListN.{length}
 use lib.Seq.{take-at}
 use borrow.Author.Tests.{not-false}
-use Rattle.manual.specs.declared.Board.{Board}
 use Rattle.manual.specs.Configuration.{Configuration, configOk}
 use Rattle.manual.specs.State.{State}
-use Rattle.manual.specs.Answers.{Outcome, done, firstThatApplies, _if_}
+use Rattle.manual.specs.Answers.{done, firstThatApplies, _if_}
 use Rattle.manual.specs.WellFormed.{lengthsFit, wellFormed}
-use Rattle.manual.specs.Image.{imageOf, stateOf, acceptable, saveRules, saved, save, restoreRules, restore}
+use Rattle.manual.specs.Image.{imageOf, stateOf, acceptable, saveRules, save, restoreRules, restore}
 use Rattle.manual.specs.Sequences.{written}
 use Rattle.manual.proofs.AnswersLaws.{none-applies, accepted, goes-through}
 use Rattle.manual.proofs.ImageLaws.{Still, state-of-own-image, own-image-acceptable}

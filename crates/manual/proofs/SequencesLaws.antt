@@ -6,7 +6,7 @@ use Prim.Native.Nat.{ℕ}
 use lib.Dec.{eqb}
 use lib.ListN.{length, getD}
 use borrow.Author.Tests.{eqb-true, not-true}
-use Rattle.history.specs.History.{Token, start, stop, clear, History}
+use Rattle.history.specs.History.{start, stop, clear, History}
 use Rattle.manual.specs.Words.{threeAt}
 use Rattle.manual.specs.Configuration.{Configuration}
 use Rattle.manual.specs.State.{State, D, withCycle}
@@ -14,7 +14,7 @@ use Rattle.manual.specs.Answers.{Outcome, refused, Rule, firstThatApplie
 use Rattle.manual.specs.OneEvent.{happens, stops, forThose}
 use Rattle.manual.specs.Calls.{fresh, reportRules, applied, debouncedBy, report, tickRules, timeRuns, ticks, tick, ofCycle, startRules, startCycle, stopRules, stopCycle, covers, unknownCode, cleared, clearRules, clearCode, readStatus, readFrame}
 use Rattle.manual.specs.Image.{save, restore}
-use Rattle.manual.specs.Diagnostics.{Reply, positive, negative, Served, served, service14, servedBy, sent, requestRules, requestReply}
+use Rattle.manual.specs.Diagnostics.{positive, negative, Served, served, service14, servedBy, sent, requestRules, requestReply}
 use Rattle.manual.specs.Sequences.{Call, Fresh, Report, Tick, Start, Stop, Clear, ReadStatus, ReadFrame, Save, Restore, Request, onlyIf, outcome, gives, tokens, tokensAt, goesOn}
 use Rattle.manual.proofs.WordsLaws.{clash, by}
 use Rattle.manual.proofs.AnswersLaws.{none-applies, goes-through}
@@ -45,11 +45,6 @@ module _ (cfg : Configuration) where
   -- the histories after what call c gives on state s
   abbrev pub given : Call → State → Histories → Histories
   given c s H e = gives cfg c (s .board) e (D s e) ++ H e
-
-  -- service 19 changes nothing
-  pub request-state : (bytes : List ℕ) (room : ℕ) (s : State) → getD bytes 0 0 ≡ 0x19 → servedBy cfg bytes room s .state ≡ s
-  unfolding servedBy
-  request-state bytes room s h = rw h
 
   -- service 14 clears a known code, and nothing else changes the state
   pub reply-keeps : (Q : State → Histories → Type 0) (bytes room : List ℕ) (s : State) (H : Histories) → Q s H

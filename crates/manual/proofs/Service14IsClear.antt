@@ -1,20 +1,16 @@
 -- Service 14 of a diagnostic request has the effect and the tokens of the clear call, wherever both are accepted.
 use mathlib.Core.Path.{_≡_, refl, sym, ap, _∙_}
-use mathlib.Core.Bool.{Bool, true, false, not, _&&_, cond}
-use mathlib.Core.List.{List, [], _∷_, _++_}
+use mathlib.Core.Bool.{false}
+use mathlib.Core.List.{List, [], _∷_}
 use Prim.Native.Nat.{ℕ, _<_}
 use native.Mathlib.Omega.{arith}
-use lib.Dec.{eqb}
 use lib.ListN.{length, getD}
-use lib.IntN.{ℤ, pos}
-use borrow.Author.Tests.{eq-eqb}
-use Rattle.history.specs.History.{Token, clear}
 use Rattle.manual.specs.Words.{three, threeAt}
 use Rattle.manual.specs.Configuration.{Configuration}
 use Rattle.manual.specs.State.{State}
 use Rattle.manual.specs.Answers.{Outcome}
-use Rattle.manual.specs.Calls.{covers, unknownCode, cleared, clearRules, clearCode}
-use Rattle.manual.specs.Diagnostics.{Served, service14, servedBy, sent, requestReply}
+use Rattle.manual.specs.Calls.{unknownCode, cleared, clearRules, clearCode}
+use Rattle.manual.specs.Diagnostics.{service14, servedBy, sent, requestReply}
 use Rattle.manual.specs.Sequences.{Clear, Request, tokens, tokensAt}
 use Rattle.manual.proofs.AnswersLaws.{none-applies, accepted}
 

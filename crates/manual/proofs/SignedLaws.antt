@@ -6,7 +6,7 @@ use Prim.Native.Nat.{ℕ, zero, suc, _+_, _≤_, _<_}
 use native.Mathlib.Omega.{arith}
 use lib.Dec.{ltb}
 use lib.IntN.{ℤ, pos, negsuc, negℤ, subℕ, _+ℤ_, _-ℤ_}
-use lib.Signed.{leZ, ltZ, leZ-yes, ltZ-yes, ltZ-no, ≤ℤ-refl, clashℤ}
+use lib.Signed.{leZ, ltZ, leZ-yes, ltZ-yes, ltZ-no, clashℤ}
 use borrow.Author.Tests.{ltb-true, ltb-false, leb-true, leb-false}
 use Rattle.history.proofs.Truth.{so, yes-so}
 use Rattle.manual.specs.Words.{natOf}
@@ -74,23 +74,3 @@ lt-no a b e = le-yes b a (yes-so (leZ b a) (ltZ-no {a = a} {b = b} (so (not (ltZ
 
 -- `omega signed` reads the tests leZ and ltZ in reach and proves a goal on leZ, or an equation; a sum's add-is is listed beside it
 pub ruleset signed = (arith, same-is, le-yes, le-no, yes-le, no-le, lt-yes, lt-no)
-
--- ---- laws of the order
-
-pub leZ-refl : (a : ℤ) → leZ a a ≡ true
-leZ-refl a = yes-so (leZ a a) (≤ℤ-refl a .le)
-
-pub leZ-trans : (a b c : ℤ) → leZ a b ≡ true → leZ b c ≡ true → leZ a c ≡ true
-leZ-trans a b c p q = omega signed
-
-pub leZ-other : (a b : ℤ) → leZ a b ≡ false → leZ b a ≡ true
-leZ-other a b p = omega signed
-
-pub ltZ-leZ : (a b : ℤ) → ltZ a b ≡ true → leZ a b ≡ true
-ltZ-leZ a b p = omega signed
-
-pub leZ-grows : (a u : ℤ) → leZ (pos 0) u ≡ true → leZ a (a +ℤ u) ≡ true
-leZ-grows a u p = omega (signed, add-is a u)
-
-pub leZ-shrinks : (a u : ℤ) → leZ (pos 0) u ≡ true → leZ (a -ℤ u) a ≡ true
-leZ-shrinks a u p = omega (signed, minus-is a u)

@@ -1,13 +1,12 @@
 -- Under an accepted configuration every call, with any arguments, accepted or refused, leaves any well-formed state well formed; and
 -- an accepted fresh or restore makes a well-formed state of any blocks.
 use mathlib.Core.Path.{_≡_, refl, sym, ap, subst, _∙_}
-use mathlib.Core.Logic.{_≢_}
-use mathlib.Core.Bool.{Bool, true, false, not, _&&_, _||_, cond}
-use mathlib.Core.List.{List, [], _∷_, _++_}
-use Prim.Native.Nat.{ℕ, zero, suc, _+_, _-_, _*_, _≤_, _<_}
+use mathlib.Core.Bool.{Bool, true, false, _&&_}
+use mathlib.Core.List.{List, [], _∷_}
+use Prim.Native.Nat.{ℕ, suc, _-_, _*_, _≤_, _<_}
 use native.Mathlib.Nat.{mul-comm}
 use native.Mathlib.Omega.{arith}
-use lib.Dec.{eqb, leb, ltb}
+use lib.Dec.{eqb}
 use lib.ListN.{length, getD, set, drop, replicate, length-drop, getD-replicate}
 use lib.Seq.{getD-set-other}
 use lib.IntN.{ℤ, pos}
@@ -20,10 +19,10 @@ use Rattle.history.proofs.RecordStaysWellFormed.{fresh-well-formed, step-well-f
 use Rattle.manual.specs.declared.Board.{Board}
 use Rattle.manual.specs.declared.Verdict.{Verdict}
 use Rattle.manual.specs.declared.Verdict.the-variants.{None, Passed, Failed}
-use Rattle.manual.specs.Configuration.{Configuration, events, places, frameBytes, cycleOf, isInternal, isTime, limitsOf, configOk}
-use Rattle.manual.specs.State.{State, Stored, opened, stored, storedAt, runs, allStopped, recordOf, D, withMemory, withBoard, withCycle}
+use Rattle.manual.specs.Configuration.{Configuration, events, places, frameBytes, cycleOf, isTime, limitsOf, configOk}
+use Rattle.manual.specs.State.{State, Stored, opened, stored, storedAt, runs, D, withMemory, withBoard, withCycle}
 use Rattle.manual.specs.Debouncing.{Debounced, reported, ticked}
-use Rattle.manual.specs.Memory.{Entry, eventOf, entryWidth, memoryLength, entryCount, bytesInUse, entriesFrom, entriesOf, entriesBytes, memoryOf, noTwice}
+use Rattle.manual.specs.Memory.{Entry, eventOf, entryWidth, memoryLength, entryCount, bytesInUse, entriesOf, entriesBytes, memoryOf, noTwice}
 use Rattle.manual.specs.WellFormed.{recordOk, DOk, entries, entryOk, wellFormed}
 use Rattle.manual.specs.OneEvent.{happens, stops, clears, forThose}
 use Rattle.manual.specs.Answers.{Outcome, firstThatApplies}
@@ -32,10 +31,10 @@ use Rattle.manual.specs.Image.{restore}
 use Rattle.manual.specs.Sequences.{Call, Fresh, Report, Tick, Start, Stop, Clear, ReadStatus, ReadFrame, Save, Restore, Request, beginsAnew, outcome, goesOn}
 use Rattle.manual.proofs.WordsLaws.{clash, by, All, all-both, all-of-test, test-of-all, zeros-pass}
 use Rattle.manual.proofs.AnswersLaws.{none-applies, accepted}
-use Rattle.manual.proofs.ConfigurationLaws.{RowTells, ConfigTells, config-tells}
+use Rattle.manual.proofs.ConfigurationLaws.{ConfigTells, config-tells}
 use Rattle.manual.proofs.DebouncingLaws.{zero-ok, report-ok, tick-ok, stopped-zero, DOk-by-running}
 use Rattle.manual.proofs.StateLaws.{opened-stored}
-use Rattle.manual.proofs.MemoryLaws.{Framed, EntryGood, Good, frames, entries-length, entries-framed, memory-count, memory-entries, memory-length, memory-tail, block-is}
+use Rattle.manual.proofs.MemoryLaws.{Framed, EntryGood, frames, entries-length, entries-framed, memory-count, memory-length, memory-tail, block-is}
 use Rattle.manual.proofs.OneEventLaws.{View, viewed, view, Sized, Acts, those-own, those-running, tokenView, acts-happens, acts-stops, acts-clears, verdictView, debouncedView, acts-applied}
 use Rattle.manual.proofs.MemoryStaysGood.{hasFailedBit, MemoryGood, made-good, good-starts, good-stops, good-clears, good-applied, good-those}
 use Rattle.manual.proofs.WellFormedLaws.{StateTells, state-tells, state-told, used-fits, zeros-behind}

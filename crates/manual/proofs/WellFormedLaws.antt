@@ -1,22 +1,20 @@
 -- What a well-formed state tells, clause by clause, and that these clauses make a state well formed.
-use mathlib.Core.Path.{_≡_, refl, sym, ap, subst, _∙_}
-use mathlib.Core.Bool.{Bool, true, false, not, _&&_}
-use mathlib.Core.List.{List, [], _∷_, _++_}
-use Prim.Native.Nat.{ℕ, _+_, _-_, _*_, _≤_, _<_}
+use mathlib.Core.Path.{_≡_, sym, ap, subst, _∙_}
+use mathlib.Core.Bool.{true}
+use mathlib.Core.List.{List, _++_}
+use Prim.Native.Nat.{ℕ, _-_, _*_, _≤_, _<_}
 use native.Mathlib.Nat.{mul-comm, mul-sub, mul-le-mul-left}
 use native.Mathlib.Omega.{arith}
-use lib.Dec.{eqb, leb}
 use lib.ListN.{length, take, drop, replicate, length-drop, take-append-drop}
 use lib.Seq.{length-take-le}
 use borrow.Author.Tests.{eqb-true, eq-eqb, leb-true, le-leb}
-use Rattle.history.specs.Words.{holds, allOf}
-use Rattle.history.specs.StatusByte.{EventRecord}
+use Rattle.history.specs.Words.{allOf}
 use Rattle.history.proofs.WordsLaws.{and-left, and-right, both, part, parts}
 use Rattle.manual.specs.Words.{allBelow}
 use Rattle.manual.specs.Configuration.{Configuration, events, places, frameBytes}
 use Rattle.manual.specs.State.{State, recordWidth, recordOf, D}
-use Rattle.manual.specs.Memory.{Entry, entryWidth, memoryLength, entryCount, bytesInUse, noTwice}
-use Rattle.manual.specs.WellFormed.{lengthsFit, recordOk, DOk, eventOk, atMostM, entries, entryOk, zeroTail, memoryOk, wellFormed}
+use Rattle.manual.specs.Memory.{entryWidth, memoryLength, entryCount, bytesInUse, noTwice}
+use Rattle.manual.specs.WellFormed.{lengthsFit, recordOk, DOk, eventOk, entries, entryOk, zeroTail, memoryOk, wellFormed}
 use Rattle.manual.proofs.WordsLaws.{all-below-at, all-below, zeros-are}
 
 module _ (cfg : Configuration) (s : State) where

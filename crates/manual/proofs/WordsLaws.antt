@@ -1,13 +1,13 @@
 -- Laws of specs/Words.antt, in its order, and of the words on lists that it stands on.
 use mathlib.Core.Path.{_≡_, refl, sym, ap, subst, _∙_}
 use mathlib.Core.Logic.{_⊎_, inl, inr, ⊎-elim}
-use mathlib.Core.Bool.{Bool, true, false, not, _&&_, _||_, cond, true≢false}
+use mathlib.Core.Bool.{Bool, true, false, not, _||_, cond, true≢false}
 use mathlib.Core.List.{List, [], _∷_, _++_, List·Memᴰ, List·Memᴰ·cases-cons, List·Memᴰ·append-cases, Memᴰ·append-left, Memᴰ·append-right}
-use mathlib.Core.Option.{Option, none, some, Option·none-ne-some}
+use mathlib.Core.Option.{none, some, Option·none-ne-some}
 use Prim.Native.Nat.{ℕ, zero, suc, _+_, _≤_, _<_}
 use native.Mathlib.Nat.{eq-or-lt-of-le, le-of-suc-le-suc, not-suc-le-zero, le-refl}
 use native.Mathlib.Omega.{arith}
-use lib.Dec.{T, eqb, leb, ltb}
+use lib.Dec.{eqb}
 use lib.ListN.{length, length-append, replicate}
 use lib.IntN.{ℤ, pos, negsuc}
 use lib.Signed.{leZ}
@@ -26,20 +26,6 @@ clash a p q = absurd (true≢false (sym p ∙ q))
 pub by : {A : Type 0} (b : Bool) (P : A → Type 0) {x y : A} → (b ≡ true → P x) → (b ≡ false → P y) → P (cond b x y)
 by true P f g = f refl
 by false P f g = g refl
-
-pub cond-true : {A : Type 0} (b : Bool) (x y : A) → b ≡ true → cond b x y ≡ x
-cond-true b x y e = rw e
-
-pub cond-false : {A : Type 0} (b : Bool) (x y : A) → b ≡ false → cond b x y ≡ y
-cond-false b x y e = rw e
-
-pub or-cases : (a b : Bool) → a || b ≡ true → (a ≡ true) ⊎ (b ≡ true)
-or-cases true b e = inl refl
-or-cases false b e = inr e
-
-pub or-right : (a b : Bool) → b ≡ true → a || b ≡ true
-or-right true b e = refl
-or-right false b e = e
 
 pub neither : (a b : Bool) → a || b ≡ false → (a ≡ false) × (b ≡ false)
 neither true b e = clash true refl e
@@ -110,15 +96,6 @@ module _ {A : Type 0} where
     where
       go : (b : Bool) → cond b (some x) (firstOf p xs) ≡ none → (firstOf p xs ≡ none → anyOf p xs ≡ false) → b || anyOf p xs ≡ false
       go true t ih = absurd (let z : _≡_ {A = ℕ} 0 1 = cc in let w : ⊥ = omega arith in w)
-      go false t ih = ih t
-
-  pub none-first : (p : A → Bool) (xs : List A) → anyOf p xs ≡ false → firstOf p xs ≡ none
-  unfolding firstOf
-  none-first p [] e = refl
-  none-first p (x ∷ xs) e = go (p x) e (λ t. none-first p xs t)
-    where
-      go : (b : Bool) → b || anyOf p xs ≡ false → (anyOf p xs ≡ false → firstOf p xs ≡ none) → cond b (some x) (firstOf p xs) ≡ none
-      go true t ih = clash true refl t
       go false t ih = ih t
 
   -- those

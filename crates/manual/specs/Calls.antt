@@ -1,6 +1,6 @@
 -- Document 01: what each call does, from its refusals in their order to the last byte. Save and restore stand in Image.antt, the
 -- diagnostic request in Diagnostics.antt. Assumes nothing.
-use mathlib.Core.Bool.{Bool, true, false, not, _&&_, _||_, cond}
+use mathlib.Core.Bool.{Bool, true, false, not, _&&_, _||_}
 use mathlib.Core.List.{List, [], _∷_}
 use mathlib.Core.Option.{Option, none, some}
 use Prim.Native.Nat.{ℕ, zero, suc}
@@ -8,13 +8,13 @@ use lib.ListN.{length, replicate}
 use lib.IntN.{pos}
 use lib.Dec.{eqb, leb, ltb}
 use Rattle.history.specs.Words.{anyOf}
-use Rattle.history.specs.StatusByte.{byteOf, EventRecord, freshRecord}
-use Rattle.history.specs.History.{Token, start}
+use Rattle.history.specs.StatusByte.{freshRecord}
+use Rattle.history.specs.History.{start}
 use Rattle.manual.specs.declared.Board.{Board}
 use Rattle.manual.specs.declared.Verdict.the-variants.{None}
-use Rattle.manual.specs.Words.{allBelow, firstOf}
+use Rattle.manual.specs.Words.{allBelow}
 use Rattle.manual.specs.Configuration.{Configuration, events, places, frameBytes, codeOf, cycleOf, isInternal, isTime, configOk}
-use Rattle.manual.specs.State.{State, Stored, stored, runs, allStopped, statusByte, D, withD, withOverflow, withCycle}
+use Rattle.manual.specs.State.{State, stored, runs, allStopped, statusByte, D, withD, withOverflow, withCycle}
 use Rattle.manual.specs.WellFormed.{lengthsFit, wellFormed, entries}
 use Rattle.manual.specs.Answers.{Outcome, done, Rule, _if_, judged}
 use Rattle.manual.specs.Debouncing.{Debounced, reported, ticked}

@@ -1,15 +1,14 @@
 -- Document 01, "Marked examples": E1 to E12 as one table of stories, run from the fresh state by the outcomes of the calls.
 -- Assumes nothing.
-use mathlib.Core.Bool.{Bool, true, false, _&&_}
+use mathlib.Core.Bool.{Bool, true, _&&_}
 use mathlib.Core.List.{List, [], _∷_}
 use Prim.Native.Nat.{ℕ, _*_}
 use lib.Dec.{eqb}
 use lib.ListN.{replicate}
 use lib.IntN.{ℤ, pos, negsuc}
-use Rattle.manual.specs.declared.Board.{Board}
 use Rattle.manual.specs.Words.{equal, eqZ}
 use Rattle.manual.specs.Configuration.{Configuration, events, places, frameBytes}
-use Rattle.manual.specs.State.{State, Stored, recordWidth, storedAt, statusByte, D, allStopped}
+use Rattle.manual.specs.State.{State, recordWidth, storedAt, statusByte, D, allStopped}
 use Rattle.manual.specs.Answers.{Outcome}
 use Rattle.manual.specs.Memory.{memoryLength}
 use Rattle.manual.specs.Calls.{fresh}

@@ -1,11 +1,10 @@
 -- Document 01, "Status byte" and "Memory": what happens to one event, in the lent blocks. Assumes nothing.
-use mathlib.Core.Bool.{Bool, true, false, not, _||_, cond}
+use mathlib.Core.Bool.{Bool, not, _||_, cond}
 use mathlib.Core.List.{List}
 use Prim.Native.Nat.{ℕ}
 use lib.IntN.{pos}
-use Rattle.history.specs.StatusByte.{testFailed, EventRecord, freshFailure, agesAtStop}
-use Rattle.history.specs.History.{Token, passed, failed, start, stop, clear, step}
-use Rattle.manual.specs.declared.Board.{Board}
+use Rattle.history.specs.StatusByte.{testFailed, freshFailure, agesAtStop}
+use Rattle.history.specs.History.{Token, passed, failed, stop, clear, step}
 use Rattle.manual.specs.declared.Verdict.{Verdict}
 use Rattle.manual.specs.declared.Verdict.the-variants.{None, Passed, Failed}
 use Rattle.manual.specs.Words.{forBelow}

@@ -14,7 +14,7 @@ use Rattle.manual.specs.Words.{threeAt}
 use Rattle.manual.specs.Configuration.{Configuration}
 use Rattle.manual.specs.State.{State, D}
 use Rattle.manual.specs.Answers.{Outcome}
-use Rattle.manual.specs.Debouncing.{Debounced, reported, ticked}
+use Rattle.manual.specs.Debouncing.{reported, ticked}
 use Rattle.manual.specs.Calls.{fresh, report, tick, startCycle, stopCycle, clearCode, readStatus, readFrame, timeRuns, ofCycle, covers, unknownCode}
 use Rattle.manual.specs.Image.{save, restore}
 use Rattle.manual.specs.Diagnostics.{requestReply}

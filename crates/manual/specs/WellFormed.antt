@@ -1,7 +1,7 @@
 -- Document 01, "A state is well formed when …", a definition or a line for each clause. Assumes nothing.
-use mathlib.Core.Bool.{Bool, true, false, not, _&&_, _||_, cond}
+use mathlib.Core.Bool.{Bool, not, _&&_, _||_, cond}
 use mathlib.Core.List.{List, [], _∷_}
-use Prim.Native.Nat.{ℕ, _+_, _*_}
+use Prim.Native.Nat.{ℕ, _*_}
 use lib.ListN.{length, drop}
 use lib.IntN.{ℤ, pos}
 use lib.Dec.{eqb, leb, ltb}
