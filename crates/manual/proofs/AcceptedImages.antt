@@ -17,14 +17,15 @@ use Rattle.manual.proofs.WordsLaws.{equal-is}
 use Rattle.manual.proofs.ImageLaws.{Still, state-of-image, state-of-own-image, own-image-acceptable}
 
 module _ (cfg : Configuration) where
-  -- the state of an accepted image, and that it is its image
-  pub accepted-state : (image : List ℕ) → acceptable cfg image ≡ true → Still cfg (stateOf cfg image)
-  unfolding acceptable stateOf
-  accepted-state image a = record { formed = and-left (wellFormed cfg (stateOf cfg image)) (equal (imageOf cfg (stateOf cfg image)) image) a; four = refl; stopped = refl }
-
+  -- an accepted image is the image of the state that it tells
   pub accepted-image : (image : List ℕ) → acceptable cfg image ≡ true → imageOf cfg (stateOf cfg image) ≡ image
   unfolding acceptable
   accepted-image image a = equal-is _ _ (and-right (wellFormed cfg (stateOf cfg image)) (equal (imageOf cfg (stateOf cfg image)) image) a)
+
+  -- and the state is well formed and still
+  pub accepted-state : (image : List ℕ) → acceptable cfg image ≡ true → Still cfg (stateOf cfg image)
+  unfolding acceptable stateOf
+  accepted-state image a = record { formed = and-left (wellFormed cfg (stateOf cfg image)) (equal (imageOf cfg (stateOf cfg image)) image) a; four = refl; stopped = refl }
 
   -- "Restore accepts exactly the images of well-formed states with all cycles stopped"
   pub accepted-exactly : (image : List ℕ) → (acceptable cfg image ≡ true) ↔ ((s : State) × Still cfg s × (imageOf cfg s ≡ image))

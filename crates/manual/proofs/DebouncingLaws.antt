@@ -9,11 +9,11 @@ use lib.IntN.{ℤ, pos, _+ℤ_, _-ℤ_}
 use lib.Signed.{leZ, ltZ}
 use borrow.Author.Tests.{eqb-true}
 use Rattle.manual.specs.declared.Board.{Board}
-use Rattle.manual.specs.Words.{between, eqZ, smaller, larger}
+use Rattle.manual.specs.Words.{between, smaller, larger}
 use Rattle.manual.specs.Configuration.{Configuration, cycleOf, kindOf, isInternal, isTime, lowOf, highOf, upOf, downOf}
 use Rattle.manual.specs.State.{runs}
 use Rattle.manual.specs.Debouncing.{Debounced, top, bottom, codePassed, codeFailed, codePreFailed, leavesAt, jumpUp, jumpDown, counterUp, counterDown, counterReport, timeReport, internalReport, reported, ticked}
-use Rattle.manual.specs.WellFormed.{DOk}
+use Rattle.manual.specs.WellFormed.{DFits, DOk}
 use Rattle.manual.proofs.WordsLaws.{by, eqZ-true, between-from, between-to, between-is}
 use Rattle.manual.proofs.SignedLaws.{signed, add-is, minus-is}
 use Rattle.manual.proofs.ConfigurationLaws.{Range}
@@ -110,22 +110,17 @@ module _ (cfg : Configuration) (e : ℕ) where
 -- ---- as a well-formed state says it
 
 module _ (cfg : Configuration) where
-  -- the clause, by whether the event's cycle runs
-  abbrev asked : ℕ → ℤ → Bool → Bool
-  asked e d runs = cond (not runs || isInternal cfg e) (eqZ d (pos 0)) (between (bottom cfg e) (top cfg e) d)
-
   pub stopped-zero : (b : Board) (e : ℕ) (d : ℤ) → runs b (cycleOf cfg e) ≡ false → DOk cfg b e d ≡ true → d ≡ pos 0
-  unfolding DOk
-  stopped-zero b e d r h = eqZ-true d (pos 0) (subst (λ (x : Bool). asked e d x ≡ true) r h)
+  unfolding DFits
+  stopped-zero b e d r h = eqZ-true d (pos 0) (subst (λ (x : Bool). DFits cfg x e d ≡ true) r h)
 
   pub DOk-by-running : (b b′ : Board) (e : ℕ) (d : ℤ) → runs b (cycleOf cfg e) ≡ runs b′ (cycleOf cfg e) → DOk cfg b e d ≡ true → DOk cfg b′ e d ≡ true
-  unfolding DOk
-  DOk-by-running b b′ e d r h = subst (λ (x : Bool). asked e d x ≡ true) r h
+  DOk-by-running b b′ e d r h = subst (λ (x : Bool). DFits cfg x e d ≡ true) r h
 
 module _ (cfg : Configuration) (b : Board) (e : ℕ) where
   -- a step of an event whose cycle runs
   step-ok : (d d′ : ℤ) → runs b (cycleOf cfg e) ≡ true → (isInternal cfg e ≡ true → d′ ≡ d) → (isInternal cfg e ≡ false → InEnds cfg e d → InEnds cfg e d′) → DOk cfg b e d ≡ true → DOk cfg b e d′ ≡ true
-  unfolding DOk
+  unfolding DFits
   step-ok d d′ r same stays h =
       rw r
       (by (isInternal cfg e) (λ t. t ≡ true)
@@ -134,7 +129,7 @@ module _ (cfg : Configuration) (b : Board) (e : ℕ) where
 
   module _ (range : isInternal cfg e ≡ false → Range cfg e) where
     pub zero-ok : DOk cfg b e (pos 0) ≡ true
-    unfolding DOk
+    unfolding DFits
     zero-ok = go (not (runs b (cycleOf cfg e))) (isInternal cfg e) range
       where
         go : (stopped internal : Bool) → (internal ≡ false → Range cfg e) → cond (stopped || internal) true (between (bottom cfg e) (top cfg e) (pos 0)) ≡ true

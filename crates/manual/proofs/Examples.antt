@@ -10,7 +10,7 @@ use Rattle.history.specs.WellFormed.{wellFormedRecord}
 use Rattle.manual.specs.Words.{allBelow, forBelow, joinBelow, firstOf, those, equal, between, smaller, larger}
 use Rattle.manual.specs.Configuration.{Configuration, events, places, frameBytes, column, rowOk, configOk}
 use Rattle.manual.specs.State.{State, storedAt, withStored, allStopped}
-use Rattle.manual.specs.WellFormed.{lengthsFit, DOk, memoryOk, wellFormed}
+use Rattle.manual.specs.WellFormed.{lengthsFit, DFits, memoryOk, wellFormed}
 use Rattle.manual.specs.Answers as Answers
 use Rattle.manual.specs.Answers.{firstThatApplies}
 use Rattle.manual.specs.Debouncing.{top, bottom, verdictAt, leavesAt, internalReport, counterUp, counterDown, counterReport, timeReport, reported, ticked}
@@ -22,7 +22,7 @@ use Rattle.manual.specs.Diagnostics.{fitted, lines, listByMask, subFunct
 use Rattle.manual.specs.MarkedExamples.{blank, noEntry, table, holdsOf}
 
 pub e1-to-e12 : holdsOf table ≡ true
-unfolding table holds wellFormedRecord allBelow forBelow firstOf those equal between smaller larger events places frameBytes column rowOk configOk storedAt withStored lengthsFit DOk memoryOk wellFormed firstThatApplies Answers.judged top bottom verdictAt leavesAt internalReport counterUp counterDown counterReport timeReport reported ticked happens entryLeaves keeps memoryTold fails stops clears forThose entriesFrom entriesOf entriesBytes memoryOf without noTwice victim displaced admitted renewed store freshRecords freshState freshRules fresh reportRules applied report tickRules tick startRules startCycle stopRules stopCycle
+unfolding table holds wellFormedRecord allBelow forBelow firstOf those equal between smaller larger events places frameBytes column rowOk configOk storedAt withStored lengthsFit DFits memoryOk wellFormed firstThatApplies Answers.judged top bottom verdictAt leavesAt internalReport counterUp counterDown counterReport timeReport reported ticked happens entryLeaves keeps memoryTold fails stops clears forThose entriesFrom entriesOf entriesBytes memoryOf without noTwice victim displaced admitted renewed store freshRecords freshState freshRules fresh reportRules applied report tickRules tick startRules startCycle stopRules stopCycle
 e1-to-e12 = refl
 
 -- ---- "Fresh with n = 2"
@@ -43,7 +43,7 @@ unfolding imageFrom imageOf freshState freshRecords events places frameBytes
 image-of-fresh = refl
 
 pub restored-fresh : restore pair freshImage (blank pair) ≡ Answers.done (freshState pair)
-unfolding restore restoreRules acceptable stateOf equal imageFrom imageOf freshState freshRecords events places frameBytes holds wellFormedRecord allBelow those between column rowOk configOk top bottom entriesFrom entriesOf noTwice storedAt lengthsFit DOk memoryOk wellFormed firstThatApplies Answers.judged
+unfolding restore restoreRules acceptable stateOf equal imageFrom imageOf freshState freshRecords events places frameBytes holds wellFormedRecord allBelow those between column rowOk configOk top bottom entriesFrom entriesOf noTwice storedAt lengthsFit DFits memoryOk wellFormed firstThatApplies Answers.judged
 restored-fresh = refl
 
 -- ---- "Event 123456h with status 28h, `19 02 08` gives `59 02 FF 12 34 56 28`."
@@ -55,5 +55,5 @@ abbrev confirmed : State
 confirmed = record { records = 0x28 ∷ 0 ∷ 0 ∷ 0 ∷ []; debounce = pos 0 ∷ []; memory = noEntry; board = record { running = allStopped; overflow = false } }
 
 pub reply-by-mask : requestReply shown (0x19 ∷ 0x02 ∷ 0x08 ∷ []) (replicate 8 0xA5) confirmed .room ≡ 0x59 ∷ 0x02 ∷ 0xFF ∷ 0x12 ∷ 0x34 ∷ 0x56 ∷ 0x28 ∷ 0xA5 ∷ []
-unfolding requestReply requestRules sent servedBy service19 subFunctionReply fitted listByMask lines joinBelow firstOf events places frameBytes holds wellFormedRecord allBelow those between column rowOk configOk top bottom entriesFrom entriesOf noTwice storedAt lengthsFit DOk memoryOk wellFormed firstThatApplies Answers.judged
+unfolding requestReply requestRules sent servedBy service19 subFunctionReply fitted listByMask lines joinBelow firstOf events places frameBytes holds wellFormedRecord allBelow those between column rowOk configOk top bottom entriesFrom entriesOf noTwice storedAt lengthsFit DFits memoryOk wellFormed firstThatApplies Answers.judged
 reply-by-mask = refl

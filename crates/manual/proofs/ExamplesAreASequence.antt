@@ -10,7 +10,7 @@ use Rattle.history.proofs.WordsLaws.{and-left, and-right}
 use Rattle.manual.specs.Words.{allBelow, forBelow, firstOf, those, equal, between, smaller, larger}
 use Rattle.manual.specs.Configuration.{Configuration, events, places, frameBytes, column, rowOk, configOk}
 use Rattle.manual.specs.State.{State, storedAt, withStored, statusByte}
-use Rattle.manual.specs.WellFormed.{lengthsFit, DOk, memoryOk, wellFormed}
+use Rattle.manual.specs.WellFormed.{lengthsFit, DFits, memoryOk, wellFormed}
 use Rattle.manual.specs.Answers as Answers
 use Rattle.manual.specs.Answers.{firstThatApplies}
 use Rattle.manual.specs.Debouncing.{top, bottom, verdictAt, leavesAt, internalReport, counterUp, counterDown, counterReport, timeReport, reported, ticked}
@@ -79,9 +79,9 @@ is-reached : Reached marked (stateAfter marked e1-to-e10 begins) (historiesAfter
 is-reached = follow marked e1-to-e10 (begun (blank marked) accepted) go-on
 
 its-history : historiesAfter marked e1-to-e10 begins (λ e. []) 0 ≡ history
-unfolding historiesAfter tokens holds wellFormedRecord allBelow forBelow firstOf those equal between smaller larger events places frameBytes column rowOk configOk storedAt withStored lengthsFit DOk memoryOk wellFormed firstThatApplies Answers.judged top bottom verdictAt leavesAt internalReport counterUp counterDown counterReport timeReport reported ticked happens entryLeaves keeps memoryTold fails stops clears forThose entriesFrom entriesOf entriesBytes memoryOf without noTwice victim displaced admitted renewed store freshRecords freshState freshRules fresh reportRules applied report tickRules tick startRules startCycle stopRules stopCycle
+unfolding historiesAfter tokens holds wellFormedRecord allBelow forBelow firstOf those equal between smaller larger events places frameBytes column rowOk configOk storedAt withStored lengthsFit DFits memoryOk wellFormed firstThatApplies Answers.judged top bottom verdictAt leavesAt internalReport counterUp counterDown counterReport timeReport reported ticked happens entryLeaves keeps memoryTold fails stops clears forThose entriesFrom entriesOf entriesBytes memoryOf without noTwice victim displaced admitted renewed store freshRecords freshState freshRules fresh reportRules applied report tickRules tick startRules startCycle stopRules stopCycle
 its-history = refl
 
 its-byte : statusByte (stateAfter marked e1-to-e10 begins) 0 ≡ 0x60
-unfolding stateAfter holds wellFormedRecord allBelow forBelow firstOf those equal between smaller larger events places frameBytes column rowOk configOk storedAt withStored lengthsFit DOk memoryOk wellFormed firstThatApplies Answers.judged top bottom verdictAt leavesAt internalReport counterUp counterDown counterReport timeReport reported ticked happens entryLeaves keeps memoryTold fails stops clears forThose entriesFrom entriesOf entriesBytes memoryOf without noTwice victim displaced admitted renewed store freshRecords freshState freshRules fresh reportRules applied report tickRules tick startRules startCycle stopRules stopCycle
+unfolding stateAfter holds wellFormedRecord allBelow forBelow firstOf those equal between smaller larger events places frameBytes column rowOk configOk storedAt withStored lengthsFit DFits memoryOk wellFormed firstThatApplies Answers.judged top bottom verdictAt leavesAt internalReport counterUp counterDown counterReport timeReport reported ticked happens entryLeaves keeps memoryTold fails stops clears forThose entriesFrom entriesOf entriesBytes memoryOf without noTwice victim displaced admitted renewed store freshRecords freshState freshRules fresh reportRules applied report tickRules tick startRules startCycle stopRules stopCycle
 its-byte = refl

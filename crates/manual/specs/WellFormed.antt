@@ -34,8 +34,11 @@ module _ (cfg : Configuration) where
   recordOk e r = wellFormedRecord (limitsOf cfg e) r
 
   -- "D is 0 if the event's cycle is stopped or its kind is 0, else in P..Q (kind 1) or P−1..Q+1 (kind 2)"
-  unfoldable pub DOk : Board → ℕ → ℤ → Bool
-  DOk b e d = cond (not (runs b (cycleOf cfg e)) || isInternal cfg e) (eqZ d (pos 0)) (between (bottom cfg e) (top cfg e) d)
+  unfoldable pub DFits : Bool → ℕ → ℤ → Bool
+  DFits running e d = cond (not running || isInternal cfg e) (eqZ d (pos 0)) (between (bottom cfg e) (top cfg e) d)
+
+  abbrev pub DOk : Board → ℕ → ℤ → Bool
+  DOk b e d = DFits (runs b (cycleOf cfg e)) e d
 
   abbrev pub eventOk : State → ℕ → Bool
   eventOk s e = recordOk e (recordOf s e) && DOk (s .board) e (D s e)
