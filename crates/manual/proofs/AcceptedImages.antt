@@ -12,9 +12,9 @@ use Rattle.manual.specs.Words.{equal}
 use Rattle.manual.specs.Configuration.{Configuration}
 use Rattle.manual.specs.State.{State}
 use Rattle.manual.specs.WellFormed.{wellFormed}
-use Rattle.manual.specs.Image.{imageOf, stateOf, acceptable}
+use Rattle.manual.specs.Image.{Still, imageOf, stateOf, acceptable}
 use Rattle.manual.proofs.WordsLaws.{equal-is}
-use Rattle.manual.proofs.ImageLaws.{Still, state-of-image, state-of-own-image, own-image-acceptable}
+use Rattle.manual.proofs.ImageLaws.{state-of-image, state-of-own-image, own-image-acceptable}
 
 module _ (cfg : Configuration) where
   -- an accepted image is the image of the state that it tells

@@ -10,32 +10,25 @@ use borrow.Author.Tests.{eqb-true}
 use Rattle.history.specs.Words.{anyOf}
 use Rattle.manual.specs.Configuration.{Configuration}
 use Rattle.manual.specs.State.{State}
-use Rattle.manual.specs.Answers.{Outcome, refused, Rule, firstThatApplies, judged}
+use Rattle.manual.specs.Answers.{Outcome, refused, Rule, firstThatApplies, judged, Given, done-by, refusal-by}
 use Rattle.manual.specs.Calls.{freshRules, fresh, reportRules, report, tickRules, tick, startRules, startCycle, stopRules, stopCycle, clearRules, clearCode, readStatusRules, readStatus, readFrameRules, readFrame}
 use Rattle.manual.specs.Image.{saveRules, save, restoreRules, restore}
 use Rattle.manual.specs.Diagnostics.{requestRules, sent, requestReply}
-use Rattle.manual.specs.Sequences.{Call, Fresh, Report, Tick, Start, Stop, Clear, ReadStatus, ReadFrame, Save, Restore, Request, outcome}
+use Rattle.manual.specs.Sequences.{Call, Fresh, Report, Tick, Start, Stop, Clear, ReadStatus, ReadFrame, Save, Restore, Request, outcome, rulesOf, roomOf}
 use Rattle.manual.proofs.AnswersLaws.{left-alone}
 use Rattle.manual.proofs.WordsLaws.{clash}
 
--- "The first that applies, in the call's order, is given."
-pub data Given : List Rule → ℕ → Type 0 where
-  -- no test of the list holds
-  done : (rules : List Rule) → anyOf (λ r. r .applies) rules ≡ false → Given rules 0
-  -- the test of r holds, and none before it does
-  refusal : (earlier : List Rule) (r : Rule) (later : List Rule) → anyOf (λ r. r .applies) earlier ≡ false → r .applies ≡ true → Given (earlier ++ r ∷ later) (r .number)
-
 given : (rules : List Rule) → Given rules (firstThatApplies rules)
 unfolding firstThatApplies
-given [] = done [] refl
+given [] = done-by [] refl
 given (r ∷ rs) = go (r .applies) refl (given rs)
   where
     later : {k : ℕ} {l : List Rule} → r .applies ≡ false → Given l k → Given (r ∷ l) k
-    later e (done l n) = done (r ∷ l) (rw (e, n))
-    later e (refusal a x b n q) = refusal (r ∷ a) x b (rw (e, n)) q
+    later e (done-by l n) = done-by (r ∷ l) (rw (e, n))
+    later e (refusal-by a x b n q) = refusal-by (r ∷ a) x b (rw (e, n)) q
 
     go : (b : Bool) → r .applies ≡ b → Given rs (firstThatApplies rs) → Given (r ∷ rs) (cond b (r .number) (firstThatApplies rs))
-    go true e g = refusal [] r rs refl e
+    go true e g = refusal-by [] r rs refl e
     go false e g = later e g
 
 none-first : (rules : List Rule) → anyOf (λ r. r .applies) rules ≡ false → firstThatApplies rules ≡ 0
@@ -57,43 +50,15 @@ this-first (x ∷ xs) r later n q = go (x .applies) n (λ t. this-first xs r lat
     go false t ih = ih t
 
 only : {rules : List Rule} {k : ℕ} → Given rules k → firstThatApplies rules ≡ k
-only (done rules n) = none-first rules n
-only (refusal a r b n q) = this-first a r b n q
+only (done-by rules n) = none-first rules n
+only (refusal-by a r b n q) = this-first a r b n q
 
 module _ (cfg : Configuration) where
-  -- the list of refusals of a call, in its order
-  abbrev pub rulesOf : Call → State → List Rule
-  rulesOf Fresh s = freshRules cfg s
-  rulesOf (Report k code frame) s = reportRules cfg k code frame s
-  rulesOf (Tick ms frame) s = tickRules cfg ms frame s
-  rulesOf (Start c) s = startRules cfg c s
-  rulesOf (Stop c) s = stopRules cfg c s
-  rulesOf (Clear code) s = clearRules cfg code s
-  rulesOf (ReadStatus k) s = readStatusRules cfg k s
-  rulesOf (ReadFrame k) s = readFrameRules cfg k s
-  rulesOf (Save room) s = saveRules cfg room s
-  rulesOf (Restore image) s = restoreRules cfg image s
-  rulesOf (Request bytes room) s = requestRules cfg bytes room s
-
-  -- the room that was lent to a call
-  abbrev pub roomOf : Call → List ℕ
-  roomOf Fresh = []
-  roomOf (Report k code frame) = []
-  roomOf (Tick ms frame) = []
-  roomOf (Start c) = []
-  roomOf (Stop c) = []
-  roomOf (Clear code) = []
-  roomOf (ReadStatus k) = []
-  roomOf (ReadFrame k) = []
-  roomOf (Save room) = room
-  roomOf (Restore image) = []
-  roomOf (Request bytes room) = room
-
   -- every call is judged by its list, and accepted answers 0
   record Judged (c : Call) (s : State) : Type 0 where
     accepts : Outcome
     zero : accepts .answer ≡ 0
-    is : outcome cfg c s ≡ judged (rulesOf c s) (roomOf c) s accepts
+    is : outcome cfg c s ≡ judged (rulesOf cfg c s) (roomOf c) s accepts
 
   judges : (c : Call) (s : State) → Judged c s
   unfolding fresh report tick startCycle stopCycle clearCode readStatus readFrame save restore requestReply sent
@@ -117,17 +82,17 @@ module _ (cfg : Configuration) where
       go true e = z ∙ sym (eqb-true (firstThatApplies rules) 0 e)
       go false e = refl
 
-  pub answer-is : (c : Call) (s : State) → outcome cfg c s .answer ≡ firstThatApplies (rulesOf c s)
-  answer-is c s = let j = judges c s in ap (λ (o : Outcome). o .answer) (j .is) ∙ judged-answer (rulesOf c s) (roomOf c) s (j .accepts) (j .zero)
+  pub answer-is : (c : Call) (s : State) → outcome cfg c s .answer ≡ firstThatApplies (rulesOf cfg c s)
+  answer-is c s = let j = judges c s in ap (λ (o : Outcome). o .answer) (j .is) ∙ judged-answer (rulesOf cfg c s) (roomOf c) s (j .accepts) (j .zero)
 
   -- exactly when
-  pub answer-is-given : (c : Call) (s : State) (k : ℕ) → (outcome cfg c s .answer ≡ k) ↔ Given (rulesOf c s) k
-  answer-is-given c s k = (λ e. subst (Given (rulesOf c s)) (sym (answer-is c s) ∙ e) (given (rulesOf c s)), λ g. answer-is c s ∙ only g)
+  pub answer-is-given : (c : Call) (s : State) (k : ℕ) → (outcome cfg c s .answer ≡ k) ↔ Given (rulesOf cfg c s) k
+  answer-is-given c s k = (λ e. subst (Given (rulesOf cfg c s)) (sym (answer-is c s) ∙ e) (given (rulesOf cfg c s)), λ g. answer-is c s ∙ only g)
 
   -- "A refusal changes nothing lent and hands back the board it was given"
   pub refusal-leaves-all : (c : Call) (s : State) → outcome cfg c s .answer ≢ 0 → outcome cfg c s ≡ refused (outcome cfg c s .answer) (roomOf c) s
   refusal-leaves-all c s n =
       let j = judges c s in
       j .is
-      ∙ left-alone (rulesOf c s) (roomOf c) s (j .accepts) (j .zero) (subst (λ (o : Outcome). o .answer ≢ 0) (j .is) n)
+      ∙ left-alone (rulesOf cfg c s) (roomOf c) s (j .accepts) (j .zero) (subst (λ (o : Outcome). o .answer ≢ 0) (j .is) n)
       ∙ ap (λ (k : ℕ). refused k (roomOf c) s) (sym (answer-is c s))

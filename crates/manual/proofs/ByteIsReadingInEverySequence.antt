@@ -22,7 +22,7 @@ use Rattle.manual.specs.Calls.{freshRules, fresh, freshState, reportRule
 use Rattle.manual.specs.Image.{save, restore, saveRules, restoreRules}
 use Rattle.manual.specs.Diagnostics.{requestRules}
 use Rattle.manual.specs.Debouncing.{reported, ticked}
-use Rattle.manual.specs.Sequences.{Call, Fresh, Report, Tick, Start, Stop, Clear, ReadStatus, ReadFrame, Save, Restore, Request, outcome, written, tokensAt, goesOn, Reached, begun, called, restored}
+use Rattle.manual.specs.Sequences.{rulesOf, Call, Fresh, Report, Tick, Start, Stop, Clear, ReadStatus, ReadFrame, Save, Restore, Request, outcome, written, tokensAt, goesOn, Reached, begun, called, restored}
 use Rattle.manual.proofs.AnswersLaws.{none-applies, accepted, lacks, never-given}
 use Rattle.manual.proofs.ConfigurationLaws.{config-tells}
 use Rattle.manual.proofs.WellFormedLaws.{state-tells, well-formed-lengths}
@@ -31,7 +31,7 @@ use Rattle.manual.proofs.SequencesLaws.{Histories, KeptWhenAccepted, ca
 use Rattle.manual.proofs.RecordsFollowHistories.{Follows, call-follows, fresh-follows}
 use Rattle.manual.proofs.RestoreAfterSave.{restore-after-save}
 use Rattle.manual.proofs.StaysWellFormed.{stays-well-formed, fresh-makes-well-formed}
-use Rattle.manual.proofs.AnswerIsFirstThatApplies.{rulesOf, answer-is}
+use Rattle.manual.proofs.AnswerIsFirstThatApplies.{answer-is}
 
 -- ---- where the configuration and the state are in order, 2 and 3 are not given
 

@@ -1,14 +1,16 @@
 -- E1 to E10 of document 01 are one sequence of calls: from the fresh state, with the history that event 0 then has, whose reading is
 -- the last example's 60h.
-use mathlib.Core.Path.{_≡_, refl}
+use mathlib.Core.Path.{_≡_, refl, sym, ap, _∙_}
 use mathlib.Core.Bool.{Bool, true, _&&_}
 use mathlib.Core.List.{List, [], _∷_, _++_}
+use lib.Dec.{lit<}
 use Rattle.history.specs.Words.{holds}
+use Rattle.history.specs.StatusByte.{byteOf}
 use Rattle.history.specs.WellFormed.{wellFormedRecord}
-use Rattle.history.specs.History.{passed, failed, start, stop, History}
+use Rattle.history.specs.History.{passed, failed, start, stop, History, reading}
 use Rattle.history.proofs.WordsLaws.{and-left, and-right}
 use Rattle.manual.specs.Words.{allBelow, forBelow, firstOf, those, equal, between, smaller, larger}
-use Rattle.manual.specs.Configuration.{Configuration, events, places, frameBytes, column, rowOk, configOk}
+use Rattle.manual.specs.Configuration.{Configuration, events, places, frameBytes, column, limitsOf, rowOk, configOk}
 use Rattle.manual.specs.State.{State, storedAt, withStored, statusByte}
 use Rattle.manual.specs.WellFormed.{lengthsFit, DFits, memoryOk, wellFormed}
 use Rattle.manual.specs.Answers as Answers
@@ -19,15 +21,16 @@ use Rattle.manual.specs.Memory.{entriesFrom, entriesOf, entriesBytes, me
 use Rattle.manual.specs.Calls.{freshRecords, freshState, freshRules, fresh, reportRules, applied, report, tickRules, tick, startRules, startCycle, stopRules, stopCycle}
 use Rattle.manual.specs.Sequences.{Call, Report, Start, Stop, outcome, tokens, tokensAt, goesOn, Reached, begun, called}
 use Rattle.manual.proofs.SequencesLaws.{Histories}
+use Rattle.manual.proofs.ByteIsReadingInEverySequence.{byte-is-reading-in-sequence}
 use Rattle.manual.specs.MarkedExamples.{marked, blank}
 
 module _ (cfg : Configuration) where
   -- calls one after the other, the oldest first: the state after them, the histories, and that each of them goes on
-  stateAfter : List Call → State → State
+  unfoldable pub stateAfter : List Call → State → State
   stateAfter [] s = s
   stateAfter (c ∷ cs) s = stateAfter cs (outcome cfg c s .state)
 
-  historiesAfter : List Call → State → Histories → Histories
+  unfoldable pub historiesAfter : List Call → State → Histories → Histories
   historiesAfter [] s H = H
   historiesAfter (c ∷ cs) s H = historiesAfter cs (outcome cfg c s .state) (λ e. tokensAt cfg c s e ++ H e)
 
@@ -40,7 +43,7 @@ module _ (cfg : Configuration) where
   follow [] r g = r
   follow (c ∷ cs) {s} r g = follow cs (called r c (and-left (goesOn cfg c s) (allGoOn cs (outcome cfg c s .state)) g)) (and-right (goesOn cfg c s) (allGoOn cs (outcome cfg c s .state)) g)
 
-abbrev e1-to-e10 : List Call
+abbrev pub e1-to-e10 : List Call
 e1-to-e10 =
     Start 0
     ∷ Report 0 3 []
@@ -59,11 +62,11 @@ e1-to-e10 =
     ∷ Stop 0
     ∷ []
 
-abbrev begins : State
+abbrev pub begins : State
 begins = fresh marked (blank marked) .state
 
 -- the pre-failed report of E2 gives no token
-abbrev history : History
+abbrev pub history : History
 history =
     stop ∷ start ∷ stop ∷ start ∷ stop ∷ passed ∷ start ∷ stop ∷ passed ∷ failed ∷ start ∷ stop ∷ failed ∷ start ∷ []
 
@@ -75,13 +78,21 @@ go-on : allGoOn marked e1-to-e10 begins ≡ true
 unfolding allGoOn
 go-on = refl
 
-is-reached : Reached marked (stateAfter marked e1-to-e10 begins) (historiesAfter marked e1-to-e10 begins (λ e. []))
+pub is-reached : Reached marked (stateAfter marked e1-to-e10 begins) (historiesAfter marked e1-to-e10 begins (λ e. []))
 is-reached = follow marked e1-to-e10 (begun (blank marked) accepted) go-on
 
-its-history : historiesAfter marked e1-to-e10 begins (λ e. []) 0 ≡ history
+pub its-history : historiesAfter marked e1-to-e10 begins (λ e. []) 0 ≡ history
 unfolding historiesAfter tokens holds wellFormedRecord allBelow forBelow firstOf those equal between smaller larger events places frameBytes column rowOk configOk storedAt withStored lengthsFit DFits memoryOk wellFormed firstThatApplies Answers.judged top bottom verdictAt leavesAt internalReport counterUp counterDown counterReport timeReport reported ticked happens entryLeaves keeps memoryTold fails stops clears forThose entriesFrom entriesOf entriesBytes memoryOf without noTwice victim displaced admitted renewed store freshRecords freshState freshRules fresh reportRules applied report tickRules tick startRules startCycle stopRules stopCycle
 its-history = refl
 
-its-byte : statusByte (stateAfter marked e1-to-e10 begins) 0 ≡ 0x60
+pub its-byte : statusByte (stateAfter marked e1-to-e10 begins) 0 ≡ 0x60
 unfolding stateAfter holds wellFormedRecord allBelow forBelow firstOf those equal between smaller larger events places frameBytes column rowOk configOk storedAt withStored lengthsFit DFits memoryOk wellFormed firstThatApplies Answers.judged top bottom verdictAt leavesAt internalReport counterUp counterDown counterReport timeReport reported ticked happens entryLeaves keeps memoryTold fails stops clears forThose entriesFrom entriesOf entriesBytes memoryOf without noTwice victim displaced admitted renewed store freshRecords freshState freshRules fresh reportRules applied report tickRules tick startRules startCycle stopRules stopCycle
 its-byte = refl
+
+-- so the reading of that history is the byte, by the theorem on every sequence
+pub its-reading : byteOf (reading (limitsOf marked 0) history) ≡ 0x60
+unfolding events storedAt
+its-reading =
+    ap (λ (l : History). byteOf (reading (limitsOf marked 0) l)) (sym its-history)
+    ∙ sym (byte-is-reading-in-sequence marked is-reached 0 (lit< tt))
+    ∙ its-byte

@@ -14,7 +14,7 @@ use Rattle.manual.specs.Configuration.{Configuration, events, places, fr
 use Rattle.manual.specs.State.{State, allStopped, recordWidth, D}
 use Rattle.manual.specs.Memory.{entryWidth, entryCount, bytesInUse}
 use Rattle.manual.specs.WellFormed.{wellFormed}
-use Rattle.manual.specs.Image.{headerLength, imageFrom, memoryBody, overflowBody, imageOf, recordsOf, afterRecords, stateOf, acceptable, anyRuns}
+use Rattle.manual.specs.Image.{Still, headerLength, imageFrom, memoryBody, overflowBody, imageOf, recordsOf, afterRecords, stateOf, acceptable, anyRuns}
 use Rattle.history.proofs.WordsLaws.{both}
 use Rattle.manual.proofs.WordsLaws.{clash, equal-refl}
 use Rattle.manual.proofs.DebouncingLaws.{stopped-zero}
@@ -28,13 +28,7 @@ none-runs (false ∷ l) e zero = refl
 none-runs (false ∷ l) e (suc c) = none-runs l e c
 
 module _ (cfg : Configuration) where
-  -- well formed, on a board of four cycles that are all stopped; that a board has four is a fact of its type in code
-  pub record Still (s : State) : Type 0 where
-    pub formed : wellFormed cfg s ≡ true
-    pub four : length (s .board .running) ≡ 4
-    pub stopped : anyRuns cfg (s .board) ≡ false
-
-  module _ (s : State) (still : Still s) (rest : List ℕ) where
+  module _ (s : State) (still : Still cfg s) (rest : List ℕ) where
     abbrev tells : StateTells cfg s
     tells = state-tells cfg s (still .formed)
 
@@ -107,9 +101,9 @@ module _ (cfg : Configuration) where
       board = record { running = running-back i; overflow = (ap overflowIn bodies-are ∙ overflow-back) i };
     }
 
-  pub state-of-own-image : (s : State) → Still s → stateOf cfg (imageOf cfg s) ≡ s
+  pub state-of-own-image : (s : State) → Still cfg s → stateOf cfg (imageOf cfg s) ≡ s
   state-of-own-image s still = ap (stateOf cfg) (sym (append-nil (imageOf cfg s))) ∙ state-of-image s still []
 
-  pub own-image-acceptable : (s : State) → Still s → acceptable cfg (imageOf cfg s) ≡ true
+  pub own-image-acceptable : (s : State) → Still cfg s → acceptable cfg (imageOf cfg s) ≡ true
   unfolding acceptable
   own-image-acceptable s still = rw (state-of-own-image s still) (both (wellFormed cfg s) (equal (imageOf cfg s) (imageOf cfg s)) (still .formed) (equal-refl (imageOf cfg s)))

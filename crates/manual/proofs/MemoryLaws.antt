@@ -15,9 +15,9 @@ use lib.Seq.{take-at, drop-at, take-add, length-take-le}
 use borrow.Author.Tests.{eqb-true, eqb-false, eq-eqb, ne-eqb, ltb-true, ltb-false, not-true}
 use Rattle.history.specs.Words.{anyOf}
 use Rattle.history.proofs.WordsLaws.{and-left, and-right}
-use Rattle.manual.specs.Words.{firstOf, orElse, those}
+use Rattle.manual.specs.Words.{All, firstOf, orElse, those}
 use Rattle.manual.specs.Memory.{Entry, eventOf, entryOf, entryWidth, entryBytes, entryAt, memoryLength, entryCount, bytesInUse, entriesFrom, entriesOf, entriesBytes, memoryOf, isOf, without, noTwice, Kept, kept, outranked, resting, victim, displaced, admitted, renewed, store}
-use Rattle.manual.proofs.WordsLaws.{by, neither, All, all-map, all-append, none-at, anyOf-append, First, first-is, first-none, all-those, those-le, those-all, anyOf-those, as-long}
+use Rattle.manual.proofs.WordsLaws.{by, neither, all-map, all-append, none-at, anyOf-append, First, first-is, first-none, all-those, those-le, those-all, anyOf-those, as-long}
 
 -- ---- an entry
 

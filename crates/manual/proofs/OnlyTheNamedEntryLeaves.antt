@@ -3,7 +3,7 @@
 use mathlib.Core.Path.{_≡_, sym, ap, subst, _∙_}
 use mathlib.Core.Logic.{_≢_, _⊎_, inl, inr, ⊎-elim}
 use mathlib.Core.Bool.{Bool, true, false}
-use mathlib.Core.List.{List, [], _∷_, _++_, List·Memᴰ, Memᴰ·append-left}
+use mathlib.Core.List.{List, [], _∷_, List·Memᴰ, Memᴰ·append-left}
 use Prim.Native.Nat.{ℕ, zero, suc, _+_, _≤_, _<_, min}
 use native.Mathlib.Nat.{eq-or-lt-of-le}
 use native.Mathlib.Omega.{arith}
@@ -12,48 +12,30 @@ use lib.ListN.{length, length-append}
 use borrow.Author.Tests.{eqb-true, eqb-false, eq-eqb, leb-true, le-leb, ltb-true, lt-ltb}
 use Rattle.history.specs.Words.{anyOf}
 use Rattle.history.proofs.WordsLaws.{and-left, and-right, both}
-use Rattle.manual.specs.Memory.{Entry, eventOf, entryOf, isOf, noTwice, Kept, kept, outranked, resting, store}
-use Rattle.manual.proofs.WordsLaws.{clash, All, all-map, all-both, all-of-test, test-of-all, all-front, bounded, none-pass, First, others-in, as-long}
+use Rattle.manual.specs.Memory.{Entry, eventOf, entryOf, isOf, noTwice, Kept, outranked, resting, store}
+use Rattle.manual.specs.Words.{All}
+use Rattle.manual.specs.Displacement as Displacement
+use Rattle.manual.specs.Displacement.{renews, adds, replaces, loses, greatest, oldest}
+use Rattle.manual.proofs.WordsLaws.{clash, all-map, all-both, all-of-test, test-of-all, all-front, bounded, none-pass, First, others-in, as-long}
 use Rattle.manual.proofs.MemoryLaws.{store-cases}
 
 -- M places; each event's priority number; whether an event has bit 0 clear; a fresh failure of e with a frame; the entries, the oldest
 -- first
 module _ (M : ℕ) (priority : ℕ → ℕ) (quiet : ℕ → Bool) (e : ℕ) (frame : List ℕ) (xs : List Entry) where
-  -- ---- the rules
+  abbrev priorityOf : Entry → ℕ
+  priorityOf = Displacement.priorityOf M priority quiet e frame xs
 
-  abbrev pub priorityOf : Entry → ℕ
-  priorityOf x = priority (eventOf x)
+  abbrev Rests : Entry → Type 0
+  Rests = Displacement.Rests M priority quiet e frame xs
 
-  -- "of equal priority number whose event has bit 0 clear"
-  abbrev pub Rests : Entry → Type 0
-  Rests x = (priorityOf x ≡ priority e) × (quiet (eventOf x) ≡ true)
+  abbrev Victim : List Entry → Entry → Type 0
+  Victim = Displacement.Victim M priority quiet e frame xs
 
-  -- v is the victim, where these are the entries older than it
-  pub data Victim (older : List Entry) (v : Entry) : Type 0 where
-    -- "among entries whose priority number is greater than e's, the greatest, and the oldest among equals"
-    greatest : priority e < priorityOf v → All (λ x. priorityOf x ≤ priorityOf v) xs → All (λ x. priorityOf x < priorityOf v) older → Victim older v
-    -- "If none: the oldest entry of equal priority number whose event has bit 0 clear."
-    oldest : All (λ x. priorityOf x ≤ priority e) xs → Rests v → All (λ x. ¬ Rests x) older → Victim older v
+  abbrev TakenOut : Entry → Type 0
+  TakenOut = Displacement.TakenOut M priority quiet e frame xs
 
-  -- rule 3 takes v out: e has no entry, there are not fewer than M, and v is the victim
-  pub record TakenOut (v : Entry) : Type 0 where
-    pub no-entry : All (λ x. eventOf x ≢ e) xs
-    pub full : M ≤ length xs
-    pub older : List Entry
-    pub newer : List Entry
-    pub there : xs ≡ older ++ v ∷ newer
-    pub is-victim : Victim older v
-
-  -- what the rules leave: the older and the newer entries as they were, and e's at the end
-  pub data Ruled : Kept → Type 0 where
-    -- "1. e has an entry: count up by one, at most 255; frame replaced; the entry moves to the end (newest)."
-    renews : (older : List Entry) (x : Entry) (newer : List Entry) → xs ≡ older ++ x ∷ newer → eventOf x ≡ e → Ruled (kept (older ++ newer ++ (entryOf e (min 255 (suc (x .count))) frame ∷ [])))
-    -- "2. Else, fewer than M entries: appended with count 1."
-    adds : All (λ x. eventOf x ≢ e) xs → length xs < M → Ruled (kept (xs ++ (entryOf e 1 frame ∷ [])))
-    -- "3. Else the victim … is taken out, e appended with count 1."
-    replaces : (v : Entry) (t : TakenOut v) → Ruled (kept (t .older ++ t .newer ++ (entryOf e 1 frame ∷ [])))
-    -- "4. Else not stored; overflow is set."
-    loses : All (λ x. eventOf x ≢ e) xs → M ≤ length xs → All (λ x. priorityOf x ≤ priority e) xs → All (λ x. ¬ Rests x) xs → Ruled (record { entries = xs; lost = true })
+  abbrev Ruled : Kept → Type 0
+  Ruled = Displacement.Ruled M priority quiet e frame xs
 
   -- ---- the tests that find the victim
 

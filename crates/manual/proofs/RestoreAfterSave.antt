@@ -11,10 +11,10 @@ use Rattle.manual.specs.Configuration.{Configuration, configOk}
 use Rattle.manual.specs.State.{State}
 use Rattle.manual.specs.Answers.{done, firstThatApplies, _if_}
 use Rattle.manual.specs.WellFormed.{lengthsFit, wellFormed}
-use Rattle.manual.specs.Image.{imageOf, stateOf, acceptable, saveRules, save, restoreRules, restore}
+use Rattle.manual.specs.Image.{Still, imageOf, stateOf, acceptable, saveRules, save, restoreRules, restore}
 use Rattle.manual.specs.Sequences.{written}
 use Rattle.manual.proofs.AnswersLaws.{none-applies, accepted, goes-through}
-use Rattle.manual.proofs.ImageLaws.{Still, state-of-own-image, own-image-acceptable}
+use Rattle.manual.proofs.ImageLaws.{state-of-own-image, own-image-acceptable}
 
 three-pass : (a b c : Bool) → a ≡ true → b ≡ true → c ≡ true → firstThatApplies ((2 if not a) ∷ (3 if not b) ∷ (8 if not c) ∷ []) ≡ 0
 unfolding firstThatApplies

@@ -11,9 +11,8 @@ use Rattle.manual.specs.Configuration.{Configuration, configOk}
 use Rattle.manual.specs.State.{State}
 use Rattle.manual.specs.Answers.{Outcome, firstThatApplies, _if_}
 use Rattle.manual.specs.WellFormed.{wellFormed}
-use Rattle.manual.specs.Image.{imageOf, stateOf, acceptable, anyRuns, saveRules, saved, save, restoreRules, restore}
+use Rattle.manual.specs.Image.{Still, imageOf, stateOf, acceptable, anyRuns, saveRules, saved, save, restoreRules, restore}
 use Rattle.manual.proofs.AnswersLaws.{none-applies, accepted, goes-through}
-use Rattle.manual.proofs.ImageLaws.{Still}
 use Rattle.manual.proofs.AcceptedImages.{accepted-state, accepted-image}
 
 four-pass : (a b c d : Bool) → a ≡ true → b ≡ true → c ≡ false → d ≡ false → firstThatApplies ((2 if not a) ∷ (3 if not b) ∷ (5 if c) ∷ (7 if d) ∷ []) ≡ 0
@@ -42,7 +41,7 @@ module _ (cfg : Configuration) (image : List ℕ) (s : State) (z : restore cfg i
   unfolding save saveRules
   save-after-restore room fits =
       goes-through _ room t (saved cfg (imageOf cfg t) room t)
-      (four-pass (configOk cfg) (wellFormed cfg t) (anyRuns cfg (t .board)) (ltb (length room) (length (imageOf cfg t))) configured (still .formed) (still .stopped)
+      (four-pass (configOk cfg) (wellFormed cfg t) (anyRuns (t .board)) (ltb (length room) (length (imageOf cfg t))) configured (still .formed) (still .stopped)
       (le-ltb (length room) (length (imageOf cfg t)) (let e = ap length same-image in omega arith)))
       ∙ ap (λ (l : List ℕ). saved cfg l room t) same-image
     where

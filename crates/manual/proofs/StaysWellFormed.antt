@@ -29,7 +29,8 @@ use Rattle.manual.specs.Answers.{Outcome, firstThatApplies}
 use Rattle.manual.specs.Calls.{freshState, fresh, cycleRuns, reportRules, applied, tickRules, timeRuns, ticks, ofCycle, startRules, covers, overflowCleared, cleared}
 use Rattle.manual.specs.Image.{restore}
 use Rattle.manual.specs.Sequences.{Call, Fresh, Report, Tick, Start, Stop, Clear, ReadStatus, ReadFrame, Save, Restore, Request, beginsAnew, outcome, goesOn}
-use Rattle.manual.proofs.WordsLaws.{clash, by, All, all-both, all-of-test, test-of-all, zeros-pass}
+use Rattle.manual.specs.Words.{All}
+use Rattle.manual.proofs.WordsLaws.{clash, by, all-both, all-of-test, test-of-all, zeros-pass}
 use Rattle.manual.proofs.AnswersLaws.{none-applies, accepted}
 use Rattle.manual.proofs.ConfigurationLaws.{ConfigTells, config-tells}
 use Rattle.manual.proofs.DebouncingLaws.{zero-ok, report-ok, tick-ok, stopped-zero, DOk-by-running}

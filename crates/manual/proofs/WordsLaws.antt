@@ -14,7 +14,7 @@ use lib.Signed.{leZ}
 use borrow.Author.Tests.{eq-eqb, eqb-true}
 use Rattle.history.specs.Words.{anyOf, allOf}
 use Rattle.history.proofs.WordsLaws.{and-left, and-right, both}
-use Rattle.manual.specs.Words.{allBelow, forBelow, firstOf, those, equal, eqZ, between}
+use Rattle.manual.specs.Words.{All, allBelow, forBelow, firstOf, those, equal, eqZ, between}
 
 -- ---- tests
 
@@ -54,11 +54,6 @@ for-below-keeps P one n (suc m) h f s p = f m (forBelow m one s) h (for-below-ke
 -- ---- lists
 
 module _ {A : Type 0} where
-  -- a property of each element
-  abbrev pub All : (A → Type 0) → List A → Type 0
-  All P [] = Unit {0}
-  All P (x ∷ xs) = P x × All P xs
-
   pub all-map : (P Q : A → Type 0) → ((x : A) → P x → Q x) → (xs : List A) → All P xs → All Q xs
   all-map P Q f [] a = tt
   all-map P Q f (x ∷ xs) a = (f x (a .0), all-map P Q f xs (a .1))

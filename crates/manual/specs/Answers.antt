@@ -1,8 +1,10 @@
 -- Document 01, "Numbers a call answers with". Assumes nothing.
-use mathlib.Core.Bool.{Bool, cond}
-use mathlib.Core.List.{List, [], _∷_}
+use mathlib.Core.Path.{_≡_}
+use mathlib.Core.Bool.{Bool, true, false, cond}
+use mathlib.Core.List.{List, [], _∷_, _++_}
 use Prim.Native.Nat.{ℕ}
 use lib.Dec.{eqb}
+use Rattle.history.specs.Words.{anyOf}
 use Rattle.manual.specs.declared.Verdict.{Verdict}
 use Rattle.manual.specs.declared.Verdict.the-variants.{None}
 use Rattle.manual.specs.declared.Refusal.{Refusal}
@@ -52,6 +54,13 @@ infix 20 _if_
 unfoldable pub firstThatApplies : List Rule → ℕ
 firstThatApplies [] = 0
 firstThatApplies (r ∷ rs) = cond (r .applies) (r .number) (firstThatApplies rs)
+
+-- the same as a relation: this number is given by these rules
+pub data Given : List Rule → ℕ → Type 0 where
+  -- no test of the list holds
+  done-by : (rules : List Rule) → anyOf (λ r. r .applies) rules ≡ false → Given rules 0
+  -- the test of r holds, and none before it does
+  refusal-by : (earlier : List Rule) (r : Rule) (later : List Rule) → anyOf (λ r. r .applies) earlier ≡ false → r .applies ≡ true → Given (earlier ++ r ∷ later) (r .number)
 
 -- refused by the first that applies, and what the call does where none does
 unfoldable pub judged : List Rule → List ℕ → State → Outcome → Outcome

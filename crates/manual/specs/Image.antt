@@ -1,5 +1,6 @@
 -- Document 01, "Saved image". Assumes nothing.
-use mathlib.Core.Bool.{Bool, not, _&&_, cond}
+use mathlib.Core.Path.{_≡_}
+use mathlib.Core.Bool.{Bool, true, false, not, _&&_, cond}
 use mathlib.Core.List.{List, [], _∷_, _++_}
 use Prim.Native.Nat.{ℕ, _+_, _-_, _*_}
 use lib.ListN.{length, getD, take, drop, replicate}
@@ -48,6 +49,10 @@ header r m o =
 unfoldable pub imageFrom : List ℕ → List ℕ → List ℕ → List ℕ
 imageFrom records memory overflow = header (length records) (length memory) (length overflow) ++ (records ++ (memory ++ overflow))
 
+-- "5 | … save, any cycle running"
+abbrev pub anyRuns : Board → Bool
+anyRuns b = anyOf (λ r. r) (b .running)
+
 module _ (cfg : Configuration) where
   -- "2 the entry count and the entries in use"
   abbrev pub memoryBody : State → List ℕ
@@ -83,11 +88,13 @@ module _ (cfg : Configuration) where
   unfoldable pub acceptable : List ℕ → Bool
   acceptable image = wellFormed cfg (stateOf image) && equal (imageOf (stateOf image)) image
 
-  -- ---- save: "save 5, 7"
+  -- "well-formed states with all cycles stopped"; that a board has four cycles is a fact of its type in code
+  pub record Still (s : State) : Type 0 where
+    pub formed : wellFormed cfg s ≡ true
+    pub four : length (s .board .running) ≡ 4
+    pub stopped : anyRuns (s .board) ≡ false
 
-  -- "5 | save, any cycle running"
-  abbrev pub anyRuns : Board → Bool
-  anyRuns b = anyOf (λ r. r) (b .running)
+  -- ---- save: "save 5, 7"
 
   unfoldable pub saveRules : List ℕ → State → List Rule
   saveRules room s = begins cfg s ((5 if anyRuns (s .board)) ∷ (7 if ltb (length room) (length (imageOf s))) ∷ [])

@@ -6,6 +6,7 @@ pub mod Answers
 pub mod Debouncing
 pub mod OneEvent
 pub mod Memory
+pub mod Displacement
 pub mod Calls
 pub mod Diagnostics
 pub mod Image

@@ -13,11 +13,11 @@ use Rattle.manual.specs.declared.Verdict.the-variants.{None, Passed, Fai
 use Rattle.manual.specs.Words.{threeAt}
 use Rattle.manual.specs.Configuration.{Configuration}
 use Rattle.manual.specs.State.{State, D}
-use Rattle.manual.specs.Answers.{Outcome}
+use Rattle.manual.specs.Answers.{Outcome, Rule}
 use Rattle.manual.specs.Debouncing.{reported, ticked}
-use Rattle.manual.specs.Calls.{fresh, report, tick, startCycle, stopCycle, clearCode, readStatus, readFrame, timeRuns, ofCycle, covers, unknownCode}
-use Rattle.manual.specs.Image.{save, restore}
-use Rattle.manual.specs.Diagnostics.{requestReply}
+use Rattle.manual.specs.Calls.{freshRules, reportRules, tickRules, startRules, stopRules, clearRules, readStatusRules, readFrameRules, fresh, report, tick, startCycle, stopCycle, clearCode, readStatus, readFrame, timeRuns, ofCycle, covers, unknownCode}
+use Rattle.manual.specs.Image.{saveRules, restoreRules, save, restore}
+use Rattle.manual.specs.Diagnostics.{requestRules, requestReply}
 
 -- the eleven calls with any arguments whatever
 pub data Call : Type 0 where
@@ -40,6 +40,20 @@ onlyIf test tokens = cond test tokens []
 -- the image that a save wrote
 abbrev pub written : Outcome → List ℕ
 written o = take (o .value) (o .room)
+
+-- the room that was lent to a call
+abbrev pub roomOf : Call → List ℕ
+roomOf Fresh = []
+roomOf (Report k code frame) = []
+roomOf (Tick ms frame) = []
+roomOf (Start c) = []
+roomOf (Stop c) = []
+roomOf (Clear code) = []
+roomOf (ReadStatus k) = []
+roomOf (ReadFrame k) = []
+roomOf (Save room) = room
+roomOf (Restore image) = []
+roomOf (Request bytes room) = room
 
 -- a fresh or a restore, which begins anew where it is accepted
 abbrev pub beginsAnew : Call → Bool
@@ -68,6 +82,20 @@ module _ (cfg : Configuration) where
   outcome (Save room) s = save cfg room s
   outcome (Restore image) s = restore cfg image s
   outcome (Request bytes room) s = requestReply cfg bytes room s
+
+  -- the list of refusals of a call, in its order
+  abbrev pub rulesOf : Call → State → List Rule
+  rulesOf Fresh s = freshRules cfg s
+  rulesOf (Report k code frame) s = reportRules cfg k code frame s
+  rulesOf (Tick ms frame) s = tickRules cfg ms frame s
+  rulesOf (Start c) s = startRules cfg c s
+  rulesOf (Stop c) s = stopRules cfg c s
+  rulesOf (Clear code) s = clearRules cfg code s
+  rulesOf (ReadStatus k) s = readStatusRules cfg k s
+  rulesOf (ReadFrame k) s = readFrameRules cfg k s
+  rulesOf (Save room) s = saveRules cfg room s
+  rulesOf (Restore image) s = restoreRules cfg image s
+  rulesOf (Request bytes room) s = requestRules cfg bytes room s
 
   -- service 14 with a trouble code that some event has, or with the one for all
   abbrev pub asksClear : List ℕ → Bool

@@ -33,6 +33,11 @@ joinBelow (suc n) f = joinBelow n f ++ f n
 -- ---- lists
 
 module _ {A : Type 0} where
+  -- a property of each element
+  abbrev pub All : (A → Type 0) → List A → Type 0
+  All P [] = Unit {0}
+  All P (x ∷ xs) = P x × All P xs
+
   -- the first that passes
   unfoldable pub firstOf : (A → Bool) → List A → Option A
   firstOf p [] = none
