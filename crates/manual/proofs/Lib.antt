@@ -23,3 +23,4 @@ pub mod HistoriesAreLegal
 pub mod NoCallLeftOut
 pub mod ExamplesAreASequence
 pub mod OnlyTheNamedEntryLeaves
+pub mod EventLoops

@@ -68,7 +68,7 @@ module _ {cfg : Configuration} {one : ℕ → State → State} {f : ℕ → View
   pub fold-running : (n : ℕ) (s : State) → forBelow n one s .board .running ≡ s .board .running
   fold-running n s = for-below-keeps (λ t. t .board .running ≡ s .board .running) one n n (le-refl n) (λ k t h q. acts .running k t ∙ q) s refl
 
-  fold-later : (n e : ℕ) (s : State) → n ≤ e → view (forBelow n one s) e ≡ view s e
+  pub fold-later : (n e : ℕ) (s : State) → n ≤ e → view (forBelow n one s) e ≡ view s e
   fold-later n e s h = for-below-keeps (λ t. view t e ≡ view s e) one n n (le-refl n) (λ k t l q. acts .other k e t (λ (p : e ≡ k). omega arith) ∙ q) s refl
 
   pub fold-own : (n e : ℕ) (s : State) → Sized cfg s → n ≤ events cfg → e < n → view (forBelow n one s) e ≡ f e (view s e)

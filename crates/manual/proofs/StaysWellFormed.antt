@@ -46,14 +46,14 @@ use Rattle.manual.proofs.RecordsFollowHistories.{fresh-follows}
 
 module _ (cfg : Configuration) where
   -- event e's record and D are as "well formed" asks, on this board
-  record EventGood (b : Board) (e : ℕ) (v : View) : Type 0 where
-    kept : recordOk cfg e (opened (v .stored)) ≡ true
-    number : DOk cfg b e (v .number) ≡ true
+  pub record EventGood (b : Board) (e : ℕ) (v : View) : Type 0 where
+    pub kept : recordOk cfg e (opened (v .stored)) ≡ true
+    pub number : DOk cfg b e (v .number) ≡ true
 
   -- a well-formed state in the form in which steps keep it
-  record Sound (s : State) : Type 0 where
-    memory : MemoryGood cfg s
-    events-good : (e : ℕ) → e < events cfg → EventGood (s .board) e (view s e)
+  pub record Sound (s : State) : Type 0 where
+    pub memory : MemoryGood cfg s
+    pub events-good : (e : ℕ) → e < events cfg → EventGood (s .board) e (view s e)
 
   -- ---- there and back
 
@@ -63,7 +63,7 @@ module _ (cfg : Configuration) where
   entry-told : (s : State) (x : Entry) → EntryGood (events cfg) (frameBytes cfg) (hasFailedBit cfg s) x → entryOk cfg s x ≡ true
   entry-told s x g = parts _ (lt-ltb (eventOf x) (events cfg) (g .below), (le-leb 1 (x .count) (g .occurred), (g .failed, tt)))
 
-  sound : (s : State) → wellFormed cfg s ≡ true → Sound s
+  pub sound : (s : State) → wellFormed cfg s ≡ true → Sound s
   unfolding entriesOf
   sound s w = record {
     memory = record {
@@ -122,7 +122,7 @@ module _ (cfg : Configuration) where
   on-board : (b : Board) (s : State) → MemoryGood cfg s → ((e : ℕ) → e < events cfg → EventGood b e (view s e)) → Sound (withBoard b s)
   on-board b s m f = record { memory = record { sized = record { records = m .sized .records; debounce = m .sized .debounce }; block = m .block; good = m .good }; events-good = f }
 
-  same-running : (b b′ : Board) → b′ .running ≡ b .running → (e : ℕ) (v : View) → EventGood b e v → EventGood b′ e v
+  pub same-running : (b b′ : Board) → b′ .running ≡ b .running → (e : ℕ) (v : View) → EventGood b e v → EventGood b′ e v
   same-running b b′ r e v g = record { kept = g .kept; number = DOk-by-running cfg b b′ e (v .number) (ap (λ (l : List Bool). getD l (cycleOf cfg e) false) (sym r)) (g .number) }
 
   module _ (t : ConfigTells cfg) where
