@@ -1,0 +1,42 @@
+-- Laws of tests and of `allBelow` as code makes them: joined one after the other, gathered in a loop.
+use mathlib.Core.Path.{_≡_, refl, sym}
+use mathlib.Core.Bool.{Bool, true, false, not, _&&_, cond}
+use mathlib.Core.List.{List, [], _∷_}
+use Prim.Native.Nat.{ℕ, zero, suc, _+_}
+use native.Mathlib.Numerals.{add-one}
+use Rattle.history.specs.Words.{holds}
+use Rattle.history.proofs.WordsLaws.{and-true, and-false, and-assoc}
+use Rattle.manual.specs.Words.{allBelow}
+
+pub cond-not : {A : Type 0} (b : Bool) (x y : A) → cond (not b) x y ≡ cond b y x
+cond-not true x y = refl
+cond-not false x y = refl
+
+-- a & b & c & …
+abbrev pub joined : Bool → List Bool → Bool
+joined a [] = a
+joined a (b ∷ bs) = joined (a && b) bs
+
+pub joined-is : (a : Bool) (bs : List Bool) → joined a bs ≡ holds (a ∷ bs)
+unfolding holds
+joined-is a [] = rw (and-true a)
+joined-is a (b ∷ bs) = rw (joined-is (a && b) bs, and-assoc a b (holds bs))
+
+-- a loop that gathers a test of each number below n
+pub all-none : (f : ℕ → Bool) → allBelow 0 f ≡ true
+unfolding allBelow
+all-none f = refl
+
+pub all-more : (n : ℕ) (f : ℕ → Bool) → allBelow (n + 1) f ≡ allBelow n f && f n
+unfolding allBelow
+all-more n f = rw add-one
+
+pub all-both : (n : ℕ) (f g : ℕ → Bool) → allBelow n (λ e. f e && g e) ≡ allBelow n f && allBelow n g
+unfolding allBelow
+all-both zero f g = refl
+all-both (suc n) f g = rw (all-both n f g) (swapped (allBelow n f) (allBelow n g) (f n) (g n))
+  where
+    swapped : (a b c d : Bool) → (a && b) && (c && d) ≡ (a && c) && (b && d)
+    swapped true true c d = refl
+    swapped true false c d = sym (and-false c)
+    swapped false b c d = refl

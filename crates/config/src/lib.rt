@@ -1,0 +1,342 @@
+// Document 01, "The parts the manager works on": reading the configuration, judging it, and the search of a trouble code.
+use manual::EventNumber;
+ghost use mathlib.Core.Path.{_≡_};
+ghost use mathlib.Core.Bool.{true, cond};
+ghost use Prim.Native.Nat.{_<_, _≤_};
+ghost use lib.IntN.{pos};
+ghost use Rattle.manual.specs.Words.{allBelow, between, eqZ, natOf};
+ghost use Rattle.manual.specs.Configuration.{numberAt, events, places, frameBytes, column, codeOf, priorityOf, cycleOf, kindOf, lowOf, highOf, upOf, downOf, jumpsOf, limitsOf, rowOk, configOk};
+ghost use Rattle.config.specs.Rows.{InRow, limitsIs, risesHere, rowFits};
+ghost use Rattle.config.specs.Search.{hasCode, firstWithCode, searchIs};
+
+// "Configuration: lent signed 32-bit numbers, three in front: n events …, M memory places …, F frame bytes"
+const IN_FRONT: usize = 3;
+
+const N_AT: usize = 0;
+
+const M_AT: usize = 1;
+
+const F_AT: usize = 2;
+
+// "Then 13 per event, event 0 first"
+const ROW_WIDTH: usize = 13;
+
+// The numbers of a row, counted from 1 as the table does.
+const TROUBLE_CODE: usize = 1;
+
+const PRIORITY: usize = 2;
+
+const CYCLE: usize = 3;
+
+const KIND: usize = 4;
+
+const P: usize = 5;
+
+const Q: usize = 6;
+
+const UP: usize = 7;
+
+const DOWN: usize = 8;
+
+const JUMPS: usize = 9;
+
+const CONFIRM: usize = 10;
+
+const HEAL: usize = 11;
+
+const AGE: usize = 12;
+
+const INDICATOR: usize = 13;
+
+// "0 internal, 1 counter, 2 time"
+pub const INTERNAL: usize = 0;
+
+pub const COUNTER: usize = 1;
+
+pub const TIME: usize = 2;
+
+// ---- reading: a number past the end is 0, and so is a negative one where a count is read
+
+fn number_at(cfg: &[i32], index: usize) -> i32
+    ensures { λ r. ⌜ r ≡ numberAt (now (cfg .entry)) index ⌝ }
+{
+    if index < cfg.len() { cfg[index] } else { 0 }
+}
+
+fn count_of(number: i32) -> usize
+    ensures { λ r. ⌜ r ≡ natOf number ⌝ }
+{
+    if number < 0 { 0 } else { number as usize }
+}
+
+fn count_at(cfg: &[i32], index: usize) -> usize
+    ensures { λ r. ⌜ r ≡ natOf (numberAt (now (cfg .entry)) index) ⌝ }
+{
+    count_of(number_at(cfg, index))
+}
+
+// "n events (1 to 512)"
+pub fn events(cfg: &[i32]) -> usize
+    ensures { λ r. ⌜ r ≡ events (now (cfg .entry)) ⌝ }
+{
+    count_at(cfg, N_AT)
+}
+
+// "M memory places (1 to 64)"
+pub fn places(cfg: &[i32]) -> usize
+    ensures { λ r. ⌜ r ≡ places (now (cfg .entry)) ⌝ }
+{
+    count_at(cfg, M_AT)
+}
+
+// "F frame bytes (0 to 32)"
+pub fn frame_bytes(cfg: &[i32]) -> usize
+    ensures { λ r. ⌜ r ≡ frameBytes (now (cfg .entry)) ⌝ }
+{
+    count_at(cfg, F_AT)
+}
+
+// Number k of the event's row.
+fn number_in_row(cfg: &[i32], event: EventNumber, k: usize) -> i32
+    requires { ⌜ InRow (event .0) k ⌝ }
+    ensures { λ r. ⌜ r ≡ column k (now (cfg .entry)) (event .0) ⌝ }
+{
+    number_at(cfg, IN_FRONT + ROW_WIDTH * event.0 + (k - 1))
+}
+
+fn count_in_row(cfg: &[i32], event: EventNumber, k: usize) -> usize
+    requires { ⌜ InRow (event .0) k ⌝ }
+    ensures { λ r. ⌜ r ≡ natOf (column k (now (cfg .entry)) (event .0)) ⌝ }
+{
+    count_of(number_in_row(cfg, event, k))
+}
+
+// "1 | trouble code"
+pub fn code_of(cfg: &[i32], event: EventNumber) -> usize
+    requires { ⌜ event .0 < 512 ⌝ }
+    ensures { λ r. ⌜ r ≡ codeOf (now (cfg .entry)) (event .0) ⌝ }
+{
+    count_in_row(cfg, event, TROUBLE_CODE)
+}
+
+// "2 | priority | … 1 the most important"
+pub fn priority_of(cfg: &[i32], event: EventNumber) -> usize
+    requires { ⌜ event .0 < 512 ⌝ }
+    ensures { λ r. ⌜ r ≡ priorityOf (now (cfg .entry)) (event .0) ⌝ }
+{
+    count_in_row(cfg, event, PRIORITY)
+}
+
+// "3 | cycle"
+pub fn cycle_of(cfg: &[i32], event: EventNumber) -> usize
+    requires { ⌜ event .0 < 512 ⌝ }
+    ensures { λ r. ⌜ r ≡ cycleOf (now (cfg .entry)) (event .0) ⌝ }
+{
+    count_in_row(cfg, event, CYCLE)
+}
+
+// "4 | debounce kind": INTERNAL, COUNTER or TIME
+pub fn kind_of(cfg: &[i32], event: EventNumber) -> usize
+    requires { ⌜ event .0 < 512 ⌝ }
+    ensures { λ r. ⌜ r ≡ kindOf (now (cfg .entry)) (event .0) ⌝ }
+{
+    count_in_row(cfg, event, KIND)
+}
+
+// "5, 6 | P, Q": P
+pub fn low_of(cfg: &[i32], event: EventNumber) -> i32
+    requires { ⌜ event .0 < 512 ⌝ }
+    ensures { λ r. ⌜ r ≡ lowOf (now (cfg .entry)) (event .0) ⌝ }
+{
+    number_in_row(cfg, event, P)
+}
+
+// "5, 6 | P, Q": Q
+pub fn high_of(cfg: &[i32], event: EventNumber) -> i32
+    requires { ⌜ event .0 < 512 ⌝ }
+    ensures { λ r. ⌜ r ≡ highOf (now (cfg .entry)) (event .0) ⌝ }
+{
+    number_in_row(cfg, event, Q)
+}
+
+// "7, 8 | up, down": up
+pub fn up_of(cfg: &[i32], event: EventNumber) -> i32
+    requires { ⌜ event .0 < 512 ⌝ }
+    ensures { λ r. ⌜ r ≡ upOf (now (cfg .entry)) (event .0) ⌝ }
+{
+    number_in_row(cfg, event, UP)
+}
+
+// "7, 8 | up, down": down
+pub fn down_of(cfg: &[i32], event: EventNumber) -> i32
+    requires { ⌜ event .0 < 512 ⌝ }
+    ensures { λ r. ⌜ r ≡ downOf (now (cfg .entry)) (event .0) ⌝ }
+{
+    number_in_row(cfg, event, DOWN)
+}
+
+// "9 | jumps | … 1 = jump up, 2 = jump down, 3 = both"
+pub fn jumps_of(cfg: &[i32], event: EventNumber) -> usize
+    requires { ⌜ event .0 < 512 ⌝ }
+    ensures { λ r. ⌜ r ≡ jumpsOf (now (cfg .entry)) (event .0) ⌝ }
+{
+    count_in_row(cfg, event, JUMPS)
+}
+
+// "10, 11, 12 | C confirm, H heal, A age", "13 | indicator"
+pub struct Limits {
+    pub confirm: usize,
+    pub heal: usize,
+    pub age: usize,
+    pub indicator: bool,
+}
+
+pub fn limits_of(cfg: &[i32], event: EventNumber) -> Limits
+    requires { ⌜ event .0 < 512 ⌝ }
+    ensures { λ r. ⌜ limitsIs r ≡ limitsOf (now (cfg .entry)) (event .0) ⌝ }
+{
+    Limits {
+        confirm: count_in_row(cfg, event, CONFIRM),
+        heal: count_in_row(cfg, event, HEAL),
+        age: count_in_row(cfg, event, AGE),
+        indicator: count_in_row(cfg, event, INDICATOR) == 1,
+    }
+}
+
+// ---- judging
+
+// Whether a number is lo to hi, both allowed.
+fn between(number: i32, lo: i32, hi: i32) -> bool
+    ensures { λ r. ⌜ r ≡ between lo hi number ⌝ }
+{
+    lo <= number && number <= hi
+}
+
+fn front_in_range(cfg: &[i32], index: usize, lo: i32, hi: i32) -> bool
+    ensures { λ r. ⌜ r ≡ between lo hi (numberAt (now (cfg .entry)) index) ⌝ }
+{
+    between(number_at(cfg, index), lo, hi)
+}
+
+fn in_range(cfg: &[i32], event: EventNumber, k: usize, lo: i32, hi: i32) -> bool
+    requires { ⌜ InRow (event .0) k ⌝ }
+    ensures { λ r. ⌜ r ≡ between lo hi (column k (now (cfg .entry)) (event .0)) ⌝ }
+{
+    between(number_in_row(cfg, event, k), lo, hi)
+}
+
+// Where the test holds, whether number k of the event's row is lo to hi; "else 0".
+fn in_range_if(test: bool, cfg: &[i32], event: EventNumber, k: usize, lo: i32, hi: i32) -> bool
+    requires { ⌜ InRow (event .0) k ⌝ }
+    ensures { λ r.
+        ⌜
+        r
+        ≡ cond test (between lo hi (column k (now (cfg .entry)) (event .0)))
+        (eqZ (column k (now (cfg .entry)) (event .0)) (pos 0))
+        ⌝ }
+{
+    let number = number_in_row(cfg, event, k);
+    if test {
+        between(number, lo, hi)
+    } else {
+        number == 0
+    }
+}
+
+// The table's column "allowed", a line for each number of the row.
+fn row_ok(cfg: &[i32], event: EventNumber) -> bool
+    requires { ⌜ event .0 < 512 ⌝ }
+    ensures { λ r. ⌜ r ≡ rowOk (now (cfg .entry)) (event .0) ⌝ }
+{
+    let kind = kind_of(cfg, event);
+    let debounced = kind != INTERNAL;
+    let counter = kind == COUNTER;
+    in_range(cfg, event, TROUBLE_CODE, 1, 16_777_214)
+        & in_range(cfg, event, PRIORITY, 1, 255)
+        & in_range(cfg, event, CYCLE, 0, 3)
+        & in_range(cfg, event, KIND, 0, 2)
+        & in_range_if(debounced, cfg, event, P, -30_000, -1)
+        & in_range_if(debounced, cfg, event, Q, 1, 30_000)
+        & in_range_if(counter, cfg, event, UP, 1, 30_000)
+        & in_range_if(counter, cfg, event, DOWN, 1, 30_000)
+        & in_range_if(counter, cfg, event, JUMPS, 0, 3)
+        & in_range(cfg, event, CONFIRM, 1, 255)
+        & in_range(cfg, event, HEAL, 1, 255)
+        & in_range(cfg, event, AGE, 1, 255)
+        & in_range(cfg, event, INDICATOR, 0, 1)
+}
+
+// "strictly rising from event to event": the event's trouble code is above that of the event before.
+fn code_rises(cfg: &[i32], event: EventNumber) -> bool
+    requires { ⌜ event .0 < 512 ⌝ }
+    ensures { λ r. ⌜ r ≡ risesHere (now (cfg .entry)) (event .0) ⌝ }
+{
+    if event.0 == 0 {
+        return true;
+    }
+    let before = number_in_row(cfg, EventNumber(event.0 - 1), TROUBLE_CODE);
+    before < number_in_row(cfg, event, TROUBLE_CODE)
+}
+
+fn row_fits(cfg: &[i32], event: EventNumber) -> bool
+    requires { ⌜ event .0 < 512 ⌝ }
+    ensures { λ r. ⌜ r ≡ rowFits (now (cfg .entry)) (event .0) ⌝ }
+{
+    row_ok(cfg, event) & code_rises(cfg, event)
+}
+
+fn rows_fit(cfg: &[i32], n: usize) -> bool
+    requires { ⌜ n ≤ 512 ⌝ }
+    ensures { λ r. ⌜ r ≡ allBelow n (rowFits (now (cfg .entry))) ⌝ }
+{
+    let mut fit = true;
+    for event in 0..n {
+        fit = fit & row_fits(cfg, EventNumber(event));
+    }
+    fit
+}
+
+// Whether the configuration keeps the table; "2 | configuration breaks the table above" is the answer where it does not.
+// "the length is exactly 3 + 13n" is judged once n is known to be at most 512, since n may be any number.
+pub fn config_ok(cfg: &[i32]) -> bool
+    ensures { λ r. ⌜ r ≡ configOk (now (cfg .entry)) ⌝ }
+{
+    let front_fits = (IN_FRONT <= cfg.len())
+        & front_in_range(cfg, N_AT, 1, 512)
+        & front_in_range(cfg, M_AT, 1, 64)
+        & front_in_range(cfg, F_AT, 0, 32);
+    if !front_fits {
+        return false;
+    }
+    let n = events(cfg);
+    cfg.len() == IN_FRONT + ROW_WIDTH * n && rows_fit(cfg, n)
+}
+
+// ---- the search of a trouble code
+
+// The event that was found, or nothing.
+pub enum CodeSearch {
+    At(EventNumber),
+    Nothing,
+}
+
+fn has_code(cfg: &[i32], event: EventNumber, code: u32) -> bool
+    requires { ⌜ event .0 < 512 ⌝ }
+    ensures { λ r. ⌜ r ≡ hasCode (now (cfg .entry)) code (event .0) ⌝ }
+{
+    code_of(cfg, event) == code as usize
+}
+
+// The first event with this trouble code. Trouble codes are "1 to 16,777,214": 0, FFFFFFh and anything above find nothing.
+pub fn find_code(cfg: &[i32], code: u32) -> CodeSearch
+    requires { ⌜ configOk (now cfg) ≡ true ⌝ }
+    ensures { λ r. ⌜ searchIs r ≡ firstWithCode (now (cfg .entry)) code ⌝ }
+{
+    let n = events(cfg);
+    for event in 0..n {
+        if has_code(cfg, EventNumber(event), code) {
+            return CodeSearch::At(EventNumber(event));
+        }
+    }
+    CodeSearch::Nothing
+}

@@ -1,0 +1,3 @@
+pub mod MasksLaws
+pub mod CountsLaws
+pub mod RecordsLaws

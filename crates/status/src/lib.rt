@@ -1,0 +1,421 @@
+// Document 01, "Status byte": the status byte, the steps of an event's record, and the records and debounce numbers in the lent blocks.
+use manual::EventNumber;
+ghost use mathlib.Core.Path.{_≡_};
+ghost use mathlib.Core.Bool.{Bool, not, _&&_, cond};
+ghost use Prim.Native.Nat.{ℕ, suc, _+_, _-_, _*_, min, _≤_, _<_};
+ghost use lib.Dec.{eqb, ltb};
+ghost use lib.Bits.{bitAnd, bitOr};
+ghost use lib.IntN.{pos};
+ghost use lib.ListN.{length, getD, set};
+ghost use Rattle.history.specs.Words.{implies, same};
+ghost use Rattle.history.specs.StatusByte.{Limits, statusOf, freshRecord, cleanCycle, stopA, countsForAgeing, ages, stopB};
+ghost use Rattle.history.specs.WellFormed.{untestedIsFresh, faultyHasFailed, failedIsPending, warningIsConfirmed, pendingHasCycles, wellFormedRecord};
+ghost use Rattle.history.specs.History.{step, passed, start};
+ghost use Rattle.manual.specs.State.{recordWidth, stored, storedAt, withStored};
+ghost use Rattle.status.specs.Records.{storedIs, recordIs, limits, FailedIs, RoomToRise, StoppedIs};
+
+// "The eight bits have the names and weights of ISO 14229-1."
+pub struct Status(pub u8);
+
+impl Status {
+    pub const TEST_FAILED: u8 = 0x01;
+
+    pub const TEST_FAILED_THIS_OPERATION_CYCLE: u8 = 0x02;
+
+    pub const PENDING_DTC: u8 = 0x04;
+
+    pub const CONFIRMED_DTC: u8 = 0x08;
+
+    pub const TEST_NOT_COMPLETED_SINCE_LAST_CLEAR: u8 = 0x10;
+
+    pub const TEST_FAILED_SINCE_LAST_CLEAR: u8 = 0x20;
+
+    pub const TEST_NOT_COMPLETED_THIS_OPERATION_CYCLE: u8 = 0x40;
+
+    pub const WARNING_INDICATOR_REQUESTED: u8 = 0x80;
+
+    // "Fresh: status 50h"
+    pub fn fresh() -> Status
+        ensures { λ s. ⌜ s .0 ≡ 0x50 ⌝ }
+    {
+        Status(
+            Status::TEST_NOT_COMPLETED_SINCE_LAST_CLEAR
+                | Status::TEST_NOT_COMPLETED_THIS_OPERATION_CYCLE,
+        )
+    }
+
+    // The status with the bits of the mask set.
+    pub fn set(self, mask: u8) -> Status
+        ensures { λ s. ⌜ s .0 ≡ bitOr (self .0) mask ⌝ }
+    {
+        Status(self.0 | mask)
+    }
+
+    // The status with the bits of the mask clear.
+    pub fn clear(self, mask: u8) -> Status
+        ensures { λ s. ⌜ s .0 ≡ bitAnd (self .0) (255 - mask) ⌝ }
+    {
+        Status(self.0 & !mask)
+    }
+
+    // The same where a test holds; else the status stays.
+    fn set_if(self, test: bool, mask: u8) -> Status
+        ensures { λ s. ⌜ s .0 ≡ cond test (bitOr (self .0) mask) (self .0) ⌝ }
+    {
+        if test { self.set(mask) } else { self }
+    }
+
+    fn clear_if(self, test: bool, mask: u8) -> Status
+        ensures { λ s. ⌜ s .0 ≡ cond test (bitAnd (self .0) (255 - mask)) (self .0) ⌝ }
+    {
+        if test { self.clear(mask) } else { self }
+    }
+
+    // Whether all bits of the mask are set.
+    pub fn contains(self, mask: u8) -> bool
+        ensures { λ r. ⌜ r ≡ eqb (bitAnd (self .0) mask) mask ⌝ }
+    {
+        self.0 & mask == mask
+    }
+
+    // Whether a bit of the mask is set.
+    pub fn shares(self, mask: u8) -> bool
+        ensures { λ r. ⌜ r ≡ not (eqb (bitAnd (self .0) mask) 0) ⌝ }
+    {
+        self.0 & mask != 0
+    }
+}
+
+// "per event status, K (failed cycles), h (healing count), g (ageing count)"
+pub struct Record {
+    pub status: Status,
+    pub k: u8,
+    pub h: u8,
+    pub g: u8,
+}
+
+// An event's record after a failed result, and whether that is a fresh failure: then memory is told.
+pub struct AfterFailed {
+    pub record: Record,
+    pub fresh_failure: bool,
+}
+
+// An event's record after its cycle's stop, and whether the event aged: then its entry leaves memory.
+pub struct AfterStop {
+    pub record: Record,
+    pub aged: bool,
+}
+
+// ---- what happens to an event
+
+// "Fresh: status 50h, K = h = g = 0", and so after "Clear …: each covered event gets status 50h, K = h = g = D = 0".
+pub fn fresh_record() -> Record
+    ensures { λ f. ⌜ storedIs f ≡ stored freshRecord ⌝ }
+{
+    Record {
+        status: Status::fresh(),
+        k: 0,
+        h: 0,
+        g: 0,
+    }
+}
+
+// "Passed: clears 0, 4, 6."
+pub fn passed(r: Record) -> Record
+    ensures { λ p. ⌜ ((n : Limits) → storedIs p ≡ stored (step n passed (recordIs r))) ⌝ }
+{
+    let s = r.status;
+    Record {
+        status: s.clear(
+            Status::TEST_FAILED
+                | Status::TEST_NOT_COMPLETED_SINCE_LAST_CLEAR
+                | Status::TEST_NOT_COMPLETED_THIS_OPERATION_CYCLE,
+        ),
+        k: r.k,
+        h: r.h,
+        g: r.g,
+    }
+}
+
+// A count that rises by one where a test holds, at most 255.
+fn risen_if(test: bool, count: u8) -> u8
+    ensures { λ r. ⌜ r ≡ cond test (min 255 (suc count)) count ⌝ }
+{
+    if test & (count < 255) {
+        count + 1
+    } else {
+        count
+    }
+}
+
+// A count that is 0 where a test holds.
+fn zero_if(test: bool, count: u8) -> u8
+    ensures { λ r. ⌜ r ≡ cond test 0 count ⌝ }
+{
+    if test { 0 } else { count }
+}
+
+// "Failed: if bit 1 was clear, K rises by one, at most 255. Sets 0, 1, 2, 5; clears 4, 6; h = g = 0. If K ≥ C, sets 3 and, with
+// indicator 1, 7. If bit 0 was clear before, it is a fresh failure and memory is told, last."
+pub fn failed(confirm: usize, indicator: bool, r: Record) -> AfterFailed
+    ensures { λ f. ⌜ ((H A : ℕ) → FailedIs (limits confirm H A indicator) r f) ⌝ }
+{
+    let s = r.status;
+    let k = risen_if(!s.contains(Status::TEST_FAILED_THIS_OPERATION_CYCLE), r.k);
+    let confirms = confirm <= k as usize;
+    let tested = s.set(
+            Status::TEST_FAILED
+                | Status::TEST_FAILED_THIS_OPERATION_CYCLE
+                | Status::PENDING_DTC
+                | Status::TEST_FAILED_SINCE_LAST_CLEAR,
+        )
+        .clear(
+            Status::TEST_NOT_COMPLETED_SINCE_LAST_CLEAR
+                | Status::TEST_NOT_COMPLETED_THIS_OPERATION_CYCLE,
+        );
+    AfterFailed {
+        record: Record {
+            status: tested
+                .set_if(indicator & confirms, Status::WARNING_INDICATOR_REQUESTED)
+                .set_if(confirms, Status::CONFIRMED_DTC),
+            k: k,
+            h: 0,
+            g: 0,
+        },
+        fresh_failure: !s.contains(Status::TEST_FAILED),
+    }
+}
+
+// "Start of a stopped cycle: for its events clears 1, sets 6."
+pub fn started(r: Record) -> Record
+    ensures { λ o. ⌜ ((n : Limits) → storedIs o ≡ stored (step n start (recordIs r))) ⌝ }
+{
+    let s = r.status;
+    Record {
+        status: s.clear(Status::TEST_FAILED_THIS_OPERATION_CYCLE)
+            .set(Status::TEST_NOT_COMPLETED_THIS_OPERATION_CYCLE),
+        k: r.k,
+        h: r.h,
+        g: r.g,
+    }
+}
+
+// "if 1 and 6 are clear"
+fn clean_cycle(s: Status) -> bool
+    ensures { λ r. ⌜ r ≡ cleanCycle (statusOf (s .0)) ⌝ }
+{
+    !s.shares(
+        Status::TEST_FAILED_THIS_OPERATION_CYCLE | Status::TEST_NOT_COMPLETED_THIS_OPERATION_CYCLE,
+    )
+}
+
+// "(a) if 1 and 6 are clear: bit 2 clear, K = 0, and if bit 7 is set h rises by one; at H, bit 7 clear and h = 0."
+fn stop_a(heal: usize, r: Record) -> Record
+    requires { ⌜ r .h < 255 ⌝ }
+    ensures { λ a. ⌜ ((C A : ℕ) (i : Bool) → storedIs a ≡ stored (stopA (limits C heal A i) (recordIs r))) ⌝ }
+{
+    let s = r.status;
+    let clean = clean_cycle(s);
+    let counts = clean & s.contains(Status::WARNING_INDICATOR_REQUESTED);
+    let h = risen_if(counts, r.h);
+    let heals = counts & (h as usize == heal);
+    Record {
+        status: s.clear_if(clean, Status::PENDING_DTC)
+            .clear_if(heals, Status::WARNING_INDICATOR_REQUESTED),
+        k: zero_if(clean, r.k),
+        h: zero_if(heals, h),
+        g: r.g,
+    }
+}
+
+// What counts for ageing: "if 1 is clear".
+fn counts_for_ageing(s: Status) -> bool
+    ensures { λ r. ⌜ r ≡ countsForAgeing (statusOf (s .0)) ⌝ }
+{
+    !s.contains(Status::TEST_FAILED_THIS_OPERATION_CYCLE)
+}
+
+// "(b) then, if 1 is clear and 3 is set: g rises by one; at A the event ages: 3 and 7 clear, h = g = 0, its entry leaves memory."
+fn stop_b(age: usize, r: Record) -> AfterStop
+    requires { ⌜ r .g < 255 ⌝ }
+    ensures { λ b. ⌜ ((C H : ℕ) (i : Bool) → (storedIs (b .«record») ≡ stored (stopB (limits C H age i) (recordIs r))) × (b .aged ≡ ages (limits C H age i) (recordIs r))) ⌝ }
+{
+    let s = r.status;
+    let counts = counts_for_ageing(s) & s.contains(Status::CONFIRMED_DTC);
+    let g = risen_if(counts, r.g);
+    let ages = counts & (g as usize == age);
+    AfterStop {
+        record: Record {
+            status: s.clear_if(
+                ages,
+                Status::CONFIRMED_DTC | Status::WARNING_INDICATOR_REQUESTED,
+            ),
+            k: r.k,
+            h: zero_if(ages, r.h),
+            g: zero_if(ages, g),
+        },
+        aged: ages,
+    }
+}
+
+// "Stop, for its events: (a) … (b) …": the record after both. The debounce number and the entry are the caller's.
+pub fn stopped(heal: usize, age: usize, r: Record) -> AfterStop
+    requires { ⌜ RoomToRise r ⌝ }
+    ensures { λ s. ⌜ ((C : ℕ) (i : Bool) → StoppedIs (limits C heal age i) r s) ⌝ }
+{
+    stop_b(age, stop_a(heal, r))
+}
+
+// ---- "A state is well formed when …": the clauses on an event's record
+
+// Where the first holds, the second does.
+fn implies(a: bool, b: bool) -> bool
+    ensures { λ r. ⌜ r ≡ implies a b ⌝ }
+{
+    if a { b } else { true }
+}
+
+// Both hold or neither does.
+fn same(a: bool, b: bool) -> bool
+    ensures { λ r. ⌜ r ≡ same a b ⌝ }
+{
+    if a { b } else { !b }
+}
+
+// "bit 4 set means status is exactly 50h"
+fn untested_is_fresh(s: Status) -> bool
+    ensures { λ r. ⌜ r ≡ untestedIsFresh (statusOf (s .0)) ⌝ }
+{
+    let fresh = Status::fresh();
+    implies(
+        s.contains(Status::TEST_NOT_COMPLETED_SINCE_LAST_CLEAR),
+        s.0 == fresh.0,
+    )
+}
+
+// "bit 0, 2 or 3 set means bit 5 set"
+fn faulty_has_failed(s: Status) -> bool
+    ensures { λ r. ⌜ r ≡ faultyHasFailed (statusOf (s .0)) ⌝ }
+{
+    implies(
+        s.shares(Status::TEST_FAILED | Status::PENDING_DTC | Status::CONFIRMED_DTC),
+        s.contains(Status::TEST_FAILED_SINCE_LAST_CLEAR),
+    )
+}
+
+// "bit 1 set means bit 2 set and bit 6 clear"
+fn failed_is_pending(s: Status) -> bool
+    ensures { λ r. ⌜ r ≡ failedIsPending (statusOf (s .0)) ⌝ }
+{
+    implies(
+        s.contains(Status::TEST_FAILED_THIS_OPERATION_CYCLE),
+        s.contains(Status::PENDING_DTC)
+            & !s.contains(Status::TEST_NOT_COMPLETED_THIS_OPERATION_CYCLE),
+    )
+}
+
+// "bit 7 set means bit 3 set and indicator 1"
+fn warning_is_confirmed(indicator: bool, s: Status) -> bool
+    ensures { λ r. ⌜ ((C H A : ℕ) → r ≡ warningIsConfirmed (limits C H A indicator) (statusOf (s .0))) ⌝ }
+{
+    implies(
+        s.contains(Status::WARNING_INDICATOR_REQUESTED),
+        s.contains(Status::CONFIRMED_DTC) & indicator,
+    )
+}
+
+// "K ≥ 1 exactly when bit 2 is set"
+fn pending_has_cycles(r: Record) -> bool
+    ensures { λ o. ⌜ o ≡ pendingHasCycles (recordIs r) ⌝ }
+{
+    let s = r.status;
+    same(1 <= r.k, s.contains(Status::PENDING_DTC))
+}
+
+// "h < H, and h = 0 when bit 7 is clear", "g < A, and g = 0 when bit 3 is clear"
+fn count_ok(limit: usize, count: u8, bit: bool) -> bool
+    ensures { λ r. ⌜ r ≡ (ltb count limit && implies (not bit) (eqb count 0)) ⌝ }
+{
+    ((count as usize) < limit) & implies(!bit, count == 0)
+}
+
+// Whether all clauses on an event's record hold; C has no part in them.
+pub fn record_ok(heal: usize, age: usize, indicator: bool, r: Record) -> bool
+    ensures { λ o. ⌜ ((C : ℕ) → o ≡ wellFormedRecord (limits C heal age indicator) (recordIs r)) ⌝ }
+{
+    let s = r.status;
+    untested_is_fresh(s)
+        & faulty_has_failed(s)
+        & failed_is_pending(s)
+        & warning_is_confirmed(indicator, s)
+        & pending_has_cycles(r)
+        & count_ok(heal, r.h, s.contains(Status::WARNING_INDICATOR_REQUESTED))
+        & count_ok(age, r.g, s.contains(Status::CONFIRMED_DTC))
+}
+
+// ---- the records and the debounce numbers in the lent blocks
+
+const RECORD_WIDTH: usize = 4;
+
+// "Records: 4n lent bytes; per event status, K (failed cycles), h (healing count), g (ageing count)."
+pub fn read_record(records: &[u8], event: EventNumber) -> Record
+    requires { ⌜ recordWidth * event .0 + recordWidth ≤ length (now records) ⌝ }
+    ensures { λ r. ⌜ storedIs r ≡ storedAt (event .0) (now (records .entry)) ⌝ }
+{
+    let e = event.0;
+    let at = RECORD_WIDTH * e;
+    Record {
+        status: Status(records[at]),
+        k: records[at + 1],
+        h: records[at + 2],
+        g: records[at + 3],
+    }
+}
+
+// Writes the event's record; all other bytes stay.
+pub fn write_record(records: &mut [u8], event: EventNumber, r: Record)
+    requires { ⌜ recordWidth * event .0 + recordWidth ≤ length (now records) ⌝ }
+    ensures { λ _. ⌜ now (records .exit) ≡ withStored (event .0) (storedIs r) (now (records .entry)) ⌝ }
+{
+    let e = event.0;
+    let at = RECORD_WIDTH * e;
+    let s = r.status;
+    records[at] = s.0;
+    records[at + 1] = r.k;
+    records[at + 2] = r.h;
+    records[at + 3] = r.g;
+}
+
+// The event's status byte; 0 for an event whose byte lies past the end of the records.
+pub fn status_of(records: &[u8], event: EventNumber) -> Status
+    ensures { λ s. ⌜ s .0 ≡ storedAt (event .0) (now (records .entry)) .status ⌝ }
+{
+    let e = event.0;
+    if records.len() / RECORD_WIDTH < e {
+        return Status(0);
+    }
+    let at = RECORD_WIDTH * e;
+    if at < records.len() {
+        Status(records[at])
+    } else {
+        Status(0)
+    }
+}
+
+// "Debounce numbers: n lent signed 32-bit numbers, one D per event."
+pub fn read_number(debounce: &[i32], event: EventNumber) -> i32
+    requires { ⌜ event .0 < length (now debounce) ⌝ }
+    ensures { λ d. ⌜ d ≡ getD (now (debounce .entry)) (event .0) (pos 0) ⌝ }
+{
+    let e = event.0;
+    debounce[e]
+}
+
+// Writes the event's debounce number; all other numbers stay.
+pub fn write_number(debounce: &mut [i32], event: EventNumber, d: i32)
+    requires { ⌜ event .0 < length (now debounce) ⌝ }
+    ensures { λ _. ⌜ now (debounce .exit) ≡ set (now (debounce .entry)) (event .0) d ⌝ }
+{
+    let e = event.0;
+    debounce[e] = d;
+}
