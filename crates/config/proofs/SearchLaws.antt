@@ -1,6 +1,6 @@
 -- Laws of specs/Search.antt: what an answer of the search tells, and how it agrees with the manual's words on a clear.
 use mathlib.Core.Path.{_≡_, refl, sym, ap, subst, _∙_}
-use mathlib.Core.Logic.{_≢_, ⊎-elim}
+use mathlib.Core.Logic.{_≢_, _⊎_, inl, inr, ⊎-elim}
 use mathlib.Core.Bool.{Bool, true, false, not, cond, not-eq-not}
 use mathlib.Core.Option.{Option, none, some, Option·none-ne-some, Option·some-ne-none, Option·some-injective}
 use Prim.Native.Nat.{ℕ, zero, suc, _≤_, _<_}
@@ -23,12 +23,12 @@ use Rattle.config.proofs.JudgedInOnePass.{rows-fit}
 -- ---- the lowest number below n that passes
 
 module _ (f : ℕ → Bool) where
-  pub lowest-none : (n : ℕ) → ((k : ℕ) → k < n → f k ≡ false) → lowestBelow n f ≡ none
+  lowest-none : (n : ℕ) → ((k : ℕ) → k < n → f k ≡ false) → lowestBelow n f ≡ none
   unfolding lowestBelow
   lowest-none zero h = refl
   lowest-none (suc n) h = rw (lowest-none n (λ k q. h k (omega arith)), h n (omega arith))
 
-  pub none-lowest : (n : ℕ) → lowestBelow n f ≡ none → (k : ℕ) → k < n → f k ≡ false
+  none-lowest : (n : ℕ) → lowestBelow n f ≡ none → (k : ℕ) → k < n → f k ≡ false
   unfolding lowestBelow
   none-lowest zero e k h = absurd (not-suc-le-zero h)
   none-lowest (suc n) e k h = go (lowestBelow n f) refl (f n) refl e (λ p. none-lowest n p k)
@@ -38,7 +38,7 @@ module _ (f : ℕ → Bool) where
       go none p true q t ih = absurd (Option·some-ne-none n t)
       go none p false q t ih = ⊎-elim (λ s. ap f s ∙ q) (ih p) (eq-or-lt-of-le (le-of-suc-le-suc h))
 
-  pub lowest-some : (n e : ℕ) → e < n → f e ≡ true → ((k : ℕ) → k < e → f k ≡ false) → lowestBelow n f ≡ some e
+  lowest-some : (n e : ℕ) → e < n → f e ≡ true → ((k : ℕ) → k < e → f k ≡ false) → lowestBelow n f ≡ some e
   unfolding lowestBelow
   lowest-some zero e h t first = absurd (not-suc-le-zero h)
   lowest-some (suc n) e h t first =
@@ -48,12 +48,12 @@ module _ (f : ℕ → Bool) where
       here : n ≡ e → orElse (lowestBelow n f) (cond (f n) (some n) none) ≡ some e
       here s = rw (lowest-none n (λ k q. first k (subst (λ (m : ℕ). k < m) s q)), s, t)
 
-  pub record Lowest (n e : ℕ) : Type 0 where
-    pub below : e < n
-    pub passes : f e ≡ true
-    pub first : (k : ℕ) → k < e → f k ≡ false
+  record Lowest (n e : ℕ) : Type 0 where
+    below : e < n
+    passes : f e ≡ true
+    first : (k : ℕ) → k < e → f k ≡ false
 
-  pub some-lowest : (n e : ℕ) → lowestBelow n f ≡ some e → Lowest n e
+  some-lowest : (n e : ℕ) → lowestBelow n f ≡ some e → Lowest n e
   unfolding lowestBelow
   some-lowest zero e q = absurd (Option·none-ne-some e q)
   some-lowest (suc n) e q = go (lowestBelow n f) refl (f n) refl q (some-lowest n e)
@@ -95,15 +95,15 @@ module _ (cfg : Configuration) (code : ℕ) where
 -- ---- in an accepted configuration
 
 module _ (cfg : Configuration) (ok : configOk cfg ≡ true) where
-  -- "1 to 16,777,214": neither 0 nor FFFFFFh nor anything above is the trouble code of an event
-  pub no-code-0 : firstWithCode cfg 0 ≡ none
-  no-code-0 = nothing-is cfg 0 (λ e h q. let r = config-tells cfg ok .row e h in omega arith)
+  -- "1 to 16,777,214"
+  pub no-code : (code : ℕ) → (code ≡ 0) ⊎ (16777214 < code) → firstWithCode cfg code ≡ none
+  no-code code out = nothing-is cfg code (λ e h q. let r = config-tells cfg ok .row e h in ⊎-elim (λ z. omega arith) (λ z. omega arith) out)
 
-  pub no-code-above : (code : ℕ) → 16777214 < code → firstWithCode cfg code ≡ none
-  no-code-above code g = nothing-is cfg code (λ e h q. let r = config-tells cfg ok .row e h in omega arith)
+  pub no-code-0 : firstWithCode cfg 0 ≡ none
+  no-code-0 = no-code 0 (inl refl)
 
   pub no-code-all : firstWithCode cfg 0xFFFFFF ≡ none
-  no-code-all = no-code-above 0xFFFFFF (omega arith)
+  no-code-all = no-code 0xFFFFFF (inr (omega arith))
 
   -- "strictly rising from event to event"
   rises-to : (e : ℕ) → suc e < events cfg → codeOf cfg e < codeOf cfg (suc e)
@@ -156,7 +156,7 @@ module _ (cfg : Configuration) (ok : configOk cfg ≡ true) where
       not-eq-not .0 (λ t. clash true refl (sym (rw a at (all-below-at (events cfg) (λ e. not (covers cfg code e)) t 0 (config-tells cfg ok .n-least)))))
 
   pub found-is-not-all : (code e : ℕ) → firstWithCode cfg code ≡ some e → forAll code ≡ false
-  found-is-not-all code e q = ne-eqb code 0xFFFFFF (λ s. Option·none-ne-some e (sym (no-code-above cfg ok code (omega arith)) ∙ q))
+  found-is-not-all code e q = ne-eqb code 0xFFFFFF (λ s. Option·none-ne-some e (sym (no-code cfg ok code (inr (omega arith))) ∙ q))
 
   -- a clear of the code that was found covers that event alone
   pub covers-found : (code e : ℕ) → firstWithCode cfg code ≡ some e → (k : ℕ) → k < events cfg → covers cfg code k ≡ eqb k e

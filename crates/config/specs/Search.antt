@@ -1,5 +1,5 @@
--- The search of a trouble code: "the first row with this code, or none". It asks nothing of the codes, so it says the same where
--- they rise, where they repeat, and however the code finds the row. Assumes nothing.
+-- The search of a trouble code: the first event with the code, or none. It says so of any configuration, also one whose codes
+-- repeat, and says nothing of the way to the event. Assumes nothing.
 use mathlib.Core.Bool.{Bool, cond}
 use mathlib.Core.Option.{Option, none, some}
 use Prim.Native.Nat.{ℕ, zero, suc}
@@ -17,11 +17,11 @@ lowestBelow (suc n) f = orElse (lowestBelow n f) (cond (f n) (some n) none)
 abbrev pub hasCode : Configuration → ℕ → ℕ → Bool
 hasCode cfg code e = eqb (codeOf cfg e) code
 
--- the first event with this trouble code
+-- the first event with this trouble code, where there is one
 unfoldable pub firstWithCode : Configuration → ℕ → Option ℕ
 firstWithCode cfg code = lowestBelow (events cfg) (hasCode cfg code)
 
--- the event that an answer of the search names
+-- what an answer of the search says
 abbrev pub searchIs : CodeSearch → Option ℕ
 searchIs (At e) = some (e .0)
 searchIs Nothing = none

@@ -183,7 +183,7 @@ pub fn jumps_of(cfg: &[i32], event: EventNumber) -> usize
     count_in_row(cfg, event, JUMPS)
 }
 
-// "10, 11, 12 | C confirm, H heal, A age", "13 | indicator"
+// What a row limits an event's record by.
 pub struct Limits {
     pub confirm: usize,
     pub heal: usize,
@@ -191,6 +191,7 @@ pub struct Limits {
     pub indicator: bool,
 }
 
+// "10, 11, 12 | C confirm, H heal, A age", and whether "13 | indicator" is 1
 pub fn limits_of(cfg: &[i32], event: EventNumber) -> Limits
     requires { ⌜ event .0 < 512 ⌝ }
     ensures { λ r. ⌜ limitsIs r ≡ limitsOf (now (cfg .entry)) (event .0) ⌝ }
@@ -332,8 +333,7 @@ pub fn find_code(cfg: &[i32], code: u32) -> CodeSearch
     requires { ⌜ configOk (now cfg) ≡ true ⌝ }
     ensures { λ r. ⌜ searchIs r ≡ firstWithCode (now (cfg .entry)) code ⌝ }
 {
-    let n = events(cfg);
-    for event in 0..n {
+    for event in 0..events(cfg) {
         if has_code(cfg, EventNumber(event), code) {
             return CodeSearch::At(EventNumber(event));
         }

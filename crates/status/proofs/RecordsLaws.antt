@@ -26,12 +26,12 @@ module _ (n : Limits) (t : Token) (e : ℕ) (m : List ℕ) {m' : List ℕ} (r r'
       → m' ≡ withStored e (stored (step n t (opened (storedAt e m)))) m
   step-written p q w = w ∙ ap (λ (x : Stored). withStored e x m) (q ∙ ap (λ (x : Stored). stored (step n t (opened x))) p)
 
--- "h < H" and "g < A", under the most that H and A may be
-pub has-room : (n : Limits) (r : Record) → n .H ≤ 255 → n .A ≤ 255 → wellFormedRecord n (recordIs r) ≡ true → RoomToRise r
+-- what a well-formed record gives, under the most that H and A may be: "h < H", "g < A"
+pub has-room : (n : Limits) (r : Record) {x : Stored} → storedIs r ≡ x → n .H ≤ 255 → n .A ≤ 255 → wellFormedRecord n (opened x) ≡ true → RoomToRise r
 unfolding wellFormedRecord
-has-room n r p q w =
-    let h : r .h < n .H = ltb-true (r .h) (n .H) (part _ w 5) in
-    let g : r .g < n .A = ltb-true (r .g) (n .A) (part _ w 7) in
+has-room n r {x} e p q w =
+    let h : r .h < n .H = rw (ap (λ (y : Stored). y .h) e) (ltb-true (x .h) (n .H) (part _ w 5)) in
+    let g : r .g < n .A = rw (ap (λ (y : Stored). y .g) e) (ltb-true (x .g) (n .A) (part _ w 7)) in
     record { h-below = omega arith; g-below = omega arith }
 
 -- the nine clauses, the last four in pairs

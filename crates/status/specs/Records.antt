@@ -25,7 +25,7 @@ pub record FailedIs (n : Limits) (r : Record) (f : AfterFailed) : Type 0 where
   pub after : storedIs (f .«record») ≡ stored (step n failed (recordIs r))
   pub fresh : f .«fresh_failure» ≡ freshFailure (recordIs r)
 
--- a stop may raise h and g by one
+-- room in their bytes for "h rises by one" and "g rises by one"
 pub record RoomToRise (r : Record) : Type 0 where
   pub h-below : r .h < 255
   pub g-below : r .g < 255

@@ -58,13 +58,14 @@ impl Status {
         Status(self.0 & !mask)
     }
 
-    // The same where a test holds; else the status stays.
+    // Sets the bits of the mask where a test holds, else leaves the status as it is.
     fn set_if(self, test: bool, mask: u8) -> Status
         ensures { λ s. ⌜ s .0 ≡ cond test (bitOr (self .0) mask) (self .0) ⌝ }
     {
         if test { self.set(mask) } else { self }
     }
 
+    // Clears the bits of the mask where a test holds, else leaves the status as it is.
     fn clear_if(self, test: bool, mask: u8) -> Status
         ensures { λ s. ⌜ s .0 ≡ cond test (bitAnd (self .0) (255 - mask)) (self .0) ⌝ }
     {
@@ -355,9 +356,10 @@ pub fn record_ok(heal: usize, age: usize, indicator: bool, r: Record) -> bool
 
 // ---- the records and the debounce numbers in the lent blocks
 
+// "Records: 4n lent bytes; per event status, K (failed cycles), h (healing count), g (ageing count)."
 const RECORD_WIDTH: usize = 4;
 
-// "Records: 4n lent bytes; per event status, K (failed cycles), h (healing count), g (ageing count)."
+// The event's record.
 pub fn read_record(records: &[u8], event: EventNumber) -> Record
     requires { ⌜ recordWidth * event .0 + recordWidth ≤ length (now records) ⌝ }
     ensures { λ r. ⌜ storedIs r ≡ storedAt (event .0) (now (records .entry)) ⌝ }
@@ -402,7 +404,7 @@ pub fn status_of(records: &[u8], event: EventNumber) -> Status
     }
 }
 
-// "Debounce numbers: n lent signed 32-bit numbers, one D per event."
+// The event's debounce number. "Debounce numbers: n lent signed 32-bit numbers, one D per event."
 pub fn read_number(debounce: &[i32], event: EventNumber) -> i32
     requires { ⌜ event .0 < length (now debounce) ⌝ }
     ensures { λ d. ⌜ d ≡ getD (now (debounce .entry)) (event .0) (pos 0) ⌝ }

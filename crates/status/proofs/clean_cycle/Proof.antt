@@ -1,10 +1,11 @@
 -- `clean_cycle` meets its contract.
 use mathlib.Core.Path.{ap, _∙_}
 use mathlib.Core.Bool.{not}
+use mathlib.Core.List.{[], _∷_}
 use lib.Dec.{lit<}
 use borrow.Author.Needs.{needs}
 use Rattle.history.specs.StatusByte.{testFailedThisOperationCycle, testNotCompletedThisOperationCycle, statusOf}
-use Rattle.status.proofs.MasksLaws.{shares-is, neither-set}
+use Rattle.status.proofs.MasksLaws.{maskOf, shares-is, neither-set}
 use Rattle.status.proofs.clean_cycle.Statement.{statement}
 use Rattle.status.proofs.clean_cycle.Tie as tie
 
@@ -14,7 +15,7 @@ shares-requires c κs = search needs
 returns : tie.Need-returns
 returns c =
     let s = c .before .args .s .0 in
-    ap not (shares-is s 0x42 (lit< tt) (c .shares .ensures)) ∙ neither-set (statusOf s testFailedThisOperationCycle) (statusOf s testNotCompletedThisOperationCycle)
+    ap not (shares-is s (maskOf (testFailedThisOperationCycle ∷ testNotCompletedThisOperationCycle ∷ [])) (lit< tt) (c .shares .ensures)) ∙ neither-set (statusOf s testFailedThisOperationCycle) (statusOf s testNotCompletedThisOperationCycle)
 
 pub clean-cycle-spec : {M : Type 1} → statement M
 clean-cycle-spec = tie.close (tie.spec shares-requires returns)

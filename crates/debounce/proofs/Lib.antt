@@ -1,0 +1,3 @@
+pub mod SmallNumbersLaws
+pub mod RowsLaws
+pub mod NumberStaysInRange

@@ -1,0 +1,5 @@
+pub mod Examples
+pub mod TextLaws
+pub mod WritingLaws
+pub mod LineLaws
+pub mod WrittenReadsBack

@@ -1,0 +1,59 @@
+-- `fill_line` writes the three parts of the line one after the other; the room suffices for all.
+use mathlib.Core.Path.{_∙_}
+use native.Mathlib.Nat.{le-trans}
+use native.Mathlib.Omega.{arith}
+use borrow.Author.Needs.{needs}
+use Rattle.transcript.specs.Line.{line}
+use Rattle.transcript.proofs.WritingLaws.{append-then, append-next, append-filled}
+use Rattle.transcript.proofs.LineLaws.{decimal-few, statuses-few, line-few}
+use Rattle.transcript.proofs.fill_line.Statement.{statement}
+use Rattle.transcript.proofs.fill_line.Tie as tie
+
+put-decimal-requires : tie.Need-put-decimal-requires
+put-decimal-requires c κs = search needs
+
+put-statuses-requires : tie.Need-put-statuses-requires
+put-statuses-requires c κs =
+    let first = c .before .before .before .put-decimal in
+    let start = c .before .before .before .before .before .before .before in
+    record { records-long = start .pre .records-long; buffer-long = omega (arith, first .kept .0, append-next _ _ (first .ensures), decimal-few (start .args .answer)) }
+
+slice-aggregate-write : tie.Need-slice-aggregate-write
+slice-aggregate-write c = search needs
+
+write-requires : tie.Need-write-requires
+write-requires c κs =
+    let first = c .before .before .before .before .before .before .before .before .put-decimal in
+    let second = c .before .before .before .before .put-statuses in
+    let a = c .before .before .before .before .before .before .before .before .before .before .before .before .args in
+    omega (
+      arith,
+      first .kept .0,
+      second .kept .0,
+      append-next _ _ (first .ensures),
+      append-next _ _ (second .ensures),
+      decimal-few (a .answer),
+      statuses-few (a .records .now) (a .events),
+    )
+
+same-length : tie.Need-same-length
+same-length c = search needs
+
+returns : tie.Need-returns
+unfolding line
+returns c =
+    let first = c .before .before .before .before .before .before .before .before .before .before .before .put-decimal in
+    let second = c .before .before .before .before .before .before .before .put-statuses in
+    let room = c .before .before .before .before .before .before .before .before .before .before .before .before .before .before .before .pre .buffer-long in
+    append-then _ _ _ (append-then _ _ _ (first .ensures) (second .ensures)) (c .before .before .write .ensures) ∙ append-filled _ _ (le-trans (line-few _ _ _) room)
+
+pub fill-line-spec : {M : Type 1} → statement M
+fill-line-spec =
+    tie.close
+    (tie.spec
+    put-decimal-requires
+    put-statuses-requires
+    slice-aggregate-write
+    write-requires
+    same-length
+    returns)
