@@ -28,6 +28,8 @@ pub record RowTells (cfg : Configuration) (e : ℕ) : Type 0 where
   pub code-most : codeOf cfg e ≤ 16777214
   pub cycle-most : cycleOf cfg e ≤ 3
   pub kind-most : kindOf cfg e ≤ 2
+  pub heal-most : limitsOf cfg e .H ≤ 255
+  pub age-most : limitsOf cfg e .A ≤ 255
   pub limits : Allowed (limitsOf cfg e)
   pub range : isInternal cfg e ≡ false → Range cfg e
 
@@ -63,6 +65,8 @@ module _ (cfg : Configuration) where
     code-most = counted 1 16777214 (column 1 cfg e) (part _ t 0) .1;
     cycle-most = counted 0 3 (column 3 cfg e) (part _ t 2) .1;
     kind-most = kind;
+    heal-most = counted 1 255 (column 11 cfg e) (part _ t 10) .1;
+    age-most = counted 1 255 (column 12 cfg e) (part _ t 11) .1;
     limits = record {
       C-least = counted 1 255 (column 10 cfg e) (part _ t 9) .0;
       C-most = counted 1 255 (column 10 cfg e) (part _ t 9) .1;
