@@ -1,0 +1,9 @@
+pub mod Mix
+pub mod BlockLaws
+pub mod PlacesLaws
+pub mod SurgeryLaws
+pub mod VictimLaws
+pub mod StoreLaws
+pub mod JudgementLaws
+pub mod KeptLaws
+pub mod Signed

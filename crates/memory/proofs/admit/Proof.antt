@@ -1,0 +1,73 @@
+use mathlib.Core.Path.{sym, ap, _∙_}
+use mathlib.Core.List.{List}
+use Prim.Native.Nat.{ℕ, _≤_, _<_}
+use native.Mathlib.Omega.{arith}
+use denote.Ref.{now}
+use Rattle.manual.specs.Configuration.{places}
+use Rattle.manual.specs.Memory.{entryCount}
+use Rattle.memory.specs.declared.StoreAnswer.the-variants.{Stored}
+use Rattle.memory.specs.Store.{leaves}
+use Rattle.memory.proofs.StoreLaws.{may-append, may-search, may-displace, appends, displaces, loses}
+use borrow.Author.Needs.{needs}
+use Rattle.memory.proofs.admit.Statement.{statement}
+use Rattle.memory.proofs.admit.Tie as tie
+
+entry-count-requires : tie.Need-entry-count-requires
+entry-count-requires c κs = search needs
+
+places-of-requires : tie.Need-places-of-requires
+places-of-requires c κs = search needs
+
+append-requires : tie.Need-append-requires
+append-requires c κs = may-append (now (c .before .before .before .before .before .before .before .before .args .cfg)) (now (c .before .before .before .before .before .before .before .before .args .records)) (now (c .before .before .before .before .before .before .before .before .args .memory)) (c .before .before .before .before .before .before .before .before .args .event .0) (now (c .before .before .before .before .before .before .before .before .args .frame)) (c .before .before .before .before .before .before .before .before .pre) (omega (arith, c .before .before .before .entry-count .ensures, c .before .before .places-of .ensures, c .before .if1 .taken))
+
+same-length : tie.Need-same-length
+same-length c = search needs
+
+returns : tie.Need-returns
+returns c = let h : entryCount (now (c .before .before .before .before .before .before .before .before .before .before .before .args .memory)) < places (now (c .before .before .before .before .before .before .before .before .before .before .before .args .cfg)) = omega (arith, c .before .before .before .before .before .before .entry-count .ensures, c .before .before .before .before .before .places-of .ensures, c .before .before .before .before .if1 .taken) in
+    ap (λ (m : List ℕ). leaves m Stored) (c .before .before .append .ensures) ∙ appends (now (c .before .before .before .before .before .before .before .before .before .before .before .args .cfg)) (now (c .before .before .before .before .before .before .before .before .before .before .before .args .records)) (now (c .before .before .before .before .before .before .before .before .before .before .before .args .memory)) (c .before .before .before .before .before .before .before .before .before .before .before .args .event .0) (now (c .before .before .before .before .before .before .before .before .before .before .before .args .frame)) (c .before .before .before .before .before .before .before .before .before .before .before .pre) h
+
+victim-requires : tie.Need-victim-requires
+victim-requires c κs = may-search (now (c .before .before .before .before .before .before .before .before .args .cfg)) (now (c .before .before .before .before .before .before .before .before .args .records)) (now (c .before .before .before .before .before .before .before .before .args .memory)) (c .before .before .before .before .before .before .before .before .args .event .0) (now (c .before .before .before .before .before .before .before .before .args .frame)) (c .before .before .before .before .before .before .before .before .pre)
+
+enum-known-found : tie.Need-enum-known-found
+enum-known-found c = search needs
+
+displace-requires : tie.Need-displace-requires
+displace-requires c κs = may-displace (now (c .before .before .before .before .before .before .before .before .before .before .before .before .before .args .cfg)) (now (c .before .before .before .before .before .before .before .before .before .before .before .before .before .args .records)) (now (c .before .before .before .before .before .before .before .before .before .before .before .before .before .args .memory)) (c .before .before .before .before .before .before .before .before .before .before .before .before .before .args .event .0) (now (c .before .before .before .before .before .before .before .before .before .before .before .before .before .args .frame)) (c .before .before .before .before .before .before .before .before .before .before .before .before .before .pre) _ (sym (c .before .before .before .before .victim .ensures) ∙ c .before .before .found .given .1)
+
+enum-told : tie.Need-enum-told
+enum-told c = search needs
+
+same-length-2 : tie.Need-same-length-2
+same-length-2 c = search needs
+
+returns-2 : tie.Need-returns-2
+returns-2 c = let h : places (now (c .before .before .before .before .before .before .before .before .before .before .before .before .before .before .before .before .args .cfg)) ≤ entryCount (now (c .before .before .before .before .before .before .before .before .before .before .before .before .before .before .before .before .args .memory)) = omega (arith, c .before .before .before .before .before .before .before .before .before .before .before .entry-count .ensures, c .before .before .before .before .before .before .before .before .before .before .places-of .ensures, c .before .before .before .before .before .before .before .before .before .if1 .left) in
+    c .before .before .displace .ensures ∙ displaces (now (c .before .before .before .before .before .before .before .before .before .before .before .before .before .before .before .before .args .cfg)) (now (c .before .before .before .before .before .before .before .before .before .before .before .before .before .before .before .before .args .records)) (now (c .before .before .before .before .before .before .before .before .before .before .before .before .before .before .before .before .args .memory)) (c .before .before .before .before .before .before .before .before .before .before .before .before .before .before .before .before .args .event .0) (now (c .before .before .before .before .before .before .before .before .before .before .before .before .before .before .before .before .args .frame)) (c .before .before .before .before .before .before .before .before .before .before .before .before .before .before .before .before .pre) h _ (sym (c .before .before .before .before .before .before .before .victim .ensures) ∙ c .before .before .before .before .before .found .given .1)
+
+same-length-3 : tie.Need-same-length-3
+same-length-3 c = search needs
+
+returns-3 : tie.Need-returns-3
+returns-3 c = let h : places (now (c .before .before .before .before .before .before .before .before .before .before .before .args .cfg)) ≤ entryCount (now (c .before .before .before .before .before .before .before .before .before .before .before .args .memory)) = omega (arith, c .before .before .before .before .before .before .entry-count .ensures, c .before .before .before .before .before .places-of .ensures, c .before .before .before .before .if1 .left) in
+    loses (now (c .before .before .before .before .before .before .before .before .before .before .before .args .cfg)) (now (c .before .before .before .before .before .before .before .before .before .before .before .args .records)) (now (c .before .before .before .before .before .before .before .before .before .before .before .args .memory)) (c .before .before .before .before .before .before .before .before .before .before .before .args .event .0) (now (c .before .before .before .before .before .before .before .before .before .before .before .args .frame)) (c .before .before .before .before .before .before .before .before .before .before .before .pre) h (sym (c .before .before .victim .ensures) ∙ c .enum-told .given .1)
+
+pub admit-spec : {M : Type 1} → statement M
+admit-spec =
+    tie.close
+    (tie.spec
+    entry-count-requires
+    places-of-requires
+    append-requires
+    same-length
+    returns
+    victim-requires
+    enum-known-found
+    displace-requires
+    enum-told
+    same-length-2
+    returns-2
+    same-length-3
+    returns-3)

@@ -1,0 +1,49 @@
+use mathlib.Core.Path.{ap, _∙_}
+use Prim.Native.Nat.{ℕ, _+_}
+use native.Mathlib.Omega.{arith}
+use denote.Ref.{now}
+use lib.ListN.{set, length-set}
+use Rattle.manual.specs.Memory.{entryCount}
+use Rattle.memory.specs.Block.{entered}
+use borrow.Author.Needs.{needs}
+use Rattle.memory.proofs.append.Statement.{statement}
+use Rattle.memory.proofs.append.Tie as tie
+
+entry-count-requires : tie.Need-entry-count-requires
+entry-count-requires c κs = search needs
+
+slice-read-memory : tie.Need-slice-read-memory
+slice-read-memory c = search needs
+
+add-memory : tie.Need-add-memory
+add-memory c = search needs
+
+slice-write-memory : tie.Need-slice-write-memory
+slice-write-memory c = search needs
+
+enter-requires : tie.Need-enter-requires
+enter-requires c κs = record {
+  frame-most = c .before .before .before .before .before .before .pre .frame-most;
+  event-most = c .before .before .before .before .before .before .pre .event-most;
+  place-most = omega (arith, c .before .before .entry-count .ensures, c .before .before .before .before .before .before .pre .place-most);
+  within = simp length-set (rw (c .before .before .entry-count .ensures) (c .before .before .before .before .before .before .pre .within));
+}
+
+same-length : tie.Need-same-length
+same-length c = c .before .before .enter .kept .0 ∙ simp length-set
+
+returns : tie.Need-returns
+returns c = let m = now (c .before .before .before .before .before .before .before .before .before .args .memory) in
+    c .before .before .enter .ensures ∙ ap (λ (k : ℕ). entered k (c .before .before .before .before .before .before .before .before .before .args .event .0) (c .before .before .before .before .before .before .before .before .before .args .count) (now (c .before .before .before .before .before .before .before .before .before .args .frame)) (set m 0 (entryCount m + 1))) (c .before .before .before .before .before .entry-count .ensures)
+
+pub append-spec : {M : Type 1} → statement M
+append-spec =
+    tie.close
+    (tie.spec
+    entry-count-requires
+    slice-read-memory
+    add-memory
+    slice-write-memory
+    enter-requires
+    same-length
+    returns)

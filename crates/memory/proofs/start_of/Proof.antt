@@ -1,0 +1,20 @@
+use native.Mathlib.Omega.{arith}
+use Rattle.memory.proofs.PlacesLaws.{start-small}
+use borrow.Author.Needs.{needs}
+use Rattle.memory.proofs.start_of.Statement.{statement}
+use Rattle.memory.proofs.start_of.Tie as tie
+
+add-result : tie.Need-add-result
+add-result c = search needs
+
+mul-result : tie.Need-mul-result
+mul-result c = omega (arith, start-small (c .before .args .frame-bytes) (c .before .args .place .0) (c .before .pre .0) (c .before .pre .1))
+
+add-result-2 : tie.Need-add-result-2
+add-result-2 c = omega (arith, start-small (c .before .args .frame-bytes) (c .before .args .place .0) (c .before .pre .0) (c .before .pre .1))
+
+returns : tie.Need-returns
+returns c = search needs
+
+pub start-of-spec : {M : Type 1} → statement M
+start-of-spec = tie.close (tie.spec add-result mul-result add-result-2 returns)

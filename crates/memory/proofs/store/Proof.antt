@@ -1,0 +1,52 @@
+use mathlib.Core.Path.{sym, ap, _∙_}
+use mathlib.Core.List.{List}
+use Prim.Native.Nat.{ℕ}
+use denote.Ref.{now}
+use Rattle.memory.specs.declared.StoreAnswer.the-variants.{Stored}
+use Rattle.memory.specs.Store.{leaves}
+use Rattle.memory.proofs.StoreLaws.{may-find, may-renew, renews, has-none}
+use borrow.Author.Needs.{needs}
+use Rattle.memory.proofs.store.Statement.{statement}
+use Rattle.memory.proofs.store.Tie as tie
+
+place-of-requires : tie.Need-place-of-requires
+place-of-requires c κs = may-find (now (c .before .before .before .before .args .cfg)) (now (c .before .before .before .before .args .records)) (now (c .before .before .before .before .args .memory)) (c .before .before .before .before .args .event .0) (now (c .before .before .before .before .args .frame)) (c .before .before .before .before .pre)
+
+enum-known-own : tie.Need-enum-known-own
+enum-known-own c = search needs
+
+renew-requires : tie.Need-renew-requires
+renew-requires c κs = may-renew (now (c .before .before .before .before .before .before .before .before .before .args .cfg)) (now (c .before .before .before .before .before .before .before .before .before .args .records)) (now (c .before .before .before .before .before .before .before .before .before .args .memory)) (c .before .before .before .before .before .before .before .before .before .args .event .0) (now (c .before .before .before .before .before .before .before .before .before .args .frame)) (c .before .before .before .before .before .before .before .before .before .pre) _ (sym (c .before .before .before .before .place-of .ensures) ∙ c .before .before .own .given .1)
+
+enum-told : tie.Need-enum-told
+enum-told c = search needs
+
+admit-requires : tie.Need-admit-requires
+admit-requires c κs = search needs
+
+same-length : tie.Need-same-length
+same-length c = search needs
+
+returns : tie.Need-returns
+returns c = ap (λ (m : List ℕ). leaves m Stored) (c .before .before .renew .ensures)
+    ∙ renews (now (c .before .before .before .before .before .before .before .before .before .before .before .before .args .cfg)) (now (c .before .before .before .before .before .before .before .before .before .before .before .before .args .records)) (now (c .before .before .before .before .before .before .before .before .before .before .before .before .args .memory)) (c .before .before .before .before .before .before .before .before .before .before .before .before .args .event .0) (now (c .before .before .before .before .before .before .before .before .before .before .before .before .args .frame)) (c .before .before .before .before .before .before .before .before .before .before .before .before .pre) _ (sym (c .before .before .before .before .before .before .before .place-of .ensures) ∙ c .before .before .before .before .before .own .given .1)
+
+same-length-2 : tie.Need-same-length-2
+same-length-2 c = search needs
+
+returns-2 : tie.Need-returns-2
+returns-2 c = c .before .before .admit .ensures ∙ has-none (now (c .before .before .before .before .before .before .before .before .before .before .before .args .cfg)) (now (c .before .before .before .before .before .before .before .before .before .before .before .args .records)) (now (c .before .before .before .before .before .before .before .before .before .before .before .args .memory)) (c .before .before .before .before .before .before .before .before .before .before .before .args .event .0) (now (c .before .before .before .before .before .before .before .before .before .before .before .args .frame)) (c .before .before .before .before .before .before .before .before .before .before .before .pre) (sym (c .before .before .before .before .before .before .place-of .ensures) ∙ c .before .before .before .before .enum-told .given .1)
+
+pub store-spec : {M : Type 1} → statement M
+store-spec =
+    tie.close
+    (tie.spec
+    place-of-requires
+    enum-known-own
+    renew-requires
+    enum-told
+    admit-requires
+    same-length
+    returns
+    same-length-2
+    returns-2)

@@ -1,0 +1,437 @@
+// Document 01, "Memory": the entries of events that failed, in the lent block of bytes.
+use manual::EventNumber;
+use manual::Place;
+
+mod block;
+mod readings;
+
+ghost use mathlib.Core.Path.{_≡_};
+ghost use mathlib.Core.Bool.{_&&_};
+ghost use lib.Dec.{eqb};
+ghost use Prim.Native.Nat.{suc, min, _≤_, _<_};
+ghost use lib.ListN.{length, drop};
+ghost use Rattle.history.specs.Words.{anyOf, allOf};
+ghost use Rattle.manual.specs.Configuration.{events, places, frameBytes, priorityOf};
+ghost use Rattle.manual.specs.Memory.{eventOf, memoryLength, entryCount, bytesInUse, entriesOf, memoryOf, isOf, without, noTwice};
+ghost use Rattle.memory.specs.Places.{atPlace, firstPlace, placeOf, outranks, rests, victimPlace};
+ghost use Rattle.memory.specs.Fits.{EntriesFit, PlaceFits, RoomAt, EventsFit};
+ghost use Rattle.memory.specs.InOrder.{InOrder};
+ghost use Rattle.memory.specs.declared.StoreAnswer.the-variants.{Displaced};
+ghost use Rattle.memory.specs.Judgement.{Small, soundNumbers, soundEntry, usedOk, zeros, blockOk};
+ghost use Rattle.memory.specs.Store.{MayStore, quietIn, leaves, admits, stores};
+ghost use Rattle.memory.specs.Block.{gapClosed, entered, removed, added, replaced};
+
+// Where an entry was found.
+pub enum Find {
+    At(Place),
+    Nothing,
+}
+
+// What became of a fresh failure. A displaced event is that of the entry that rule 3 takes out.
+pub enum StoreAnswer {
+    Stored,
+    Displaced(EventNumber),
+    NotStored,
+}
+
+// The number of entries.
+pub fn entry_count(memory: &[u8]) -> usize
+    requires { ⌜ 0 < length (now memory) ⌝ }
+    ensures { λ r. ⌜ r ≡ entryCount (now (memory .entry)) ⌝ }
+{
+    block::wide(memory[0])
+}
+
+// The first byte of the entry at a place, or of what follows the entries before it.
+fn start_of(frame_bytes: usize, place: Place) -> usize
+    requires { ⌜ («frame_bytes» ≤ 32) × (place .0 ≤ 64) ⌝ }
+    ensures { λ r. ⌜ r ≡ bytesInUse «frame_bytes» (place .0) ⌝ }
+{
+    1 + (3 + frame_bytes) * place.0
+}
+
+// The length of a memory block.
+pub fn memory_length(places: usize, frame_bytes: usize) -> usize
+    requires { ⌜ (places ≤ 64) × («frame_bytes» ≤ 32) ⌝ }
+    ensures { λ r. ⌜ r ≡ memoryLength places «frame_bytes» ⌝ }
+{
+    1 + places * (3 + frame_bytes)
+}
+
+// The bytes of the number of entries and of the entries.
+pub fn bytes_in_use(memory: &[u8], frame_bytes: usize) -> usize
+    requires { ⌜ (0 < length (now memory)) × ((entryCount (now memory) ≤ 64) × («frame_bytes» ≤ 32)) ⌝ }
+    ensures { λ r. ⌜ r ≡ bytesInUse «frame_bytes» (entryCount (now (memory .entry))) ⌝ }
+{
+    start_of(frame_bytes, Place(entry_count(memory)))
+}
+
+// The event of the entry at a place: "event number (2 bytes, high first)".
+pub fn event_at(memory: &[u8], frame_bytes: usize, place: Place) -> EventNumber
+    requires { ⌜ PlaceFits «frame_bytes» (now memory) (place .0) ⌝ }
+    ensures { λ r. ⌜ r .0 ≡ eventOf (atPlace (place .0) (entriesOf «frame_bytes» (now (memory .entry)))) ⌝ }
+{
+    let start = start_of(frame_bytes, place);
+    EventNumber(block::wide(memory[start]) * 256 + block::wide(memory[start + 1]))
+}
+
+// The occurrence count of the entry at a place.
+pub fn count_at(memory: &[u8], frame_bytes: usize, place: Place) -> u8
+    requires { ⌜ PlaceFits «frame_bytes» (now memory) (place .0) ⌝ }
+    ensures { λ r. ⌜ r ≡ atPlace (place .0) (entriesOf «frame_bytes» (now (memory .entry))) .count ⌝ }
+{
+    let start = start_of(frame_bytes, place);
+    memory[start + 2]
+}
+
+// The frame of the entry at a place: "The stored frame is read as a part of the caller's own memory block, no copy."
+pub fn frame_at<'a>(memory: &'a [u8], frame_bytes: usize, place: Place) -> &'a [u8]
+    requires { ⌜ PlaceFits «frame_bytes» (now memory) (place .0) ⌝ }
+    ensures { λ r. ⌜ now r ≡ atPlace (place .0) (entriesOf «frame_bytes» (now (memory .entry))) .frame ⌝ }
+{
+    let start = start_of(frame_bytes, place) + 3;
+    let end = start + frame_bytes;
+    &memory[start..end]
+}
+
+// The place of the event's entry.
+pub fn place_of(memory: &[u8], frame_bytes: usize, event: EventNumber) -> Find
+    requires { ⌜ EntriesFit «frame_bytes» (now memory) ⌝ }
+    ensures { λ r. ⌜ r ≡ placeOf (event .0) (entriesOf «frame_bytes» (now (memory .entry))) ⌝ }
+{
+    let entries = entry_count(memory);
+    let mut i = 0;
+    while i < entries {
+        let other = event_at(memory, frame_bytes, Place(i));
+        if other.0 == event.0 {
+            return Find::At(Place(i));
+        }
+        i += 1;
+    }
+    Find::Nothing
+}
+
+// "Removal closes the gap and keeps the order.": takes the bytes of the entry at a place out.
+fn close_gap(memory: &mut [u8], frame_bytes: usize, place: Place)
+    requires { ⌜ PlaceFits «frame_bytes» (now memory) (place .0) ⌝ }
+    ensures { λ _. ⌜ now (memory .exit) ≡ gapClosed «frame_bytes» (place .0) (now (memory .entry)) ⌝ }
+{
+    let start = start_of(frame_bytes, place);
+    block::close(memory, start, 3 + frame_bytes);
+}
+
+// Takes the entry at a place out.
+fn remove(memory: &mut [u8], frame_bytes: usize, place: Place)
+    requires { ⌜ PlaceFits «frame_bytes» (now memory) (place .0) ⌝ }
+    ensures { λ _. ⌜ now (memory .exit) ≡ removed «frame_bytes» (place .0) (now (memory .entry)) ⌝ }
+{
+    let entries = memory[0];
+    close_gap(memory, frame_bytes, place);
+    memory[0] = entries - 1;
+}
+
+// Writes an entry of the event, with an occurrence count and a frame, at a place.
+fn enter(memory: &mut [u8], place: Place, event: EventNumber, count: u8, frame: &[u8])
+    requires { ⌜ RoomAt (length (now frame)) (now memory) (place .0) (event .0) ⌝ }
+    ensures { λ _. ⌜ now (memory .exit) ≡ entered (place .0) (event .0) count (now (frame .entry)) (now (memory .entry)) ⌝ }
+{
+    let start = start_of(frame.len(), place);
+    let high = (event.0 / 256) as u8;
+    let low = (event.0 % 256) as u8;
+    block::put(memory, start, &[high, low, count]);
+    block::put(memory, start + 3, frame);
+}
+
+// Puts an entry of the event, with an occurrence count and a frame, at the end.
+fn append(memory: &mut [u8], event: EventNumber, count: u8, frame: &[u8])
+    requires { ⌜ RoomAt (length (now frame)) (now memory) (entryCount (now memory)) (event .0) ⌝ }
+    ensures { λ _. ⌜ now (memory .exit) ≡ added (event .0) count (now (frame .entry)) (now (memory .entry)) ⌝ }
+{
+    let end = Place(entry_count(memory));
+    memory[0] = memory[0] + 1;
+    enter(memory, end, event, count, frame);
+}
+
+// Takes the entry at a place out and puts one of the event at the end, where the newest then stands.
+fn replace(memory: &mut [u8], place: Place, event: EventNumber, count: u8, frame: &[u8])
+    requires { ⌜ (PlaceFits (length (now frame)) (now memory) (place .0)) × (event .0 < 65536) ⌝ }
+    ensures { λ _. ⌜ now (memory .exit) ≡ replaced (place .0) (event .0) count (now (frame .entry)) (now (memory .entry)) ⌝ }
+{
+    let newest = Place(entry_count(memory) - 1);
+    close_gap(memory, frame.len(), place);
+    enter(memory, newest, event, count, frame);
+}
+
+// The event's entry leaves, where it has one.
+pub fn forget(cfg: &[i32], memory: &mut [u8], event: EventNumber)
+    requires { ⌜ InOrder (events (now cfg)) (places (now cfg)) (frameBytes (now cfg)) (now memory) ⌝ }
+    ensures { λ _. ⌜ now (memory .exit) ≡ memoryOf (places (now (cfg .entry))) (frameBytes (now (cfg .entry))) (without (event .0) (entriesOf (frameBytes (now (cfg .entry))) (now (memory .entry)))) ⌝ }
+{
+    let frame_bytes = readings::frame_bytes_of(cfg);
+    let own = place_of(memory, frame_bytes, event);
+    match own {
+        Find::At(place) => remove(memory, frame_bytes, place),
+        Find::Nothing => {}
+    }
+}
+
+// "among entries whose priority number is greater than e's, the greatest, and the oldest among equals"
+fn place_of_greatest(cfg: &[i32], memory: &[u8], frame_bytes: usize, event: EventNumber) -> Find
+    requires { ⌜ (EventsFit «frame_bytes» (now memory)) × (event .0 < 512) ⌝ }
+    ensures { λ r. ⌜ r ≡ firstPlace (outranks (priorityOf (now (cfg .entry))) (event .0) (entriesOf «frame_bytes» (now (memory .entry)))) (entriesOf «frame_bytes» (now (memory .entry))) ⌝ }
+{
+    let entries = entry_count(memory);
+    let mut best = Find::Nothing;
+    let mut top = readings::priority_of(cfg, event);
+    let mut i = 0;
+    while i < entries {
+        let priority = readings::priority_of(cfg, event_at(memory, frame_bytes, Place(i)));
+        if top < priority {
+            top = priority;
+            best = Find::At(Place(i));
+        }
+        i += 1;
+    }
+    best
+}
+
+// "equal priority number whose event has bit 0 clear": the other event's, compared with that of an event of priority number p.
+fn gives_way(cfg: &[i32], records: &[u8], other: EventNumber, p: usize) -> bool
+    requires { ⌜ other .0 < 512 ⌝ }
+    ensures { λ r. ⌜ r ≡ eqb (priorityOf (now (cfg .entry)) (other .0)) p && quietIn (now (records .entry)) (other .0) ⌝ }
+{
+    let equal = readings::priority_of(cfg, other) == p;
+    equal & readings::is_quiet(records, other)
+}
+
+// "the oldest entry of equal priority number whose event has bit 0 clear"
+fn place_of_resting(
+    cfg: &[i32],
+    records: &[u8],
+    memory: &[u8],
+    frame_bytes: usize,
+    event: EventNumber,
+) -> Find
+    requires { ⌜ (EventsFit «frame_bytes» (now memory)) × (event .0 < 512) ⌝ }
+    ensures { λ r. ⌜ r ≡ firstPlace (rests (priorityOf (now (cfg .entry))) (quietIn (now (records .entry))) (event .0)) (entriesOf «frame_bytes» (now (memory .entry))) ⌝ }
+{
+    let entries = entry_count(memory);
+    let p = readings::priority_of(cfg, event);
+    let mut i = 0;
+    while i < entries {
+        if gives_way(cfg, records, event_at(memory, frame_bytes, Place(i)), p) {
+            return Find::At(Place(i));
+        }
+        i += 1;
+    }
+    Find::Nothing
+}
+
+// Rule 3: the place of the victim of a fresh failure of the event.
+fn victim(
+    cfg: &[i32],
+    records: &[u8],
+    memory: &[u8],
+    frame_bytes: usize,
+    event: EventNumber,
+) -> Find
+    requires { ⌜ (EventsFit «frame_bytes» (now memory)) × (event .0 < 512) ⌝ }
+    ensures { λ r. ⌜ r ≡ victimPlace (priorityOf (now (cfg .entry))) (quietIn (now (records .entry))) (event .0) (entriesOf «frame_bytes» (now (memory .entry))) ⌝ }
+{
+    let greatest = place_of_greatest(cfg, memory, frame_bytes, event);
+    match greatest {
+        Find::At(place) => Find::At(place),
+        Find::Nothing => place_of_resting(cfg, records, memory, frame_bytes, event),
+    }
+}
+
+// "count up by one, at most 255"
+fn one_more(count: u8) -> u8
+    ensures { λ r. ⌜ r ≡ min 255 (suc count) ⌝ }
+{
+    if count < 255 { count + 1 } else { 255 }
+}
+
+// Rule 1: "e has an entry: count up by one, at most 255; frame replaced; the entry moves to the end (newest)."
+fn renew(memory: &mut [u8], place: Place, event: EventNumber, frame: &[u8])
+    requires { ⌜ (PlaceFits (length (now frame)) (now memory) (place .0)) × (event .0 < 65536) ⌝ }
+    ensures { λ _. ⌜ now (memory .exit) ≡ replaced (place .0) (event .0) (min 255 (suc (atPlace (place .0) (entriesOf (length (now (frame .entry))) (now (memory .entry))) .count))) (now (frame .entry)) (now (memory .entry)) ⌝ }
+{
+    let count = one_more(count_at(memory, frame.len(), place));
+    replace(memory, place, event, count, frame);
+}
+
+// Rule 3: "The victim is taken out, e appended with count 1."
+fn displace(memory: &mut [u8], place: Place, event: EventNumber, frame: &[u8]) -> StoreAnswer
+    requires { ⌜ (PlaceFits (length (now frame)) (now memory) (place .0)) × (event .0 < 65536) ⌝ }
+    ensures { λ r. ⌜ leaves (now (memory .exit)) r ≡ leaves (replaced (place .0) (event .0) 1 (now (frame .entry)) (now (memory .entry))) (Displaced (record { 0 = eventOf (atPlace (place .0) (entriesOf (length (now (frame .entry))) (now (memory .entry)))) })) ⌝ }
+{
+    let out = event_at(memory, frame.len(), place);
+    replace(memory, place, event, 1, frame);
+    StoreAnswer::Displaced(out)
+}
+
+// Rules 2 to 4: the event has no entry.
+fn admit(
+    cfg: &[i32],
+    records: &[u8],
+    memory: &mut [u8],
+    event: EventNumber,
+    frame: &[u8],
+) -> StoreAnswer
+    requires { ⌜ MayStore (now cfg) (now memory) (event .0) (now frame) ⌝ }
+    ensures { λ r. ⌜ leaves (now (memory .exit)) r ≡ admits (places (now (cfg .entry))) (frameBytes (now (cfg .entry))) (priorityOf (now (cfg .entry))) (quietIn (now (records .entry))) (event .0) (now (frame .entry)) (entriesOf (frameBytes (now (cfg .entry))) (now (memory .entry))) ⌝ }
+{
+    if entry_count(memory) < readings::places_of(cfg) {
+        append(memory, event, 1, frame);
+        return StoreAnswer::Stored;
+    }
+    let found = victim(cfg, records, memory, frame.len(), event);
+    match found {
+        Find::At(place) => displace(memory, place, event, frame),
+        Find::Nothing => StoreAnswer::NotStored,
+    }
+}
+
+// A fresh failure of the event with the lent frame, by rules 1 to 4.
+pub fn store(
+    cfg: &[i32],
+    records: &[u8],
+    memory: &mut [u8],
+    event: EventNumber,
+    frame: &[u8],
+) -> StoreAnswer
+    requires { ⌜ MayStore (now cfg) (now memory) (event .0) (now frame) ⌝ }
+    ensures { λ r. ⌜ leaves (now (memory .exit)) r ≡ stores (places (now (cfg .entry))) (frameBytes (now (cfg .entry))) (priorityOf (now (cfg .entry))) (quietIn (now (records .entry))) (event .0) (now (frame .entry)) (entriesOf (frameBytes (now (cfg .entry))) (now (memory .entry))) ⌝ }
+{
+    let own = place_of(memory, frame.len(), event);
+    match own {
+        Find::At(place) => {
+            renew(memory, place, event, frame);
+            StoreAnswer::Stored
+        }
+        Find::Nothing => admit(cfg, records, memory, event, frame),
+    }
+}
+
+// "event numbers below n", "occurrence ≥ 1", "each entry's event has bit 5 set"
+fn entry_ok(events: usize, records: &[u8], event: EventNumber, count: u8) -> bool
+    requires { ⌜ events ≤ 512 ⌝ }
+    ensures { λ r. ⌜ r ≡ soundNumbers events (now (records .entry)) (event .0) count ⌝ }
+{
+    if event.0 < events {
+        (1 <= count) & readings::has_failed(records, event)
+    } else {
+        false
+    }
+}
+
+// Whether each entry is so.
+fn each_ok(events: usize, frame_bytes: usize, memory: &[u8], records: &[u8]) -> bool
+    requires { ⌜ (events ≤ 512) × EntriesFit «frame_bytes» (now memory) ⌝ }
+    ensures { λ r. ⌜ r ≡ allOf (soundEntry events (now (records .entry))) (entriesOf «frame_bytes» (now (memory .entry))) ⌝ }
+{
+    let entries = entry_count(memory);
+    let mut i = 0;
+    while i < entries {
+        let event = event_at(memory, frame_bytes, Place(i));
+        let count = count_at(memory, frame_bytes, Place(i));
+        if !entry_ok(events, records, event, count) {
+            return false;
+        }
+        i += 1;
+    }
+    true
+}
+
+// Whether an entry of the event stands at a place from `first` on.
+fn stands_from(memory: &[u8], frame_bytes: usize, first: Place, event: EventNumber) -> bool
+    requires { ⌜ (EntriesFit «frame_bytes» (now memory)) × (first .0 ≤ entryCount (now memory)) ⌝ }
+    ensures { λ r. ⌜ r ≡ anyOf (isOf (event .0)) (drop (first .0) (entriesOf «frame_bytes» (now (memory .entry)))) ⌝ }
+{
+    let entries = entry_count(memory);
+    let mut i = first.0;
+    while i < entries {
+        let other = event_at(memory, frame_bytes, Place(i));
+        if other.0 == event.0 {
+            return true;
+        }
+        i += 1;
+    }
+    false
+}
+
+// "no two equal"
+fn none_twice(memory: &[u8], frame_bytes: usize) -> bool
+    requires { ⌜ EntriesFit «frame_bytes» (now memory) ⌝ }
+    ensures { λ r. ⌜ r ≡ noTwice (entriesOf «frame_bytes» (now (memory .entry))) ⌝ }
+{
+    let entries = entry_count(memory);
+    let mut i = 0;
+    while i < entries {
+        let event = event_at(memory, frame_bytes, Place(i));
+        i += 1;
+        if stands_from(memory, frame_bytes, Place(i), event) {
+            return false;
+        }
+    }
+    true
+}
+
+// The number of entries and the entries are as a well-formed memory of so many places has them. Any bytes may be judged, of any number.
+pub fn entries_ok(
+    events: usize,
+    places: usize,
+    frame_bytes: usize,
+    used: &[u8],
+    records: &[u8],
+) -> bool
+    requires { ⌜ Small events places «frame_bytes» ⌝ }
+    ensures { λ r. ⌜ r ≡ usedOk events places «frame_bytes» (now (records .entry)) (now (used .entry)) ⌝ }
+{
+    if used.len() == 0 {
+        return false;
+    }
+    if places < entry_count(used) {
+        return false;
+    }
+    if used.len() != bytes_in_use(used, frame_bytes) {
+        return false;
+    }
+    each_ok(events, frame_bytes, used, records) & none_twice(used, frame_bytes)
+}
+
+// "the bytes after the last entry are 0"
+pub fn all_zero(bytes: &[u8]) -> bool
+    ensures { λ r. ⌜ r ≡ zeros (now (bytes .entry)) ⌝ }
+{
+    let mut i = 0;
+    while i < bytes.len() {
+        if bytes[i] != 0 {
+            return false;
+        }
+        i += 1;
+    }
+    true
+}
+
+// The memory is as a well-formed state has it. Any block and any records may be judged.
+pub fn memory_ok(
+    events: usize,
+    places: usize,
+    frame_bytes: usize,
+    memory: &[u8],
+    records: &[u8],
+) -> bool
+    requires { ⌜ Small events places «frame_bytes» ⌝ }
+    ensures { λ r. ⌜ r ≡ blockOk events places «frame_bytes» (now (records .entry)) (now (memory .entry)) ⌝ }
+{
+    if memory.len() != memory_length(places, frame_bytes) {
+        return false;
+    }
+    if places < entry_count(memory) {
+        return false;
+    }
+    let end = bytes_in_use(memory, frame_bytes);
+    entries_ok(events, places, frame_bytes, &memory[..end], records) & all_zero(&memory[end..])
+}
