@@ -6,4 +6,3 @@ pub mod VictimLaws
 pub mod StoreLaws
 pub mod JudgementLaws
 pub mod KeptLaws
-pub mod Signed

@@ -167,7 +167,7 @@ pub fn forget(cfg: &[i32], memory: &mut [u8], event: EventNumber)
     requires { ⌜ InOrder (events (now cfg)) (places (now cfg)) (frameBytes (now cfg)) (now memory) ⌝ }
     ensures { λ _. ⌜ now (memory .exit) ≡ memoryOf (places (now (cfg .entry))) (frameBytes (now (cfg .entry))) (without (event .0) (entriesOf (frameBytes (now (cfg .entry))) (now (memory .entry)))) ⌝ }
 {
-    let frame_bytes = readings::frame_bytes_of(cfg);
+    let frame_bytes = config::frame_bytes(cfg);
     let own = place_of(memory, frame_bytes, event);
     match own {
         Find::At(place) => remove(memory, frame_bytes, place),
@@ -182,10 +182,10 @@ fn place_of_greatest(cfg: &[i32], memory: &[u8], frame_bytes: usize, event: Even
 {
     let entries = entry_count(memory);
     let mut best = Find::Nothing;
-    let mut top = readings::priority_of(cfg, event);
+    let mut top = config::priority_of(cfg, event);
     let mut i = 0;
     while i < entries {
-        let priority = readings::priority_of(cfg, event_at(memory, frame_bytes, Place(i)));
+        let priority = config::priority_of(cfg, event_at(memory, frame_bytes, Place(i)));
         if top < priority {
             top = priority;
             best = Find::At(Place(i));
@@ -200,7 +200,7 @@ fn gives_way(cfg: &[i32], records: &[u8], other: EventNumber, p: usize) -> bool
     requires { ⌜ other .0 < 512 ⌝ }
     ensures { λ r. ⌜ r ≡ eqb (priorityOf (now (cfg .entry)) (other .0)) p && quietIn (now (records .entry)) (other .0) ⌝ }
 {
-    let equal = readings::priority_of(cfg, other) == p;
+    let equal = config::priority_of(cfg, other) == p;
     equal & readings::is_quiet(records, other)
 }
 
@@ -216,7 +216,7 @@ fn place_of_resting(
     ensures { λ r. ⌜ r ≡ firstPlace (rests (priorityOf (now (cfg .entry))) (quietIn (now (records .entry))) (event .0)) (entriesOf «frame_bytes» (now (memory .entry))) ⌝ }
 {
     let entries = entry_count(memory);
-    let p = readings::priority_of(cfg, event);
+    let p = config::priority_of(cfg, event);
     let mut i = 0;
     while i < entries {
         if gives_way(cfg, records, event_at(memory, frame_bytes, Place(i)), p) {
@@ -282,7 +282,7 @@ fn admit(
     requires { ⌜ MayStore (now cfg) (now memory) (event .0) (now frame) ⌝ }
     ensures { λ r. ⌜ leaves (now (memory .exit)) r ≡ admits (places (now (cfg .entry))) (frameBytes (now (cfg .entry))) (priorityOf (now (cfg .entry))) (quietIn (now (records .entry))) (event .0) (now (frame .entry)) (entriesOf (frameBytes (now (cfg .entry))) (now (memory .entry))) ⌝ }
 {
-    if entry_count(memory) < readings::places_of(cfg) {
+    if entry_count(memory) < config::places(cfg) {
         append(memory, event, 1, frame);
         return StoreAnswer::Stored;
     }

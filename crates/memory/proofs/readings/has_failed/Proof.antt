@@ -1,19 +1,28 @@
+use mathlib.Core.Path.{ap, _∙_}
+use Prim.Native.Nat.{ℕ}
+use Rattle.history.specs.StatusByte.{testFailedSinceLastClear, statusOf}
+use Rattle.manual.specs.State.{storedAt}
+use Rattle.status.proofs.MasksLaws.{contains-is}
 use borrow.Author.Needs.{needs}
 use Rattle.memory.proofs.readings.has_failed.Statement.{statement}
 use Rattle.memory.proofs.readings.has_failed.Tie as tie
+use Rattle.memory.proofs.readings.has_failed.Reads as reads
+use Rattle.memory.proofs.readings.has_failed.Lts as lts
+use Rattle.status.proofs.Status.contains.Reads as contains-reads
+use Rattle.status.proofs.status_of.Reads as status-of-reads
 
-mul-byte-or-zero : tie.Need-mul-byte-or-zero
-mul-byte-or-zero c = search needs
+-- src/readings.rt:21:5
+status-of-requires : tie.Need-status-of-requires
+status-of-requires c κs = search needs
 
-byte-or-zero-requires : tie.Need-byte-or-zero-requires
-byte-or-zero-requires c κs = search needs
+-- src/readings.rt:21:5
+contains-requires : tie.Need-contains-requires
+contains-requires c κs = search needs
 
-has-bit-requires : tie.Need-has-bit-requires
-has-bit-requires c κs = search needs
-
+-- src/readings.rt:18:1
 returns : tie.Need-returns
-returns c = rw (c .has-bit .ensures, c .before .byte-or-zero .ensures)
+unfolding storedAt
+returns c = contains-is (c .before .status-of .result .0) testFailedSinceLastClear (c .contains .ensures) ∙ ap (λ (byte : ℕ). statusOf byte testFailedSinceLastClear) (c .before .status-of .ensures)
 
 pub has-failed-spec : {M : Type 1} → statement M
-has-failed-spec =
-    tie.close (tie.spec mul-byte-or-zero byte-or-zero-requires has-bit-requires returns)
+has-failed-spec = tie.close (tie.spec status-of-requires contains-requires returns)
