@@ -1,0 +1,96 @@
+-- Laws of how a call begins: "Every call begins 2, 3."
+use mathlib.Core.Path.{_≡_, refl, sym, ap, _∙_}
+use mathlib.Core.Logic.{_≢_}
+use mathlib.Core.Bool.{Bool, true, false, _&&_, cond}
+use mathlib.Core.List.{List, []}
+use Prim.Native.Nat.{ℕ}
+use native.Mathlib.Omega.{arith}
+use lib.Dec.{eqb}
+use Rattle.manual.specs.declared.Refusal.{Refusal}
+use Rattle.manual.specs.declared.Refusal.the-variants.{BadArgument, BadConfiguration, BadState, NoSuch, WrongCycleState, NoPreResult, RoomTooSmall, BadImage, WrongFrame, NoEntry}
+use Rattle.manual.specs.Configuration.{Configuration, configOk}
+use Rattle.manual.specs.State.{State}
+use Rattle.manual.specs.WellFormed.{lengthsFit, wellFormed}
+use Rattle.manual.specs.Answers.{Rule, firstThatApplies, numberOf}
+use Rattle.manual.specs.Calls.{begins, beginsWithLengths}
+use Rattle.state.specs.Lent.{twoThree}
+
+-- no refusal has the number 0, which means done
+pub never-done : (r : Refusal) → numberOf r ≢ 0
+never-done BadArgument e = omega arith
+never-done BadConfiguration e = omega arith
+never-done BadState e = omega arith
+never-done NoSuch e = omega arith
+never-done WrongCycleState e = omega arith
+never-done NoPreResult e = omega arith
+never-done RoomTooSmall e = omega arith
+never-done BadImage e = omega arith
+never-done WrongFrame e = omega arith
+never-done NoEntry e = omega arith
+
+-- ---- two tests, 2 and 3, and what follows them
+
+abbrev head : Bool → Bool → ℕ
+head a b = firstThatApplies (twoThree a b [])
+
+-- 3 need not be judged where 2 applies
+pub judged-in-turn : {a p : Bool} (b q : Bool) → a ≡ p → b ≡ a && q → firstThatApplies (twoThree a b []) ≡ firstThatApplies (twoThree p q [])
+unfolding firstThatApplies
+judged-in-turn {a} {p} b q e f = ap (λ (x : Bool). firstThatApplies (twoThree a x [])) f ∙ go a ∙ ap (λ (x : Bool). firstThatApplies (twoThree x q [])) e
+  where
+    go : (a : Bool) → firstThatApplies (twoThree a (a && q) []) ≡ firstThatApplies (twoThree a q [])
+    go true = refl
+    go false = refl
+
+first-of : (a b : Bool) (rules : List Rule) → firstThatApplies (twoThree a b rules) ≡ cond (eqb (head a b) 0) (firstThatApplies rules) (head a b)
+unfolding firstThatApplies
+first-of true true rules = refl
+first-of true false rules = refl
+first-of false b rules = refl
+
+both-hold : (a b : Bool) → head a b ≡ 0 → (a ≡ true) × (b ≡ true)
+unfolding firstThatApplies
+both-hold true true e = (refl, refl)
+both-hold true false e = absurd (let w : ⊥ = omega arith in w)
+both-hold false b e = absurd (let w : ⊥ = omega arith in w)
+
+goes-on : (a b : Bool) (rules : List Rule) → head a b ≡ 0 → firstThatApplies (twoThree a b rules) ≡ firstThatApplies rules
+goes-on a b rules e = first-of a b rules ∙ rw e
+
+stops : (a b : Bool) (rules : List Rule) (r : Refusal) → numberOf r ≡ head a b → firstThatApplies (twoThree a b rules) ≡ numberOf r
+unfolding firstThatApplies
+stops true true rules r e = absurd (never-done r e)
+stops true false rules r e = sym e
+stops false b rules r e = sym e
+
+-- ---- a call's judge is the beginning, then its own tests
+
+module _ (cfg : Configuration) (s : State) where
+  -- the number of the beginning, where it is not 0, else that of the call's own tests
+  pub first-after-begin : (rules : List Rule) → firstThatApplies (begins cfg s rules) ≡ cond (eqb (firstThatApplies (begins cfg s [])) 0) (firstThatApplies rules) (firstThatApplies (begins cfg s []))
+  first-after-begin rules = first-of (configOk cfg) (wellFormed cfg s) rules
+
+  -- what Go gives
+  pub begun : firstThatApplies (begins cfg s []) ≡ 0 → (configOk cfg ≡ true) × (wellFormed cfg s ≡ true)
+  begun e = both-hold (configOk cfg) (wellFormed cfg s) e
+
+  pub after-go : (rules : List Rule) → firstThatApplies (begins cfg s []) ≡ 0 → firstThatApplies (begins cfg s rules) ≡ firstThatApplies rules
+  after-go rules e = goes-on (configOk cfg) (wellFormed cfg s) rules e
+
+  -- what Stop gives
+  pub after-stop : (rules : List Rule) (r : Refusal) → numberOf r ≡ firstThatApplies (begins cfg s []) → firstThatApplies (begins cfg s rules) ≡ numberOf r
+  after-stop rules r e = stops (configOk cfg) (wellFormed cfg s) rules r e
+
+  -- the same for restore and for making a fresh state
+  pub first-after-lengths : (rules : List Rule)
+      → firstThatApplies (beginsWithLengths cfg s rules) ≡ cond (eqb (firstThatApplies (beginsWithLengths cfg s [])) 0) (firstThatApplies rules) (firstThatApplies (beginsWithLengths cfg s []))
+  first-after-lengths rules = first-of (configOk cfg) (lengthsFit cfg s) rules
+
+  pub begun-with-lengths : firstThatApplies (beginsWithLengths cfg s []) ≡ 0 → (configOk cfg ≡ true) × (lengthsFit cfg s ≡ true)
+  begun-with-lengths e = both-hold (configOk cfg) (lengthsFit cfg s) e
+
+  pub after-lengths-go : (rules : List Rule) → firstThatApplies (beginsWithLengths cfg s []) ≡ 0 → firstThatApplies (beginsWithLengths cfg s rules) ≡ firstThatApplies rules
+  after-lengths-go rules e = goes-on (configOk cfg) (lengthsFit cfg s) rules e
+
+  pub after-lengths-stop : (rules : List Rule) (r : Refusal) → numberOf r ≡ firstThatApplies (beginsWithLengths cfg s []) → firstThatApplies (beginsWithLengths cfg s rules) ≡ numberOf r
+  after-lengths-stop rules r e = stops (configOk cfg) (lengthsFit cfg s) rules r e

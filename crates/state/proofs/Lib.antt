@@ -1,0 +1,2 @@
+pub mod WellFormedLaws
+pub mod BeginLaws
