@@ -2,11 +2,12 @@
 ghost use mathlib.Core.Path.{_≡_};
 ghost use mathlib.Core.Bool.{cond};
 ghost use mathlib.Core.List.{[]};
-ghost use Prim.Native.Nat.{_+_, _≤_};
+ghost use Prim.Native.Nat.{_+_, _≤_, _<_};
 ghost use lib.IntN.{pos, natAbs, _+ℤ_, _-ℤ_};
 ghost use Rattle.manual.specs.Words.{smaller, larger};
 ghost use Rattle.manual.specs.Debouncing.{top, bottom, verdictAt, leavesAt, internalReport, counterUp, counterDown, counterReport, timeReport};
-ghost use Rattle.debounce.specs.Rows.{alone, answered, reportedBy, tickedBy, SmallRow, SmallReport, SmallTick};
+ghost use Rattle.debounce.specs.Rows.{RowOf, alone, answered, reportedBy, tickedBy, SmallRow, SmallReport, SmallTick};
+use manual::EventNumber;
 use manual::Verdict;
 
 mod signed;
@@ -19,6 +20,21 @@ pub struct Row {
     pub up: i32,
     pub down: i32,
     pub jumps: usize,
+}
+
+// What debouncing reads of the event's row.
+pub fn row_of(cfg: &[i32], event: EventNumber) -> Row
+    requires { ⌜ event .0 < 512 ⌝ }
+    ensures { λ r. ⌜ RowOf (now (cfg .entry)) (event .0) r ⌝ }
+{
+    Row {
+        kind: config::kind_of(cfg, event),
+        low: config::low_of(cfg, event),
+        high: config::high_of(cfg, event),
+        up: config::up_of(cfg, event),
+        down: config::down_of(cfg, event),
+        jumps: config::jumps_of(cfg, event),
+    }
 }
 
 // The new D, and the verdict.

@@ -1,5 +1,4 @@
 // Document 01, "A state is well formed when …", and how every call begins.
-use debounce::Row;
 use manual::Board;
 use manual::EventNumber;
 use manual::Refusal;
@@ -16,7 +15,6 @@ ghost use Rattle.manual.specs.State.{recordWidth, runs, opened, storedAt};
 ghost use Rattle.manual.specs.WellFormed.{lengthsFit, recordOk, DOk, wellFormed};
 ghost use Rattle.manual.specs.Answers.{firstThatApplies};
 ghost use Rattle.manual.specs.Calls.{begins, beginsWithLengths};
-ghost use Rattle.debounce.specs.Rows.{RowOf};
 ghost use Rattle.state.specs.Lent.{lent, checkNumber, twoThree};
 ghost use Rattle.state.specs.Fits.{EventIn, RecordsFor, NumbersFor};
 
@@ -76,27 +74,12 @@ pub fn records_ok(cfg: &[i32], records: &[u8]) -> bool
     ok
 }
 
-// What debouncing reads of the event's row.
-pub fn row_of(cfg: &[i32], event: EventNumber) -> Row
-    requires { ⌜ event .0 < 512 ⌝ }
-    ensures { λ r. ⌜ RowOf (now (cfg .entry)) (event .0) r ⌝ }
-{
-    Row {
-        kind: config::kind_of(cfg, event),
-        low: config::low_of(cfg, event),
-        high: config::high_of(cfg, event),
-        up: config::up_of(cfg, event),
-        down: config::down_of(cfg, event),
-        jumps: config::jumps_of(cfg, event),
-    }
-}
-
 // "D is 0 if the event's cycle is stopped or its kind is 0, else in P..Q (kind 1) or P−1..Q+1 (kind 2)". Any number may be judged.
 pub fn number_ok(cfg: &[i32], board: Board, event: EventNumber, d: i32) -> bool
     requires { ⌜ EventIn (now cfg) (event .0) ⌝ }
     ensures { λ r. ⌜ r ≡ DOk (now (cfg .entry)) board (event .0) d ⌝ }
 {
-    let row = row_of(cfg, event);
+    let row = debounce::row_of(cfg, event);
     let running = runs(board, config::cycle_of(cfg, event));
     if !running | (row.kind == config::INTERNAL) {
         return d == 0;

@@ -1,0 +1,156 @@
+-- Laws of specs/Lent.antt: what a step of the code leaves in the lent blocks is what the manual says of the state that they are.
+use mathlib.Core.Path.{_≡_, refl, sym, ap, subst, _∙_}
+use mathlib.Core.Bool.{Bool, true, false, _||_, cond}
+use mathlib.Core.List.{List}
+use Prim.Native.Nat.{ℕ, _+_, _*_, _≤_, _<_}
+use native.Mathlib.Omega.{arith}
+use lib.IntN.{ℤ, pos}
+use lib.ListN.{length, set}
+use Rattle.history.specs.StatusByte as status
+use Rattle.history.specs.StatusByte.{freshRecord, freshFailure, agesAtStop}
+use Rattle.history.specs.History.{Token, failed, stop, step}
+use Rattle.manual.specs.declared.Board.{Board}
+use Rattle.manual.specs.declared.Verdict.{Verdict}
+use Rattle.manual.specs.Configuration.{Configuration, events, places, frameBytes, priorityOf, limitsOf}
+use Rattle.manual.specs.State.{State, recordWidth, Stored, opened, stored, storedAt, withStored, D, withD}
+use Rattle.manual.specs.Memory.{entriesOf, memoryOf, without, store}
+use Rattle.manual.specs.OneEvent.{happens, entryLeaves, keeps, memoryTold, fails, qualifies, stops, clears}
+use Rattle.manual.specs.Debouncing.{Debounced, reported, ticked}
+use Rattle.manual.specs.Calls.{applied, reportDone, ticks}
+use Rattle.manual.proofs.ConfigurationLaws.{config-tells}
+use Rattle.config.specs.declared.Limits.{Limits}
+use Rattle.config.specs.Rows.{limitsIs}
+use Rattle.debounce.specs.declared.Row.{Row}
+use Rattle.debounce.specs.Rows.{RowOf, reportedBy, tickedBy, SmallReport, SmallTick}
+use Rattle.debounce.proofs.RowsLaws.{reported-is, ticked-is, small-report, small-tick}
+use Rattle.status.specs.declared.Record.{Record}
+use Rattle.status.specs.declared.AfterFailed.{AfterFailed}
+use Rattle.status.specs.declared.AfterStop.{AfterStop}
+use Rattle.status.specs.Records.{storedIs, recordIs, limits, FailedIs, RoomToRise, StoppedIs}
+use Rattle.status.proofs.RecordsLaws.{step-written, has-room}
+use Rattle.memory.specs.declared.StoreAnswer.{StoreAnswer}
+use Rattle.memory.specs.Store.{MayStore, quietIn, Left, leaves, isLost, stores}
+use Rattle.memory.proofs.StoreLaws.{answer-is-lost}
+use Rattle.one_event.specs.Lent.{lent, accepts, BlocksFit, EventFits, Ready}
+
+-- ---- what the functions of the crates below ask
+
+pub record-within : {cfg : Configuration} {records memory : List ℕ} {e : ℕ} → BlocksFit cfg records memory e → recordWidth * e + recordWidth ≤ length records
+record-within f = omega (arith, f .below, f .records-fit)
+
+pub may-stop : {cfg : Configuration} {records : List ℕ} {debounce : List ℤ} {memory : List ℕ} {e : ℕ} → EventFits cfg records debounce memory e
+    → (r : Record) → storedIs r ≡ storedAt e records → RoomToRise r
+may-stop {cfg} {e = e} f r p = let t = config-tells cfg (f .configured) .row e (f .blocks .below) in has-room (limitsOf cfg e) r p (t .heal-most) (t .age-most) (f .kept)
+
+-- ---- the record
+
+module _ (cfg : Configuration) (e : ℕ) (records : List ℕ) where
+  -- a record read, stepped and written back
+  pub happens-is : (t : Token) {records′ : List ℕ} (r r′ : Record) → storedIs r ≡ storedAt e records → storedIs r′ ≡ stored (step (limitsOf cfg e) t (recordIs r))
+      → records′ ≡ withStored e (storedIs r′) records → (d : List ℤ) (m : List ℕ) (b : Board) → lent records′ d m b ≡ happens cfg t e (lent records d m b)
+  unfolding happens
+  happens-is t r r′ p q w d m b = ap (λ (l : List ℕ). lent l d m b) (step-written (limitsOf cfg e) t e records r r′ p q w)
+
+-- ---- the entry
+
+module _ (cfg : Configuration) (e : ℕ) (memory : List ℕ) where
+  abbrev forgotten : List ℕ
+  forgotten = memoryOf (places cfg) (frameBytes cfg) (without e (entriesOf (frameBytes cfg) memory))
+
+  abbrev leavesIf : Bool → List ℕ → List ℤ → Board → State
+  leavesIf test r d b = cond test (entryLeaves cfg e (lent r d memory b)) (lent r d memory b)
+
+  pub leaves-where : {test : Bool} {memory′ : List ℕ} → test ≡ true → memory′ ≡ forgotten → (r : List ℕ) (d : List ℤ) (b : Board) → lent r d memory′ b ≡ leavesIf test r d b
+  unfolding entryLeaves
+  leaves-where t p r d b = ap (λ (l : List ℕ). lent r d l b) p ∙ ap (λ (test : Bool). leavesIf test r d b) (sym t)
+
+  pub stays-where : {test : Bool} → test ≡ false → (r : List ℕ) (d : List ℤ) (b : Board) → lent r d memory b ≡ leavesIf test r d b
+  stays-where t r d b = ap (λ (test : Bool). leavesIf test r d b) (sym t)
+
+-- ---- stop and clear
+
+module _ (cfg : Configuration) (e : ℕ) (records : List ℕ) (debounce : List ℤ) (memory : List ℕ) {records′ : List ℕ} {debounce′ : List ℤ} {memory′ : List ℕ}
+    (d : debounce′ ≡ set debounce e (pos 0)) where
+  pub stops-is : (l : Limits) (r : Record) (f : AfterStop) → limitsIs l ≡ limitsOf cfg e → storedIs r ≡ storedAt e records
+      → ((C : ℕ) (i : Bool) → StoppedIs (limits C (l .heal) (l .age) i) r f) → records′ ≡ withStored e (storedIs (f .«record»)) records
+      → ((r : List ℕ) (d : List ℤ) (b : Board) → lent r d memory′ b ≡ leavesIf cfg e memory (f .aged) r d b)
+      → (b : Board) → lent records′ debounce′ memory′ b ≡ stops cfg e (lent records debounce memory b)
+  unfolding stops
+  stops-is l r f p q s w m b =
+      let is : StoppedIs (limitsOf cfg e) r f = subst (λ (n : status.Limits). StoppedIs n r f) p (s (l .confirm) (l .indicator)) in
+      let after = happens-is cfg e records stop r (f .«record») q (is .after) w debounce memory b in
+      let aged : f .aged ≡ agesAtStop (limitsOf cfg e) (opened (storedAt e records)) = is .aged ∙ ap (λ (x : Stored). agesAtStop (limitsOf cfg e) (opened x)) q in
+      ap (λ (x : List ℤ). lent records′ x memory′ b) d
+      ∙ ap (withD e (pos 0)) (m records′ debounce b ∙ (λ i. cond (aged i) (entryLeaves cfg e (after i)) (after i)))
+
+  pub clears-is : (r : Record) → storedIs r ≡ stored freshRecord → records′ ≡ withStored e (storedIs r) records → memory′ ≡ forgotten cfg e memory
+      → (b : Board) → lent records′ debounce′ memory′ b ≡ clears cfg e (lent records debounce memory b)
+  unfolding clears happens entryLeaves
+  clears-is r p w m b = λ i. lent ((w ∙ ap (λ (x : Stored). withStored e x records) p) i) (d i) (m i) b
+
+-- ---- a failed result
+
+module _ (cfg : Configuration) (e : ℕ) (frame records memory : List ℕ) (board : Board) where
+  abbrev told : Left
+  told = stores (places cfg) (frameBytes cfg) (priorityOf cfg) (quietIn records) e frame (entriesOf (frameBytes cfg) memory)
+
+  pub told-is : {memory′ : List ℕ} (answer : StoreAnswer) {lost : Bool} → leaves memory′ answer ≡ told → lost ≡ isLost answer
+      → (d : List ℤ) → lent records d memory′ (record { running = board .running; overflow = board .overflow || lost }) ≡ memoryTold cfg frame e (lent records d memory board)
+  unfolding memoryTold keeps stores storedAt
+  told-is answer p q d =
+      let lost-is = q ∙ ap (λ (x : Left). isLost (x .answer)) p ∙ answer-is-lost (places cfg) (frameBytes cfg) (priorityOf cfg) (quietIn records) e frame (entriesOf (frameBytes cfg) memory) in
+      λ i. lent records d (p i .block) (record { running = board .running; overflow = board .overflow || lost-is i })
+
+  module _ {records′ : List ℕ} (l : Limits) (r : Record) (f : AfterFailed) (p : limitsIs l ≡ limitsOf cfg e) (q : storedIs r ≡ storedAt e records)
+      (s : (H A : ℕ) → FailedIs (limits (l .confirm) H A (l .indicator)) r f) (w : records′ ≡ withStored e (storedIs (f .«record»)) records) where
+    is : FailedIs (limitsOf cfg e) r f
+    is = subst (λ (n : status.Limits). FailedIs n r f) p (s (l .heal) (l .age))
+
+    fresh : f .«fresh_failure» ≡ freshFailure (opened (storedAt e records))
+    fresh = is .fresh ∙ ap (λ (x : Stored). freshFailure (opened x)) q
+
+    after : (d : List ℤ) → lent records′ d memory board ≡ happens cfg failed e (lent records d memory board)
+    after d = happens-is cfg e records failed r (f .«record») q (is .after) w d memory board
+
+    pub fails-told : {memory′ : List ℕ} {board′ : Board} → f .«fresh_failure» ≡ true
+        → ((d : List ℤ) → lent records′ d memory′ board′ ≡ memoryTold cfg frame e (lent records′ d memory board))
+        → (d : List ℤ) → lent records′ d memory′ board′ ≡ fails cfg frame e (lent records d memory board)
+    unfolding fails
+    fails-told t m d = m d ∙ (λ i. cond ((sym t ∙ fresh) i) (memoryTold cfg frame e (after d i)) (after d i))
+
+    pub fails-untold : f .«fresh_failure» ≡ false → (d : List ℤ) → lent records′ d memory board ≡ fails cfg frame e (lent records d memory board)
+    unfolding fails
+    fails-untold t d = λ i. cond ((sym t ∙ fresh) i) (memoryTold cfg frame e (after d i)) (after d i)
+
+-- ---- a verdict, and a report or a tick
+
+module _ (cfg : Configuration) (e : ℕ) (frame records memory : List ℕ) (board : Board) where
+  -- these blocks and this board are left, whatever the debounce numbers are
+  abbrev Qualified : List ℕ → List ℕ → Board → Verdict → Type 0
+  Qualified records′ memory′ board′ v = (d : List ℤ) → lent records′ d memory′ board′ ≡ qualifies cfg frame e v (lent records d memory board)
+
+  module _ {records′ memory′ : List ℕ} {board′ : Board} where
+    pub qualifies-by : {verdict : Verdict} (v : Verdict) → verdict ≡ v → Qualified records′ memory′ board′ v → Qualified records′ memory′ board′ verdict
+    qualifies-by v p q = subst (Qualified records′ memory′ board′) (sym p) q
+
+    pub applied-is : (debounce : List ℤ) {debounce′ : List ℤ} (x : Debounced) → debounce′ ≡ set debounce e (x .number) → Qualified records′ memory′ board′ (x .verdict)
+        → lent records′ debounce′ memory′ board′ ≡ applied cfg frame e x (lent records debounce memory board)
+    unfolding applied
+    applied-is debounce {debounce′} x p q = q debounce′ ∙ ap (λ (l : List ℤ). qualifies cfg frame e (x .verdict) (lent records l memory board)) p
+
+module _ (cfg : Configuration) (e : ℕ) (s : State) where
+  module _ (f : Ready cfg s e) (row : Row) (o : RowOf cfg e row) {n : ℤ} (p : n ≡ D s e) where
+    pub may-report : SmallReport row n
+    may-report = subst (SmallReport row) (sym p) (small-report cfg e row o (f .event .configured) (f .event .blocks .below) _ (D s e) (f .number))
+
+    pub may-tick : (ms : ℕ) → ms ≤ 60000 → SmallTick row ms n
+    may-tick ms h = subst (SmallTick row ms) (sym p) (small-tick cfg e row o (f .event .configured) (f .event .blocks .below) _ (D s e) (f .number) ms h)
+
+  module _ (frame : List ℕ) (row : Row) (o : RowOf cfg e row) {n : ℤ} (p : n ≡ D s e) (x : Debounced) {t : State} (a : t ≡ applied cfg frame e x s) where
+    pub reports-is : (code : ℕ) → x ≡ reportedBy row code n → accepts (x .verdict) t ≡ reportDone cfg e code frame s
+    reports-is code q =
+        let is : x ≡ reported cfg e code (D s e) = q ∙ ap (reportedBy row code) p ∙ reported-is cfg e row o code (D s e) in
+        λ i. accepts (is i .verdict) ((a ∙ ap (λ (y : Debounced). applied cfg frame e y s) is) i)
+
+    pub ticks-is : (ms : ℕ) → x ≡ tickedBy row ms n → t ≡ ticks cfg ms frame e s
+    ticks-is ms q = a ∙ ap (λ (y : Debounced). applied cfg frame e y s) (q ∙ ap (tickedBy row ms) p ∙ ticked-is cfg e row o ms (D s e))

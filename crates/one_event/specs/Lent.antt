@@ -1,0 +1,39 @@
+-- The state that the lent blocks and a board are, and what a step on one event may count on. Assumes nothing.
+use mathlib.Core.Path.{_≡_}
+use mathlib.Core.Bool.{true}
+use mathlib.Core.List.{List, []}
+use Prim.Native.Nat.{ℕ, _*_, _<_}
+use lib.IntN.{ℤ}
+use lib.ListN.{length}
+use Rattle.manual.specs.declared.Board.{Board}
+use Rattle.manual.specs.declared.Verdict.{Verdict}
+use Rattle.manual.specs.Configuration.{Configuration, events, places, frameBytes, configOk}
+use Rattle.manual.specs.State.{State, recordWidth, opened, storedAt, D}
+use Rattle.manual.specs.WellFormed.{recordOk, DOk}
+use Rattle.manual.specs.Answers.{Outcome}
+use Rattle.memory.specs.InOrder.{InOrder}
+
+abbrev pub lent : List ℕ → List ℤ → List ℕ → Board → State
+lent records debounce memory board = record { records = records; debounce = debounce; memory = memory; board = board }
+
+-- an accepted report's verdict, and the state that it leaves, as the manual has them
+abbrev pub accepts : Verdict → State → Outcome
+accepts verdict s = record { answer = 0; verdict = verdict; value = 0; part = []; room = []; state = s }
+
+-- the records have room for event e, and memory is in order
+pub record BlocksFit (cfg : Configuration) (records memory : List ℕ) (e : ℕ) : Type 0 where
+  pub below : e < events cfg
+  pub records-fit : length records ≡ recordWidth * events cfg
+  pub in-order : InOrder (events cfg) (places cfg) (frameBytes cfg) memory
+
+-- under an accepted configuration, the debounce numbers have room for it too, and its record is as "well formed" asks
+pub record EventFits (cfg : Configuration) (records : List ℕ) (debounce : List ℤ) (memory : List ℕ) (e : ℕ) : Type 0 where
+  pub configured : configOk cfg ≡ true
+  pub blocks : BlocksFit cfg records memory e
+  pub debounce-fits : length debounce ≡ events cfg
+  pub kept : recordOk cfg e (opened (storedAt e records)) ≡ true
+
+-- and on the board its D is so too: what a step on event e of a well-formed state may count on
+pub record Ready (cfg : Configuration) (s : State) (e : ℕ) : Type 0 where
+  pub event : EventFits cfg (s .records) (s .debounce) (s .memory) e
+  pub number : DOk cfg (s .board) e (D s e) ≡ true

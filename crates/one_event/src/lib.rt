@@ -1,0 +1,235 @@
+// Document 01, "Status byte" and "Memory": what happens to one event, in the lent blocks.
+use manual::Board;
+use manual::EventNumber;
+use manual::Verdict;
+ghost use mathlib.Core.Path.{_≡_};
+ghost use mathlib.Core.Bool.{cond};
+ghost use mathlib.Core.List.{List};
+ghost use Prim.Native.Nat.{ℕ, _+_, _*_, _≤_, _<_};
+ghost use lib.IntN.{ℤ, pos};
+ghost use lib.ListN.{length, set};
+ghost use Rattle.history.specs.History.{passed, start};
+ghost use Rattle.manual.specs.Configuration.{Configuration, events, places, frameBytes};
+ghost use Rattle.manual.specs.State.{recordWidth};
+ghost use Rattle.manual.specs.OneEvent.{happens, entryLeaves, memoryTold, fails, qualifies, stops, clears};
+ghost use Rattle.manual.specs.Calls.{applied, reportDone, ticks};
+ghost use Rattle.debounce.specs.Rows.{answered};
+ghost use Rattle.memory.specs.InOrder.{InOrder};
+ghost use Rattle.memory.specs.Store.{MayStore, isLost};
+ghost use Rattle.one_event.specs.Lent.{lent, accepts, BlocksFit, EventFits, Ready};
+
+// "Start of a stopped cycle: for its events clears 1, sets 6."
+pub fn starts(records: &mut [u8], event: EventNumber)
+    requires { ⌜ recordWidth * event .0 + recordWidth ≤ length (now records) ⌝ }
+    ensures { λ _. ⌜ ((cfg : Configuration) (d : List ℤ) (m : List ℕ) (b : Board) → lent (now (records .exit)) d m b ≡ happens cfg start (event .0) (lent (now (records .entry)) d m b)) ⌝ }
+{
+    let before = status::read_record(records, event);
+    status::write_record(records, event, status::started(before));
+}
+
+// "Passed: clears 0, 4, 6."
+pub fn passes(records: &mut [u8], event: EventNumber)
+    requires { ⌜ recordWidth * event .0 + recordWidth ≤ length (now records) ⌝ }
+    ensures { λ _. ⌜ ((cfg : Configuration) (d : List ℤ) (m : List ℕ) (b : Board) → lent (now (records .exit)) d m b ≡ happens cfg passed (event .0) (lent (now (records .entry)) d m b)) ⌝ }
+{
+    let before = status::read_record(records, event);
+    status::write_record(records, event, status::passed(before));
+}
+
+// Where the test holds, "its entry leaves memory".
+fn entry_leaves_if(test: bool, cfg: &[i32], memory: &mut [u8], event: EventNumber)
+    requires { ⌜ InOrder (events (now cfg)) (places (now cfg)) (frameBytes (now cfg)) (now memory) ⌝ }
+    ensures { λ _. ⌜ ((r : List ℕ) (d : List ℤ) (b : Board) → lent r d (now (memory .exit)) b ≡ cond test (entryLeaves (now (cfg .entry)) (event .0) (lent r d (now (memory .entry)) b)) (lent r d (now (memory .entry)) b)) ⌝ }
+{
+    if test {
+        memory::forget(cfg, memory, event);
+    }
+}
+
+// "D = 0", at a stop and at a clear.
+fn reset_number(debounce: &mut [i32], event: EventNumber)
+    requires { ⌜ event .0 < length (now debounce) ⌝ }
+    ensures { λ _. ⌜ now (debounce .exit) ≡ set (now (debounce .entry)) (event .0) (pos 0) ⌝ }
+{
+    status::write_number(debounce, event, 0);
+}
+
+// "Stop, for its events: (a) … (b) … at A the event ages: …, its entry leaves memory. (c) D = 0."
+pub fn stops(
+    cfg: &[i32],
+    records: &mut [u8],
+    debounce: &mut [i32],
+    memory: &mut [u8],
+    event: EventNumber,
+)
+    requires { ⌜ EventFits (now cfg) (now records) (now debounce) (now memory) (event .0) ⌝ }
+    ensures { λ _. ⌜ ((b : Board) → lent (now (records .exit)) (now (debounce .exit)) (now (memory .exit)) b ≡ stops (now (cfg .entry)) (event .0) (lent (now (records .entry)) (now (debounce .entry)) (now (memory .entry)) b)) ⌝ }
+{
+    let limits = config::limits_of(cfg, event);
+    let before = status::read_record(records, event);
+    let after = status::stopped(limits.heal, limits.age, before);
+    status::write_record(records, event, after.record);
+    entry_leaves_if(after.aged, cfg, memory, event);
+    reset_number(debounce, event);
+}
+
+// "each covered event gets status 50h, K = h = g = D = 0, its entry leaves"
+pub fn clears(
+    cfg: &[i32],
+    records: &mut [u8],
+    debounce: &mut [i32],
+    memory: &mut [u8],
+    event: EventNumber,
+)
+    requires { ⌜ EventFits (now cfg) (now records) (now debounce) (now memory) (event .0) ⌝ }
+    ensures { λ _. ⌜ ((b : Board) → lent (now (records .exit)) (now (debounce .exit)) (now (memory .exit)) b ≡ clears (now (cfg .entry)) (event .0) (lent (now (records .entry)) (now (debounce .entry)) (now (memory .entry)) b)) ⌝ }
+{
+    status::write_record(records, event, status::fresh_record());
+    memory::forget(cfg, memory, event);
+    reset_number(debounce, event);
+}
+
+// Whether the answer is "not stored".
+fn is_lost(answer: memory::StoreAnswer) -> bool
+    ensures { λ r. ⌜ r ≡ isLost answer ⌝ }
+{
+    match answer {
+        memory::StoreAnswer::Stored => false,
+        memory::StoreAnswer::Displaced(_) => false,
+        memory::StoreAnswer::NotStored => true,
+    }
+}
+
+// "Fresh failure of e with the lent frame": memory is told. "Else not stored; overflow is set."
+fn tell_memory(
+    cfg: &[i32],
+    records: &[u8],
+    memory: &mut [u8],
+    board: Board,
+    event: EventNumber,
+    frame: &[u8],
+) -> Board
+    requires { ⌜ MayStore (now cfg) (now memory) (event .0) (now frame) ⌝ }
+    ensures { λ r. ⌜ ((d : List ℤ) → lent (now (records .entry)) d (now (memory .exit)) r ≡ memoryTold (now (cfg .entry)) (now (frame .entry)) (event .0) (lent (now (records .entry)) d (now (memory .entry)) board)) ⌝ }
+{
+    let answer = memory::store(cfg, records, memory, event, frame);
+    let running = board.running;
+    Board {
+        running,
+        overflow: board.overflow | is_lost(answer),
+    }
+}
+
+// "Failed: … If bit 0 was clear before, it is a fresh failure and memory is told, last."
+pub fn fails(
+    cfg: &[i32],
+    records: &mut [u8],
+    memory: &mut [u8],
+    board: Board,
+    event: EventNumber,
+    frame: &[u8],
+) -> Board
+    requires { ⌜ (BlocksFit (now cfg) (now records) (now memory) (event .0)) × (length (now frame) ≡ frameBytes (now cfg)) ⌝ }
+    ensures { λ r. ⌜ ((d : List ℤ) → lent (now (records .exit)) d (now (memory .exit)) r ≡ fails (now (cfg .entry)) (now (frame .entry)) (event .0) (lent (now (records .entry)) d (now (memory .entry)) board)) ⌝ }
+{
+    let limits = config::limits_of(cfg, event);
+    let before = status::read_record(records, event);
+    let after = status::failed(limits.confirm, limits.indicator, before);
+    status::write_record(records, event, after.record);
+    if after.fresh_failure {
+        tell_memory(cfg, records, memory, board, event, frame)
+    } else {
+        board
+    }
+}
+
+// "A verdict other than none is a qualified result.": what the verdict does to the event.
+pub fn qualifies(
+    cfg: &[i32],
+    records: &mut [u8],
+    memory: &mut [u8],
+    board: Board,
+    event: EventNumber,
+    frame: &[u8],
+    verdict: Verdict,
+) -> Board
+    requires { ⌜ (BlocksFit (now cfg) (now records) (now memory) (event .0)) × (length (now frame) ≡ frameBytes (now cfg)) ⌝ }
+    ensures { λ r. ⌜ ((d : List ℤ) → lent (now (records .exit)) d (now (memory .exit)) r ≡ qualifies (now (cfg .entry)) (now (frame .entry)) (event .0) verdict (lent (now (records .entry)) d (now (memory .entry)) board)) ⌝ }
+{
+    match verdict {
+        Verdict::None => board,
+        Verdict::Passed => {
+            passes(records, event);
+            board
+        }
+        Verdict::Failed => fails(cfg, records, memory, board, event, frame),
+    }
+}
+
+// The new D, then what the verdict does to the event.
+pub fn applies(
+    cfg: &[i32],
+    records: &mut [u8],
+    debounce: &mut [i32],
+    memory: &mut [u8],
+    board: Board,
+    event: EventNumber,
+    frame: &[u8],
+    d: debounce::Debounced,
+) -> Board
+    requires { ⌜ (EventFits (now cfg) (now records) (now debounce) (now memory) (event .0)) × (length (now frame) ≡ frameBytes (now cfg)) ⌝ }
+    ensures { λ r. ⌜ lent (now (records .exit)) (now (debounce .exit)) (now (memory .exit)) r ≡ applied (now (cfg .entry)) (now (frame .entry)) (event .0) (answered d) (lent (now (records .entry)) (now (debounce .entry)) (now (memory .entry)) board) ⌝ }
+{
+    let verdict = d.verdict;
+    status::write_number(debounce, event, d.number);
+    qualifies(cfg, records, memory, board, event, frame, verdict)
+}
+
+// The verdict of a report, and the board after it.
+pub struct Reported {
+    pub verdict: Verdict,
+    pub board: Board,
+}
+
+// "Each accepted report gives a verdict": the new D of the event, and what the verdict does to it.
+pub fn reports(
+    cfg: &[i32],
+    records: &mut [u8],
+    debounce: &mut [i32],
+    memory: &mut [u8],
+    board: Board,
+    event: EventNumber,
+    code: u32,
+    frame: &[u8],
+) -> Reported
+    requires { ⌜ (Ready (now cfg) (lent (now records) (now debounce) (now memory) board) (event .0)) × (length (now frame) ≡ frameBytes (now cfg)) ⌝ }
+    ensures { λ r. ⌜ accepts (r .verdict) (lent (now (records .exit)) (now (debounce .exit)) (now (memory .exit)) (r .board)) ≡ reportDone (now (cfg .entry)) (event .0) code (now (frame .entry)) (lent (now (records .entry)) (now (debounce .entry)) (now (memory .entry)) board) ⌝ }
+{
+    let row = debounce::row_of(cfg, event);
+    let d = debounce::report_step(row, code, status::read_number(debounce, event));
+    let verdict = d.verdict;
+    let after = applies(cfg, records, debounce, memory, board, event, frame, d);
+    Reported {
+        verdict,
+        board: after,
+    }
+}
+
+// "Tick of d ms", for an event of kind 2 whose cycle runs: "Every event so qualified takes the lent frame."
+pub fn ticks(
+    cfg: &[i32],
+    records: &mut [u8],
+    debounce: &mut [i32],
+    memory: &mut [u8],
+    board: Board,
+    event: EventNumber,
+    ms: u32,
+    frame: &[u8],
+) -> Board
+    requires { ⌜ (Ready (now cfg) (lent (now records) (now debounce) (now memory) board) (event .0)) × ((length (now frame) ≡ frameBytes (now cfg)) × (ms ≤ 60000)) ⌝ }
+    ensures { λ r. ⌜ lent (now (records .exit)) (now (debounce .exit)) (now (memory .exit)) r ≡ ticks (now (cfg .entry)) ms (now (frame .entry)) (event .0) (lent (now (records .entry)) (now (debounce .entry)) (now (memory .entry)) board) ⌝ }
+{
+    let row = debounce::row_of(cfg, event);
+    let d = debounce::tick_step(row, ms, status::read_number(debounce, event));
+    applies(cfg, records, debounce, memory, board, event, frame, d)
+}
