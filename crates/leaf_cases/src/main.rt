@@ -1,0 +1,531 @@
+// Runs the leaves of the manager on cases whose answers are written from document 01, and prints how many ran and how many differed.
+use config::CodeSearch;
+use config::Limits;
+use debounce::Debounced;
+use debounce::Row;
+use manual::Verdict;
+use status::Record;
+use status::Status;
+use transcript::Cursor;
+use transcript::Word;
+ghost use mathlib.Core.Path.{_≡_};
+ghost use mathlib.Core.Bool.{true};
+ghost use Prim.Native.Nat.{_≤_, min};
+ghost use lib.ListN.{length};
+ghost use Rattle.manual.specs.Words.{between};
+ghost use Rattle.debounce.specs.Rows.{SmallReport};
+
+mod tables;
+
+// ---- counting
+
+struct Tally {
+    ran: u32,
+    differed: u32,
+}
+
+// A count and one more; a million is enough for any table.
+fn one_more(count: u32) -> u32 {
+    if count < 1_000_000 { count + 1 } else { count }
+}
+
+fn counted(tally: Tally, agrees: bool) -> Tally {
+    Tally {
+        ran: one_more(tally.ran),
+        differed: if agrees {
+            tally.differed
+        } else {
+            one_more(tally.differed)
+        },
+    }
+}
+
+// ---- reading a table
+
+// The numbers of a text, and how many there are: no more than there is room for.
+fn read_numbers(text: &[u8], numbers: &mut [i32]) -> usize {
+    let mut from = Cursor { at: 0 };
+    for place in 0..numbers.len() {
+        let Word::Number(read) = transcript::next_number(text, from) else {
+            return place;
+        };
+        let value = read.value;
+        numbers[place] = value;
+        from = read.next;
+    }
+    numbers.len()
+}
+
+// Number k of the case that begins at a place; 0 past the end.
+fn number_at(table: &[i32], at: usize, k: usize) -> i32 {
+    if table.len() <= at {
+        return 0;
+    }
+    if table.len() - at <= k {
+        return 0;
+    }
+    table[at + k]
+}
+
+// 0 for a negative number.
+fn count_of(number: i32) -> usize {
+    if number < 0 { 0 } else { number as usize }
+}
+
+fn count_at(table: &[i32], at: usize, k: usize) -> usize {
+    count_of(number_at(table, at, k))
+}
+
+// A report's code or a tick's ms; one more than a tick may have where the table has more.
+fn code_at(table: &[i32], at: usize, k: usize) -> u32 {
+    let count = count_at(table, at, k);
+    if count <= 60_000 {
+        count as u32
+    } else {
+        60_001
+    }
+}
+
+fn byte_at(table: &[i32], at: usize, k: usize) -> u8 {
+    let count = count_at(table, at, k);
+    if count < 256 { count as u8 } else { 0 }
+}
+
+// Four bits written as a number of four digits, 1010 for 10.
+fn four_bits(digits: usize) -> usize
+    ensures { λ r. ⌜ r ≤ 135 ⌝ }
+{
+    digits % 10 + digits / 10 % 10 * 2 + digits / 100 % 10 * 4 + digits / 1000 % 10 * 8
+}
+
+// A status written as its eight bits, bit 7 first.
+fn status_at(table: &[i32], at: usize, k: usize) -> Status {
+    let digits = count_at(table, at, k);
+    let byte = four_bits(digits / 10_000) * 16 + four_bits(digits);
+    Status(if byte < 256 { byte as u8 } else { 0 })
+}
+
+fn one_if(test: bool) -> usize {
+    if test { 1 } else { 0 }
+}
+
+// ---- configurations
+
+// A configuration of one event of each debounce kind, and a number past its end.
+fn base(kind: usize) -> [i32; 17]
+    ensures { λ r. ⌜ 17 ≡ length r ⌝ }
+{
+    match kind {
+        0 => [1, 1, 0, 1, 1, 0, 0, 0, 0, 0, 0, 0, 1, 1, 1, 0, 0],
+        1 => [1, 1, 0, 1, 1, 0, 1, -4, 4, 2, 1, 0, 2, 1, 3, 1, 0],
+        _ => [1, 1, 0, 1, 1, 0, 2, -500, 500, 0, 0, 0, 2, 1, 3, 1, 0],
+    }
+}
+
+fn put(cfg: &mut [i32], place: usize, number: i32) {
+    if place < cfg.len() {
+        cfg[place] = number;
+    }
+}
+
+// 1 where the first numbers of these are an accepted configuration, 0 where they are not, 2 where there are not so many.
+fn accepted(cfg: &[i32], len: usize) -> usize {
+    if len <= cfg.len() {
+        one_if(config::config_ok(&cfg[..len]))
+    } else {
+        2
+    }
+}
+
+fn bound_agrees(table: &[i32], at: usize) -> bool {
+    let mut cfg = base(count_at(table, at, 0));
+    put(&mut cfg, count_at(table, at, 1), number_at(table, at, 2));
+    accepted(&cfg, 16) == count_at(table, at, 3)
+}
+
+fn length_agrees(table: &[i32], at: usize) -> bool {
+    let cfg = base(1);
+    accepted(&cfg, count_at(table, at, 0)) == count_at(table, at, 1)
+}
+
+// The event's number and one.
+fn code_after(event: usize) -> i32 {
+    if event < 1000 { (event + 1) as i32 } else { 0 }
+}
+
+// A number of the rows of kind 0, counted from the first row on: trouble code, priority, C, H and A, all others 0.
+fn in_rows(place: usize) -> i32 {
+    match place % 13 {
+        0 => code_after(place / 13),
+        1 | 9 | 10 | 11 => 1,
+        _ => 0,
+    }
+}
+
+fn fill_rows(cfg: &mut [i32]) {
+    for place in 3..cfg.len() {
+        let number = in_rows(place - 3);
+        cfg[place] = number;
+    }
+}
+
+// Rows of kind 0 with rising trouble codes, then n, M 1, F 0 and the first two codes put in.
+fn codes_agree(table: &[i32], at: usize) -> bool {
+    let mut cfg = [0; 6672];
+    fill_rows(&mut cfg);
+    put(&mut cfg, 0, number_at(table, at, 0));
+    put(&mut cfg, 1, 1);
+    put(&mut cfg, 3, number_at(table, at, 2));
+    put(&mut cfg, 16, number_at(table, at, 3));
+    accepted(&cfg, count_at(table, at, 1)) == count_at(table, at, 4)
+}
+
+// ---- search
+
+// The event with the trouble code; 5 where none has it, 6 where the configuration is not accepted.
+fn event_with(cfg: &[i32], code: u32) -> usize {
+    if config::config_ok(cfg) {
+        match config::find_code(cfg, code) {
+            CodeSearch::At(event) => event.0,
+            CodeSearch::Nothing => 5,
+        }
+    } else {
+        6
+    }
+}
+
+// A trouble code of 32 bits from its part above FFFFFFh and the rest.
+fn wide_code(above: usize, rest: usize) -> u32 {
+    if 255 < above {
+        return 0;
+    }
+    if 16_777_215 < rest {
+        return 0;
+    }
+    (above * 16_777_216 + rest) as u32
+}
+
+fn search_agrees(table: &[i32], at: usize) -> bool {
+    let mut cfg = [0; 68];
+    read_numbers(&tables::SEARCHED, &mut cfg);
+    let code = wide_code(count_at(table, at, 0), count_at(table, at, 1));
+    event_with(&cfg, code) == count_at(table, at, 2)
+}
+
+// ---- debouncing
+
+fn between(number: i32, lo: i32, hi: i32) -> bool
+    ensures { λ r. ⌜ r ≡ between lo hi number ⌝ }
+{
+    lo <= number && number <= hi
+}
+
+// Whether the numbers are as small as debouncing asks.
+fn small(row: Row, d: i32) -> bool
+    ensures { λ r. ⌜ (r ≡ true → SmallReport row d) ⌝ }
+{
+    between(row.low, -30_000, 30_000)
+        & between(row.high, -30_000, 30_000)
+        & between(row.up, -30_000, 30_000)
+        & between(row.down, -30_000, 30_000)
+        & between(d, -30_001, 30_001)
+}
+
+fn verdict_number(verdict: Verdict) -> usize {
+    match verdict {
+        Verdict::None => 0,
+        Verdict::Passed => 1,
+        Verdict::Failed => 2,
+    }
+}
+
+// Whether debouncing answered the case's two last numbers.
+fn answers(answer: Debounced, d: i32, verdict: usize) -> bool {
+    let v = answer.verdict;
+    (answer.number == d) & (verdict_number(v) == verdict)
+}
+
+fn report_answers(row: Row, code: u32, d: i32, new: i32, verdict: usize) -> bool {
+    if small(row, d) {
+        answers(debounce::report_step(row, code, d), new, verdict)
+    } else {
+        false
+    }
+}
+
+fn report_agrees(table: &[i32], at: usize) -> bool {
+    let row = Row {
+        kind: count_at(table, at, 0),
+        low: number_at(table, at, 1),
+        high: number_at(table, at, 2),
+        up: number_at(table, at, 3),
+        down: number_at(table, at, 4),
+        jumps: count_at(table, at, 5),
+    };
+    report_answers(
+        row,
+        code_at(table, at, 6),
+        number_at(table, at, 7),
+        number_at(table, at, 8),
+        count_at(table, at, 9),
+    )
+}
+
+fn tick_answers(row: Row, ms: u32, d: i32, new: i32, verdict: usize) -> bool {
+    if 60_000 < ms {
+        return false;
+    }
+    if small(row, d) {
+        answers(debounce::tick_step(row, ms, d), new, verdict)
+    } else {
+        false
+    }
+}
+
+fn tick_agrees(table: &[i32], at: usize) -> bool {
+    let row = Row {
+        kind: 2,
+        low: number_at(table, at, 0),
+        high: number_at(table, at, 1),
+        up: 0,
+        down: 0,
+        jumps: 0,
+    };
+    tick_answers(
+        row,
+        code_at(table, at, 2),
+        number_at(table, at, 3),
+        number_at(table, at, 4),
+        count_at(table, at, 5),
+    )
+}
+
+// ---- status
+
+// A record after a step, and 1 where memory is told of a fresh failure or of an event that aged.
+struct After {
+    record: Record,
+    told: usize,
+}
+
+fn record_at(table: &[i32], at: usize, k: usize) -> Record
+    requires { ⌜ k ≤ 9 ⌝ }
+{
+    Record {
+        status: status_at(table, at, k),
+        k: byte_at(table, at, k + 1),
+        h: byte_at(table, at, k + 2),
+        g: byte_at(table, at, k + 3),
+    }
+}
+
+fn after_failed(limits: Limits, r: Record) -> After {
+    let after = status::failed(limits.confirm, limits.indicator, r);
+    let record = after.record;
+    After {
+        record,
+        told: one_if(after.fresh_failure),
+    }
+}
+
+// A told of 2 where a count has no room to rise: no case is so.
+fn after_stop(limits: Limits, r: Record) -> After {
+    if r.h == 255 {
+        return After { record: r, told: 2 };
+    }
+    if r.g == 255 {
+        return After { record: r, told: 2 };
+    }
+    let after = status::stopped(limits.heal, limits.age, r);
+    let record = after.record;
+    After {
+        record,
+        told: one_if(after.aged),
+    }
+}
+
+fn after_step(limits: Limits, step: usize, r: Record) -> After {
+    match step {
+        0 => After {
+            record: status::started(r),
+            told: 0,
+        },
+        1 => after_stop(limits, r),
+        2 => After {
+            record: status::passed(r),
+            told: 0,
+        },
+        3 => after_failed(limits, r),
+        _ => After {
+            record: status::fresh_record(),
+            told: 0,
+        },
+    }
+}
+
+fn same_record(a: Record, b: Record) -> bool {
+    let s = a.status;
+    let t = b.status;
+    (s.0 == t.0) & (a.k == b.k) & (a.h == b.h) & (a.g == b.g)
+}
+
+// Whether a step leaves the record and the word to memory of the case's numbers from k on.
+fn leaves(after: After, table: &[i32], at: usize, k: usize) -> bool
+    requires { ⌜ k ≤ 9 ⌝ }
+{
+    let r = after.record;
+    same_record(r, record_at(table, at, k)) & (after.told == count_at(table, at, k + 4))
+}
+
+// The record that the case before left; the story begins with the fresh one.
+fn story_so_far(table: &[i32], at: usize) -> Record {
+    if at < 6 {
+        status::fresh_record()
+    } else {
+        record_at(table, at - 6, 1)
+    }
+}
+
+fn story_agrees(table: &[i32], at: usize) -> bool {
+    let limits = Limits {
+        confirm: 2,
+        heal: 1,
+        age: 3,
+        indicator: true,
+    };
+    let step = count_at(table, at, 0);
+    leaves(
+        after_step(limits, step, story_so_far(table, at)),
+        table,
+        at,
+        1,
+    )
+}
+
+fn step_agrees(table: &[i32], at: usize) -> bool {
+    let limits = Limits {
+        confirm: count_at(table, at, 0),
+        heal: count_at(table, at, 1),
+        age: count_at(table, at, 2),
+        indicator: count_at(table, at, 3) == 1,
+    };
+    let step = count_at(table, at, 8);
+    leaves(
+        after_step(limits, step, record_at(table, at, 4)),
+        table,
+        at,
+        9,
+    )
+}
+
+fn record_agrees(table: &[i32], at: usize) -> bool {
+    let indicator = count_at(table, at, 2) == 1;
+    let ok = status::record_ok(
+        count_at(table, at, 0),
+        count_at(table, at, 1),
+        indicator,
+        record_at(table, at, 3),
+    );
+    one_if(ok) == count_at(table, at, 7)
+}
+
+// ---- running
+
+enum Cases {
+    Bounds,
+    Lengths,
+    Codes,
+    Searches,
+    Reports,
+    Ticks,
+    Story,
+    Steps,
+    Records,
+}
+
+fn agrees(cases: Cases, table: &[i32], at: usize) -> bool {
+    match cases {
+        Cases::Bounds => bound_agrees(table, at),
+        Cases::Lengths => length_agrees(table, at),
+        Cases::Codes => codes_agree(table, at),
+        Cases::Searches => search_agrees(table, at),
+        Cases::Reports => report_agrees(table, at),
+        Cases::Ticks => tick_agrees(table, at),
+        Cases::Story => story_agrees(table, at),
+        Cases::Steps => step_agrees(table, at),
+        Cases::Records => record_agrees(table, at),
+    }
+}
+
+fn smaller(a: usize, b: usize) -> usize
+    ensures { λ r. ⌜ r ≡ min a b ⌝ }
+{
+    if a < b { a } else { b }
+}
+
+// Runs the cases of a table of so many numbers, each case of width numbers.
+fn run_all(tally: Tally, cases: Cases, table: &[i32], end: usize, width: usize) -> Tally
+    requires { ⌜ 1 ≤ width ⌝ }
+{
+    let mut now = tally;
+    let mut at = 0;
+    while at < end {
+        now = counted(now, agrees(cases, table, at));
+        at += smaller(width, end - at);
+    }
+    now
+}
+
+fn run(tally: Tally, cases: Cases, text: &[u8], width: usize) -> Tally
+    requires { ⌜ 1 ≤ width ⌝ }
+{
+    let mut table = [0; 1000];
+    let end = read_numbers(text, &mut table);
+    run_all(tally, cases, &table, end, width)
+}
+
+fn none() -> Tally {
+    Tally {
+        ran: 0,
+        differed: 0,
+    }
+}
+
+fn print(tally: Tally) {
+    io::print_decimal(1, tally.ran as u64);
+    io::write_all(1, b" ran, ");
+    io::print_decimal(1, tally.differed as u64);
+    io::write_all(1, b" differed\n");
+}
+
+fn configurations() {
+    let tally = run(none(), Cases::Bounds, &tables::BOUNDS, 4);
+    let tally = run(tally, Cases::Lengths, &tables::LENGTHS, 2);
+    io::write_all(1, b"configurations: ");
+    print(run(tally, Cases::Codes, &tables::CODES, 5));
+}
+
+fn search() {
+    io::write_all(1, b"search: ");
+    print(run(none(), Cases::Searches, &tables::SEARCHES, 3));
+}
+
+fn debouncing() {
+    let tally = run(none(), Cases::Reports, &tables::REPORTS, 10);
+    io::write_all(1, b"debouncing: ");
+    print(run(tally, Cases::Ticks, &tables::TICKS, 6));
+}
+
+fn status() {
+    let tally = run(none(), Cases::Story, &tables::STORY, 6);
+    let tally = run(tally, Cases::Steps, &tables::STEPS, 14);
+    io::write_all(1, b"status: ");
+    print(run(tally, Cases::Records, &tables::RECORDS, 8));
+}
+
+fn main() {
+    configurations();
+    search();
+    debouncing();
+    status();
+}
