@@ -1,0 +1,4 @@
+pub mod WritingLaws
+pub mod BelowLaws
+pub mod RepliesLaws
+pub mod RequestLaws

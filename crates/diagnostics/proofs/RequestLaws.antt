@@ -1,0 +1,102 @@
+-- Laws of the manual's service 14, of the choice of a service, and of the request's refusals, by the tests that the code makes.
+use mathlib.Core.Path.{_≡_, refl, sym, ap, _∙_}
+use mathlib.Core.Logic.{_≢_}
+use mathlib.Core.Bool.{true, false}
+use mathlib.Core.List.{List, [], _∷_}
+use Prim.Native.Nat.{ℕ, _≤_, _<_}
+use native.Mathlib.Omega.{arith}
+use lib.ListN.{length, getD}
+use borrow.Author.Tests.{eq-eqb, ne-eqb, lt-ltb, le-ltb, ltb-false, not-false}
+use Rattle.manual.specs.Words.{threeAt}
+use Rattle.manual.specs.Configuration.{Configuration, configOk}
+use Rattle.manual.specs.State.{State}
+use Rattle.manual.specs.WellFormed.{wellFormed}
+use Rattle.manual.specs.Answers.{Outcome, refused, firstThatApplies, judged}
+use Rattle.manual.specs.Calls.{unknownCode, cleared}
+use Rattle.manual.specs.Diagnostics.{positive, negative, replyBytes, served, service19, service14, servedBy, sent, replied, requestRules, requestReply}
+use Rattle.manual.proofs.AnswersLaws.{none-applies, goes-through}
+use Rattle.diagnostics.specs.Writing.{written, append}
+use Rattle.diagnostics.specs.Replies.{sentIs, Accepted}
+use Rattle.diagnostics.proofs.WritingLaws.{append-next}
+use Rattle.diagnostics.proofs.RepliesLaws.{written-is-sent}
+
+-- ---- service 14
+
+module _ (cfg : Configuration) (request : List ℕ) (s : State) where
+  pub clear-wrong-length : length request ≢ 4 → served (negative 0x13) s ≡ service14 cfg request s
+  unfolding service14
+  clear-wrong-length n = rw (ne-eqb _ _ n)
+
+  module _ {code : ℕ} (four : length request ≡ 4) (c : code ≡ threeAt 1 request) where
+    pub clear-unknown : unknownCode cfg code ≡ true → served (negative 0x31) s ≡ service14 cfg request s
+    unfolding service14
+    clear-unknown u = rw (eq-eqb _ _ four, ← c, u)
+
+    pub clear-known : unknownCode cfg code ≡ false → served (positive (0x54 ∷ [])) (cleared cfg code s) ≡ service14 cfg request s
+    unfolding service14
+    clear-known u = rw (eq-eqb _ _ four, ← c, u)
+
+-- its reply, and the state after it
+module _ (cfg : Configuration) (request room : List ℕ) (s : State) where
+  pub replies-54 : (code : ℕ) {size : ℕ} {after : List ℕ} → 3 ≤ length room → written size after ≡ append (0x54 ∷ []) (written 0 room) → served (positive (0x54 ∷ [])) (cleared cfg code s) ≡ service14 cfg request s → sentIs 1 after (cleared cfg code s) ≡ replied cfg 0x14 room (service14 cfg request s)
+  replies-54 code {after} h e p =
+      ap (λ k. sentIs k after (cleared cfg code s)) (sym (append-next (0x54 ∷ []) (written 0 room) e))
+      ∙ written-is-sent cfg (0x54 ∷ []) room (cleared cfg code s) (omega arith) e
+      ∙ ap (replied cfg 0x14 room) p
+
+  pub replies-negative : (code : ℕ) {o : Outcome} → o ≡ sent cfg (replyBytes 0x14 (negative code)) room s → served (negative code) s ≡ service14 cfg request s → o ≡ replied cfg 0x14 room (service14 cfg request s)
+  replies-negative code e p = e ∙ ap (replied cfg 0x14 room) p
+
+-- ---- the service
+
+module _ (cfg : Configuration) (request room : List ℕ) (s : State) where
+  -- this outcome is that of serving the request
+  abbrev pub Serves : Outcome → Type 0
+  Serves o = o ≡ replied cfg (getD request 0 0) room (servedBy cfg request (length room) s)
+
+  module _ {o : Outcome} {service : ℕ} (first : service ≡ getD request 0 0) where
+    pub serves-19 : service ≡ 0x19 → o ≡ replied cfg 0x19 room (served (service19 cfg request (length room) s) s) → Serves o
+    unfolding servedBy
+    serves-19 e p = rw (← first, e) p
+
+    pub serves-14 : service ≡ 0x14 → o ≡ replied cfg 0x14 room (service14 cfg request s) → Serves o
+    unfolding servedBy
+    serves-14 e p = rw (← first, e) p
+
+    pub serves-no-other : service ≢ 0x19 → service ≢ 0x14 → o ≡ sent cfg (replyBytes service (negative 0x11)) room s → Serves o
+    unfolding servedBy
+    serves-no-other a b p = rw (← first, ne-eqb _ _ a, ne-eqb _ _ b) p
+
+-- ---- "diagnostic request 7, 1"
+
+module _ (cfg : Configuration) (request room : List ℕ) (s : State) (ok : configOk cfg ≡ true) (w : wellFormed cfg s ≡ true) where
+  pub refused-7 : length room < 3 → 7 ≡ firstThatApplies (requestRules cfg request room s)
+  unfolding requestRules firstThatApplies
+  refused-7 h = rw (ok, w, lt-ltb _ _ h)
+
+  pub refused-1 : 3 ≤ length room → length request ≡ 0 → 1 ≡ firstThatApplies (requestRules cfg request room s)
+  unfolding requestRules firstThatApplies
+  refused-1 h e = rw (ok, w, le-ltb _ _ h, eq-eqb _ _ e)
+
+  pub accepted : 3 ≤ length room → length request ≢ 0 → 0 ≡ firstThatApplies (requestRules cfg request room s)
+  unfolding requestRules firstThatApplies
+  accepted h n = rw (ok, w, le-ltb _ _ h, ne-eqb _ _ n)
+
+-- ---- the request
+
+module _ (cfg : Configuration) (request room : List ℕ) (s : State) where
+  -- what a request that no rule refuses may count on
+  pub accepted-tells : firstThatApplies (requestRules cfg request room s) ≡ 0 → Accepted cfg room
+  unfolding requestRules
+  accepted-tells z = record {
+    config = not-false (configOk cfg) (none-applies _ z refl 0);
+    room-least = ltb-false (length room) 3 (none-applies _ z refl 2);
+  }
+
+  pub request-goes : firstThatApplies (requestRules cfg request room s) ≡ 0 → requestReply cfg request room s ≡ replied cfg (getD request 0 0) room (servedBy cfg request (length room) s)
+  unfolding requestReply
+  request-goes z = goes-through _ _ _ _ z
+
+  pub request-stops : {k : ℕ} → k ≢ 0 → firstThatApplies (requestRules cfg request room s) ≡ k → requestReply cfg request room s ≡ refused k room s
+  unfolding requestReply judged
+  request-stops n e = rw (e, ne-eqb _ _ n)

@@ -1,0 +1,18 @@
+use borrow.Author.Needs.{needs}
+use Rattle.diagnostics.proofs.RepliesLaws.{by-reply, list-all-is}
+use Rattle.diagnostics.proofs.list_all.Statement.{statement}
+use Rattle.diagnostics.proofs.list_all.Tie as tie
+
+list-asked-requires : tie.Need-list-asked-requires
+list-asked-requires c κs = search needs
+
+same-length : tie.Need-same-length
+same-length c = search needs
+
+returns : tie.Need-returns
+returns c s q =
+    let a = c .before .before .before .before .before .before .before .args in
+    by-reply _ (a .room .now) s (list-all-is (a .cfg .now) (a .request .now) s _) (c .before .before .list-asked .ensures s q)
+
+pub list-all-spec : {M : Type 1} → statement M
+list-all-spec = tie.close (tie.spec list-asked-requires same-length returns)

@@ -1,0 +1,60 @@
+use mathlib.Core.Path.{_≡_, sym}
+use Prim.Native.Nat.{_-_, _≤_}
+use native.Mathlib.Omega.{arith}
+use Rattle.manual.specs.Words.{countBelow}
+use Rattle.manual.proofs.ConfigurationLaws.{config-tells}
+use Rattle.diagnostics.specs.Replies.{holding, asks}
+use Rattle.diagnostics.proofs.BelowLaws.{count-none, count-more, count-most}
+use Rattle.diagnostics.proofs.number_asked.Statement.{statement}
+use Rattle.diagnostics.proofs.number_asked.Tie as tie
+
+-- the events passed are counted
+abbrev Inv-loop : tie.InvT-loop
+Inv-loop cfg records asked n number₀ event₀ number event = (event ≤ n) × (number ≡ countBelow event (asks cfg asked (holding records)))
+
+abbrev μ-loop : tie.MeasureT-loop
+μ-loop cfg records asked n number₀ event₀ number event = n - event
+
+events-requires : tie.Need-events-requires Inv-loop μ-loop
+events-requires c κs = tt
+
+loop-holds : tie.Need-loop-holds Inv-loop μ-loop
+loop-holds c = (omega arith, sym (count-none _))
+
+is-asked-requires : tie.Need-is-asked-requires Inv-loop μ-loop
+is-asked-requires c κs = tt
+
+one-more-if-requires : tie.Need-one-more-if-requires Inv-loop μ-loop
+one-more-if-requires c κs =
+    let t = config-tells _ (c .before .before .before .before .before .pre) in
+    let most = count-most (asks (c .before .before .before .before .before .args .cfg .now) (c .before .before .before .before .before .args .asked) (holding (c .before .before .before .before .before .args .records .now))) (c .before .before .loop .event) in
+    omega (arith, c .before .before .before .events .ensures, c .before .before .loop .inv .1)
+
+add-event : tie.Need-add-event Inv-loop μ-loop
+add-event c = omega arith
+
+loop-less : tie.Need-loop-less Inv-loop μ-loop
+loop-less c = omega arith
+
+loop-again : tie.Need-loop-again Inv-loop μ-loop
+loop-again c = (omega arith, rw (count-more, ← c .before .is-asked .ensures (c .before .before .before .before .before .before .args .cfg .now), ← c .before .before .before .loop .inv .1) (c .one-more-if .ensures))
+
+returns : tie.Need-returns Inv-loop μ-loop
+returns c =
+    let e : c .before .loop .event ≡ c .before .before .events .result = omega arith in
+    rw (← c .before .before .events .ensures, ← e) (c .before .loop .inv .1)
+
+pub number-asked-spec : {M : Type 1} → statement M
+number-asked-spec =
+    tie.close
+    (tie.spec
+    Inv-loop
+    μ-loop
+    events-requires
+    loop-holds
+    is-asked-requires
+    one-more-if-requires
+    add-event
+    loop-less
+    loop-again
+    returns)

@@ -1,0 +1,48 @@
+use native.Mathlib.Omega.{arith}
+use borrow.Author.Needs.{needs}
+use Rattle.manual.proofs.ConfigurationLaws.{config-tells}
+use Rattle.diagnostics.proofs.write_line.Statement.{statement}
+use Rattle.diagnostics.proofs.write_line.Tie as tie
+
+code-of-requires : tie.Need-code-of-requires
+code-of-requires c κs = let t = config-tells _ (c .before .before .pre .config) in omega arith
+
+cast-high : tie.Need-cast-high
+cast-high c =
+    let row = config-tells _ (c .before .before .before .pre .config) .row _ (c .before .before .before .pre .event-below) in
+    omega (arith, c .code-of .ensures)
+
+cast-middle : tie.Need-cast-middle
+cast-middle c = search needs
+
+cast-low : tie.Need-cast-low
+cast-low c = search needs
+
+status-of-requires : tie.Need-status-of-requires
+status-of-requires c κs = search needs
+
+slice-aggregate-write : tie.Need-slice-aggregate-write
+slice-aggregate-write c = search needs
+
+write-requires : tie.Need-write-requires
+write-requires c κs = search needs
+
+same-length : tie.Need-same-length
+same-length c = search needs
+
+returns : tie.Need-returns
+returns c = rw (← c .before .before .before .before .before .before .code-of .ensures, ← c .before .before .before .before .before .status-of .ensures) (c .before .before .write .ensures)
+
+pub write-line-spec : {M : Type 1} → statement M
+write-line-spec =
+    tie.close
+    (tie.spec
+    code-of-requires
+    cast-high
+    cast-middle
+    cast-low
+    status-of-requires
+    slice-aggregate-write
+    write-requires
+    same-length
+    returns)

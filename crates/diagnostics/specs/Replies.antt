@@ -1,0 +1,116 @@
+-- What the functions of this crate ask and answer, in the words of the manual's specs/Diagnostics.antt. Assumes nothing.
+use mathlib.Core.Path.{_≡_}
+use mathlib.Core.Bool.{Bool, true, false, not, cond}
+use mathlib.Core.List.{List, [], _∷_}
+use mathlib.Core.Option.{some}
+use Prim.Native.Nat.{ℕ, _+_, _<_, _≤_}
+use lib.Dec.{eqb, ltb}
+use lib.ListN.{length}
+use Rattle.manual.specs.declared.Verdict.the-variants.{None}
+use Rattle.manual.specs.Configuration.{Configuration, events, configOk}
+use Rattle.manual.specs.State.{State, allStopped}
+use Rattle.manual.specs.Answers.{Outcome, numberOf}
+use Rattle.manual.specs.Calls.{cleared}
+use Rattle.manual.specs.Diagnostics.{Reply, positive, negative, Served, served, SubFunction, subFunction, matches, line, lines, suppresses, subFunctionReply, replied}
+use Rattle.diagnostics.specs.declared.Asked.{Asked}
+use Rattle.diagnostics.specs.declared.Asked.the-variants.{All, Matching}
+use Rattle.diagnostics.specs.declared.Turn.{Turn}
+use Rattle.diagnostics.specs.declared.Turn.the-variants.{Write, Suppressed}
+use Rattle.diagnostics.specs.declared.ClearRequest.{ClearRequest}
+use Rattle.diagnostics.specs.declared.ClearRequest.the-variants.{Clear, Negative}
+use Rattle.diagnostics.specs.declared.Service.{Service}
+use Rattle.diagnostics.specs.declared.Service.the-variants.{Replied}
+use Rattle.diagnostics.specs.declared.Judgement.{Judgement}
+use Rattle.diagnostics.specs.declared.Judgement.the-variants.{Go, Stop}
+
+-- ---- a reply reads nothing of the state but its records
+
+-- what is promised of it holds in every state with these records
+abbrev pub InStatesWith : List ℕ → (State → Type 0) → Type 0
+InStatesWith records P = (s : State) → s .records ≡ records → P s
+
+-- and its parts are those in this one
+abbrev pub holding : List ℕ → State
+holding records = record { records = records; debounce = []; memory = []; board = record { running = allStopped; overflow = false } }
+
+-- a reply of this length was sent, and the room and the state are these
+abbrev pub sentIs : ℕ → List ℕ → State → Outcome
+sentIs size room s = record { answer = 0; verdict = None; value = size; part = []; room = room; state = s }
+
+module _ (cfg : Configuration) where
+  -- ---- the events that a reply lists or counts
+
+  abbrev pub asks : Asked → State → ℕ → Bool
+  asks All s e = true
+  asks (Matching mask) s e = matches cfg mask s e
+
+  abbrev pub lineIfAsked : Asked → State → ℕ → List ℕ
+  lineIfAsked asked s e = cond (asks asked s e) (line cfg s e) []
+
+  abbrev pub linesAsked : Asked → State → List ℕ
+  linesAsked asked s = lines cfg (asks asked s) s
+
+  -- ---- what the functions ask of the configuration and the room
+
+  -- it was accepted, and "The reply room must hold 3 bytes"
+  pub record Accepted (room : List ℕ) : Type 0 where
+    pub config : configOk cfg ≡ true
+    pub room-least : 3 ≤ length room
+
+  -- it holds the bytes of one event from `at` on
+  pub record EventFits (e at : ℕ) (bytes room : List ℕ) : Type 0 where
+    pub config : configOk cfg ≡ true
+    pub event-below : e < events cfg
+    pub within : at + length bytes ≤ length room
+
+  -- it holds these bytes from `at` on
+  pub record BytesFit (at : ℕ) (bytes room : List ℕ) : Type 0 where
+    pub config : configOk cfg ≡ true
+    pub within : at + length bytes ≤ length room
+
+  -- ---- service 19
+
+  -- what a sub-function leaves
+  abbrev pub subFunctionOutcome : SubFunction → List ℕ → List ℕ → State → Outcome
+  subFunctionOutcome f request room s = replied cfg 0x19 room (served (subFunctionReply cfg (some f) request (length room) s) s)
+
+  -- a sub-function whose reply lists the events that are asked for
+  abbrev pub listing : ℕ → ℕ → Asked → SubFunction
+  listing number size asked = subFunction number size (λ request s. positive (0x59 ∷ number ∷ 0xFF ∷ linesAsked asked s))
+
+  -- the tests that a sub-function's reply goes by, where these are the bytes of its positive reply
+  pub record Tests (f : SubFunction) (request : List ℕ) (room : ℕ) (s : State) (bytes : List ℕ) (wrong suppressed long : Bool) : Type 0 where
+    pub length-is : wrong ≡ not (eqb (length request) (f .size))
+    pub suppressed-is : suppressed ≡ suppresses cfg request
+    pub bytes-are : f .reply request s ≡ positive bytes
+    pub long-is : long ≡ ltb room (length bytes)
+
+  -- ---- what the answers mean
+
+  -- the reply of service 14, and the state once the clear is done
+  abbrev pub clearRequestIs : ClearRequest → State → Served
+  clearRequestIs (Clear code) s = served (positive (0x54 ∷ [])) (cleared cfg code s)
+  clearRequestIs (Negative code) s = served (negative code) s
+
+  -- what the request leaves, once the clear is done
+  abbrev pub serviceIs : Service → List ℕ → State → Outcome
+  serviceIs (Replied size) room s = sentIs size room s
+  serviceIs (Service.Clear code) room s = sentIs 1 room (cleared cfg code s)
+
+-- the number of the refusal; "0 | done"
+abbrev pub judgementIs : Judgement → ℕ
+judgementIs Go = 0
+judgementIs (Stop refusal) = numberOf refusal
+
+-- the reply in this turn, where these are the bytes of the positive one
+abbrev pub turnIs : Turn → List ℕ → Reply
+turnIs Write bytes = positive bytes
+turnIs Suppressed bytes = positive []
+turnIs (Turn.Negative code) bytes = negative code
+
+-- by these tests this is the turn, and what is written fits
+pub record TurnBy (wrong suppressed long : Bool) (turn : Turn) : Type 0 where
+  pub replies : (cfg : Configuration) (f : SubFunction) (request : List ℕ) (room : ℕ) (s : State) (bytes : List ℕ)
+      → Tests cfg f request room s bytes wrong suppressed long
+      → turnIs turn bytes ≡ subFunctionReply cfg (some f) request room s
+  pub fits : turn ≡ Write → long ≡ false

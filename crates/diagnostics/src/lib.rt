@@ -1,0 +1,396 @@
+// Document 01, "Diagnostic requests": the replies, and what a request asks to be cleared.
+use config::CodeSearch;
+use manual::EventNumber;
+use manual::Refusal;
+
+mod writing;
+
+ghost use mathlib.Core.Path.{_≡_};
+ghost use mathlib.Core.Bool.{true, cond};
+ghost use Prim.Native.Nat.{_+_, _%_, _<_, _≤_};
+ghost use lib.ListN.{length, getD};
+ghost use Rattle.manual.specs.Words.{countBelow, threeAt};
+ghost use Rattle.manual.specs.Configuration.{Configuration, events, configOk};
+ghost use Rattle.manual.specs.State.{State};
+ghost use Rattle.manual.specs.WellFormed.{wellFormed};
+ghost use Rattle.manual.specs.Answers.{firstThatApplies};
+ghost use Rattle.manual.specs.Calls.{unknownCode};
+ghost use Rattle.manual.specs.Diagnostics.{negative, replyBytes, served, subFunction, line, maskOf, suppresses, numberByMask, listByMask, listAll, service19, service14, servedBy, sent, replied, requestRules};
+ghost use Rattle.diagnostics.specs.Writing.{written, append};
+ghost use Rattle.diagnostics.specs.Replies.{InStatesWith, holding, sentIs, asks, lineIfAsked, linesAsked, EventFits, BytesFit, Accepted, subFunctionOutcome, listing, TurnBy, clearRequestIs, serviceIs, judgementIs};
+
+// The events that a reply lists or counts: all, or those that match a mask.
+enum Asked {
+    All,
+    Matching(u8),
+}
+
+// What a sub-function of service 19 does: write its positive reply, write nothing, or reply with this negative code.
+enum Turn {
+    Write,
+    Suppressed,
+    Negative(u8),
+}
+
+// What service 14 does: clear the events of this trouble code, or reply with this negative code.
+enum ClearRequest {
+    Clear(u32),
+    Negative(u8),
+}
+
+// What is left to do once the reply stands in the room: nothing, and this is its length; or its length is 1, and the events of this
+// trouble code are still to be cleared.
+pub enum Service {
+    Replied(usize),
+    Clear(u32),
+}
+
+// Whether the request is accepted.
+pub enum Judgement {
+    Go,
+    Stop(Refusal),
+}
+
+// ---- reading the request
+
+// A byte of the request; 0 past its end.
+fn byte_of(request: &[u8], index: usize) -> u8
+    ensures { λ r. ⌜ r ≡ getD (now (request .entry)) index 0 ⌝ }
+{
+    if index < request.len() {
+        request[index]
+    } else {
+        0
+    }
+}
+
+// "With the top bit set a positive reply has length 0"
+fn suppresses(request: &[u8]) -> bool
+    ensures { λ r. ⌜ ((cfg : Configuration) → r ≡ suppresses cfg (now (request .entry))) ⌝ }
+{
+    128 <= byte_of(request, 1)
+}
+
+// "The second byte less its top bit is the sub-function"
+fn sub_function_of(request: &[u8]) -> u8
+    ensures { λ r. ⌜ r ≡ getD (now (request .entry)) 1 0 % 128 ⌝ }
+{
+    byte_of(request, 1) % 128
+}
+
+// The mask of "01 mask" and "02 mask".
+fn mask_of(request: &[u8]) -> u8
+    ensures { λ r. ⌜ ((cfg : Configuration) → r ≡ maskOf cfg (now (request .entry))) ⌝ }
+{
+    byte_of(request, 2)
+}
+
+// "the three bytes are a trouble code"
+fn code_in(request: &[u8]) -> u32
+    ensures { λ r. ⌜ r ≡ threeAt 1 (now (request .entry)) ⌝ }
+{
+    let high = byte_of(request, 1) as u32;
+    let middle = byte_of(request, 2) as u32;
+    let low = byte_of(request, 3) as u32;
+    high * 65536 + middle * 256 + low
+}
+
+// ---- the events that a reply lists or counts
+
+// "An event matches if status and mask share a set bit."
+fn is_asked(records: &[u8], event: EventNumber, asked: Asked) -> bool
+    ensures { λ r. ⌜ ((cfg : Configuration) → r ≡ asks cfg asked (holding (now (records .entry))) (event .0)) ⌝ }
+{
+    let status = status::status_of(records, event);
+    match asked {
+        Asked::All => true,
+        Asked::Matching(mask) => status.0 & mask != 0,
+    }
+}
+
+// A number that rises by one where a test holds.
+fn one_more_if(test: bool, number: usize) -> usize
+    requires { ⌜ number < 512 ⌝ }
+    ensures { λ r. ⌜ r ≡ cond test (number + 1) number ⌝ }
+{
+    if test { number + 1 } else { number }
+}
+
+// The number of events that are asked for.
+fn number_asked(cfg: &[i32], records: &[u8], asked: Asked) -> usize
+    requires { ⌜ configOk (now cfg) ≡ true ⌝ }
+    ensures { λ r. ⌜ r ≡ countBelow (events (now (cfg .entry))) (asks (now (cfg .entry)) asked (holding (now (records .entry)))) ⌝ }
+{
+    let n = config::events(cfg);
+    let mut number = 0;
+    for event in 0..n {
+        number = one_more_if(is_asked(records, EventNumber(event), asked), number);
+    }
+    number
+}
+
+// ---- writing
+
+// "Negative reply: 7F, request's first byte, code"
+fn negative(service: u8, code: u8, room: &mut [u8]) -> usize
+    requires { ⌜ 3 ≤ length (now room) ⌝ }
+    ensures { λ r. ⌜ ((cfg : Configuration) (s : State) → sentIs r (now (room .exit)) s ≡ sent cfg (replyBytes service (negative code)) (now (room .entry)) s) ⌝ }
+{
+    writing::write(room, 0, &[0x7F, service, code])
+}
+
+// "trouble code (3 bytes high first) and status"
+const LINE_WIDTH: usize = 4;
+
+fn write_line(cfg: &[i32], records: &[u8], event: EventNumber, room: &mut [u8], at: usize) -> usize
+    requires { ⌜ EventFits (now cfg) (event .0) at (line (now cfg) (holding (now records)) (event .0)) (now room) ⌝ }
+    ensures { λ r. ⌜ written r (now (room .exit)) ≡ append (line (now (cfg .entry)) (holding (now (records .entry))) (event .0)) (written at (now (room .entry))) ⌝ }
+{
+    let code = config::code_of(cfg, event);
+    let high = (code / 65536) as u8;
+    let middle = (code / 256 % 256) as u8;
+    let low = (code % 256) as u8;
+    let status = status::status_of(records, event);
+    writing::write(room, at, &[high, middle, low, status.0])
+}
+
+// The line of an event that is asked for, and nothing of another.
+fn write_line_if_asked(
+    cfg: &[i32],
+    records: &[u8],
+    event: EventNumber,
+    asked: Asked,
+    room: &mut [u8],
+    at: usize,
+) -> usize
+    requires { ⌜ EventFits (now cfg) (event .0) at (lineIfAsked (now cfg) asked (holding (now records)) (event .0)) (now room) ⌝ }
+    ensures { λ r. ⌜ written r (now (room .exit)) ≡ append (lineIfAsked (now (cfg .entry)) asked (holding (now (records .entry))) (event .0)) (written at (now (room .entry))) ⌝ }
+{
+    if is_asked(records, event, asked) {
+        return write_line(cfg, records, event, room, at);
+    }
+    at
+}
+
+// The lines of the events that are asked for, "rising".
+fn write_lines(cfg: &[i32], records: &[u8], asked: Asked, room: &mut [u8], at: usize) -> usize
+    requires { ⌜ BytesFit (now cfg) at (linesAsked (now cfg) asked (holding (now records))) (now room) ⌝ }
+    ensures { λ r. ⌜ written r (now (room .exit)) ≡ append (linesAsked (now (cfg .entry)) asked (holding (now (records .entry)))) (written at (now (room .entry))) ⌝ }
+{
+    let n = config::events(cfg);
+    let mut next = at;
+    for event in 0..n {
+        next = write_line_if_asked(cfg, records, EventNumber(event), asked, room, next);
+    }
+    next
+}
+
+// ---- service 19, a function for each sub-function
+
+// The order in which these tests count. "Length must be 3, 3, 2: else 13. … With the top bit set a positive reply has length 0 and the
+// room stays untouched. Otherwise one longer than the room: code 14."
+fn turn_of(wrong_length: bool, suppressed: bool, too_long: bool) -> Turn
+    ensures { λ r. ⌜ TurnBy «wrong_length» suppressed «too_long» r ⌝ }
+{
+    if wrong_length {
+        return Turn::Negative(0x13);
+    }
+    if suppressed {
+        return Turn::Suppressed;
+    }
+    if too_long {
+        return Turn::Negative(0x14);
+    }
+    Turn::Write
+}
+
+// "01 mask: `59 01 FF 01` and the number of matching events, 2 bytes high first."
+fn number_by_mask(cfg: &[i32], records: &[u8], request: &[u8], room: &mut [u8]) -> usize
+    requires { ⌜ Accepted (now cfg) (now room) ⌝ }
+    ensures { λ r.
+        ⌜
+        InStatesWith (now (records .entry))
+        (λ s. sentIs r (now (room .exit)) s
+        ≡ subFunctionOutcome (now (cfg .entry)) (subFunction 0x01 3 (numberByMask (now (cfg .entry)))) (now (request .entry)) (now (room .entry)) s)
+        ⌝ }
+{
+    match turn_of(request.len() != 3, suppresses(request), room.len() < 6) {
+        Turn::Negative(code) => negative(0x19, code, room),
+        Turn::Suppressed => 0,
+        Turn::Write => {
+            let number = number_asked(cfg, records, Asked::Matching(mask_of(request)));
+            let high = (number / 256) as u8;
+            let low = (number % 256) as u8;
+            writing::write(room, 0, &[0x59, 0x01, 0xFF, 0x01, high, low])
+        }
+    }
+}
+
+// `59`, the sub-function, `FF`, "then per matching event trouble code (3 bytes high first) and status, rising", or "all events
+// likewise".
+fn list_asked(
+    cfg: &[i32],
+    records: &[u8],
+    request: &[u8],
+    sub_function: u8,
+    size: usize,
+    asked: Asked,
+    room: &mut [u8],
+) -> usize
+    requires { ⌜ Accepted (now cfg) (now room) ⌝ }
+    ensures { λ r.
+        ⌜
+        InStatesWith (now (records .entry))
+        (λ s. sentIs r (now (room .exit)) s
+        ≡ subFunctionOutcome (now (cfg .entry)) (listing (now (cfg .entry)) «sub_function» size asked) (now (request .entry)) (now (room .entry)) s)
+        ⌝ }
+{
+    let too_long = room.len() < 3 + LINE_WIDTH * number_asked(cfg, records, asked);
+    match turn_of(request.len() != size, suppresses(request), too_long) {
+        Turn::Negative(code) => negative(0x19, code, room),
+        Turn::Suppressed => 0,
+        Turn::Write => {
+            let at = writing::write(room, 0, &[0x59, sub_function, 0xFF]);
+            write_lines(cfg, records, asked, room, at)
+        }
+    }
+}
+
+// "02 mask: `59 02 FF`, then per matching event trouble code (3 bytes high first) and status, rising."
+fn list_by_mask(cfg: &[i32], records: &[u8], request: &[u8], room: &mut [u8]) -> usize
+    requires { ⌜ Accepted (now cfg) (now room) ⌝ }
+    ensures { λ r.
+        ⌜
+        InStatesWith (now (records .entry))
+        (λ s. sentIs r (now (room .exit)) s
+        ≡ subFunctionOutcome (now (cfg .entry)) (subFunction 0x02 3 (listByMask (now (cfg .entry)))) (now (request .entry)) (now (room .entry)) s)
+        ⌝ }
+{
+    let asked = Asked::Matching(mask_of(request));
+    list_asked(cfg, records, request, 0x02, 3, asked, room)
+}
+
+// "0A: `59 0A FF`, then all events likewise."
+fn list_all(cfg: &[i32], records: &[u8], request: &[u8], room: &mut [u8]) -> usize
+    requires { ⌜ Accepted (now cfg) (now room) ⌝ }
+    ensures { λ r.
+        ⌜
+        InStatesWith (now (records .entry))
+        (λ s. sentIs r (now (room .exit)) s
+        ≡ subFunctionOutcome (now (cfg .entry)) (subFunction 0x0A 2 (listAll (now (cfg .entry)))) (now (request .entry)) (now (room .entry)) s)
+        ⌝ }
+{
+    list_asked(cfg, records, request, 0x0A, 2, Asked::All, room)
+}
+
+// Writes the reply of service 19, and answers its length. "19: length 1: code 13. … not 01, 02, 0A: code 12."
+pub fn reply_19(cfg: &[i32], records: &[u8], request: &[u8], room: &mut [u8]) -> usize
+    requires { ⌜ Accepted (now cfg) (now room) ⌝ }
+    ensures { λ r.
+        ⌜
+        InStatesWith (now (records .entry))
+        (λ s. sentIs r (now (room .exit)) s
+        ≡ replied (now (cfg .entry)) 0x19 (now (room .entry)) (served (service19 (now (cfg .entry)) (now (request .entry)) (length (now (room .entry))) s) s))
+        ⌝ }
+{
+    if request.len() == 1 {
+        return negative(0x19, 0x13, room);
+    }
+    let sub_function = sub_function_of(request);
+    match sub_function {
+        0x01 => number_by_mask(cfg, records, request, room),
+        0x02 => list_by_mask(cfg, records, request, room),
+        0x0A => list_all(cfg, records, request, room),
+        _ => negative(0x19, 0x12, room),
+    }
+}
+
+// ---- service 14
+
+// "unknown: code 31": no event has this trouble code, and it is not FFFFFFh, which means all.
+fn is_unknown(cfg: &[i32], code: u32) -> bool
+    requires { ⌜ configOk (now cfg) ≡ true ⌝ }
+    ensures { λ r. ⌜ r ≡ unknownCode (now (cfg .entry)) code ⌝ }
+{
+    if code == 0xFFFFFF {
+        return false;
+    }
+    match config::find_code(cfg, code) {
+        CodeSearch::At(_) => false,
+        CodeSearch::Nothing => true,
+    }
+}
+
+// "14: length must be 4 (else 13); the three bytes are a trouble code; unknown: code 31; else clear and `54`."
+fn clear_request(cfg: &[i32], request: &[u8]) -> ClearRequest
+    requires { ⌜ configOk (now cfg) ≡ true ⌝ }
+    ensures { λ r. ⌜ ((s : State) → clearRequestIs (now (cfg .entry)) r s ≡ service14 (now (cfg .entry)) (now (request .entry)) s) ⌝ }
+{
+    if request.len() != 4 {
+        return ClearRequest::Negative(0x13);
+    }
+    let code = code_in(request);
+    if is_unknown(cfg, code) {
+        return ClearRequest::Negative(0x31);
+    }
+    ClearRequest::Clear(code)
+}
+
+// Writes the reply of service 14. The clear itself is left to the caller.
+fn reply_14(cfg: &[i32], request: &[u8], room: &mut [u8]) -> Service
+    requires { ⌜ Accepted (now cfg) (now room) ⌝ }
+    ensures { λ r.
+        ⌜
+        ((s : State)
+        → serviceIs (now (cfg .entry)) r (now (room .exit)) s
+        ≡ replied (now (cfg .entry)) 0x14 (now (room .entry)) (service14 (now (cfg .entry)) (now (request .entry)) s))
+        ⌝ }
+{
+    match clear_request(cfg, request) {
+        ClearRequest::Clear(code) => {
+            writing::write(room, 0, &[0x54]);
+            Service::Clear(code)
+        }
+        ClearRequest::Negative(code) => Service::Replied(negative(0x14, code, room)),
+    }
+}
+
+// ---- the request
+
+// "diagnostic request 7, 1": the room holds less than 3 bytes, or the request is empty. Refusals 2 and 3 come before these.
+pub fn judge(request: &[u8], room: &[u8]) -> Judgement
+    ensures { λ r.
+        ⌜
+        ((cfg : Configuration) (s : State)
+        → configOk cfg ≡ true
+        → wellFormed cfg s ≡ true
+        → judgementIs r ≡ firstThatApplies (requestRules cfg (now (request .entry)) (now (room .entry)) s))
+        ⌝ }
+{
+    if room.len() < 3 {
+        return Judgement::Stop(Refusal::RoomTooSmall);
+    }
+    if request.len() == 0 {
+        return Judgement::Stop(Refusal::BadArgument);
+    }
+    Judgement::Go
+}
+
+// Writes the reply to an accepted request, and says what is left to do. "First byte other than 19 or 14: code 11."
+pub fn serve(cfg: &[i32], records: &[u8], request: &[u8], room: &mut [u8]) -> Service
+    requires { ⌜ Accepted (now cfg) (now room) ⌝ }
+    ensures { λ r.
+        ⌜
+        InStatesWith (now (records .entry))
+        (λ s. serviceIs (now (cfg .entry)) r (now (room .exit)) s
+        ≡ replied (now (cfg .entry)) (getD (now (request .entry)) 0 0) (now (room .entry))
+        (servedBy (now (cfg .entry)) (now (request .entry)) (length (now (room .entry))) s))
+        ⌝ }
+{
+    let service = byte_of(request, 0);
+    match service {
+        0x19 => Service::Replied(reply_19(cfg, records, request, room)),
+        0x14 => reply_14(cfg, request, room),
+        _ => Service::Replied(negative(service, 0x11, room)),
+    }
+}
