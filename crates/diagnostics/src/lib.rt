@@ -284,7 +284,7 @@ fn list_all(cfg: &[i32], records: &[u8], request: &[u8], room: &mut [u8]) -> usi
 }
 
 // Writes the reply of service 19, and answers its length. "19: length 1: code 13. … not 01, 02, 0A: code 12."
-pub fn reply_19(cfg: &[i32], records: &[u8], request: &[u8], room: &mut [u8]) -> usize
+fn reply_19(cfg: &[i32], records: &[u8], request: &[u8], room: &mut [u8]) -> usize
     requires { ⌜ Accepted (now cfg) (now room) ⌝ }
     ensures { λ r.
         ⌜
