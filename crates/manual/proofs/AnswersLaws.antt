@@ -1,16 +1,31 @@
 -- Laws of specs/Answers.antt: what an accepted call tells, and what a refused one leaves.
-use mathlib.Core.Path.{_≡_, refl, sym}
+use mathlib.Core.Path.{_≡_, refl, sym, _∙_}
 use mathlib.Core.Logic.{_≢_}
 use mathlib.Core.Bool.{Bool, true, false, not, _&&_, cond}
 use mathlib.Core.List.{List, [], _∷_}
 use Prim.Native.Nat.{ℕ, zero, suc}
 use native.Mathlib.Omega.{arith}
 use lib.Dec.{eqb, ltb}
-use borrow.Author.Tests.{eqb-true, eqb-false, ltb-true, not-true}
+use borrow.Author.Tests.{eqb-true, eqb-false, ne-eqb, ltb-true, not-true}
 use Rattle.history.specs.Words.{allOf}
 use Rattle.history.proofs.WordsLaws.{and-left, and-right}
+use Rattle.manual.specs.declared.Refusal.{Refusal}
+use Rattle.manual.specs.declared.Refusal.the-variants.{BadArgument, BadConfiguration, BadState, NoSuch, WrongCycleState, NoPreResult, RoomTooSmall, BadImage, WrongFrame, NoEntry}
 use Rattle.manual.specs.State.{State}
-use Rattle.manual.specs.Answers.{Outcome, refused, Rule, firstThatApplies, judged}
+use Rattle.manual.specs.Answers.{Outcome, refused, Rule, firstThatApplies, judged, numberOf}
+
+-- no refusal has the number 0, which means done
+pub never-done : (r : Refusal) → numberOf r ≢ 0
+never-done BadArgument e = omega arith
+never-done BadConfiguration e = omega arith
+never-done BadState e = omega arith
+never-done NoSuch e = omega arith
+never-done WrongCycleState e = omega arith
+never-done NoPreResult e = omega arith
+never-done RoomTooSmall e = omega arith
+never-done BadImage e = omega arith
+never-done WrongFrame e = omega arith
+never-done NoEntry e = omega arith
 
 -- the test of rule i
 abbrev pub appliesAt : List Rule → ℕ → Bool
@@ -69,3 +84,8 @@ module _ (rules : List Rule) (room : List ℕ) (s : State) (o : Outcome) where
       go : (b : Bool) → cond b o (refused (firstThatApplies rules) room s) .answer ≢ 0 → cond b o (refused (firstThatApplies rules) room s) ≡ refused (firstThatApplies rules) room s
       go true n = absurd (n z)
       go false n = refl
+
+  -- a call that stops with the number that its rules give
+  pub stops-with : (r : Refusal) → numberOf r ≡ firstThatApplies rules → refused (numberOf r) room s ≡ judged rules room s o
+  unfolding judged
+  stops-with r e = let n : eqb (firstThatApplies rules) 0 ≡ false = ne-eqb _ _ (λ z. never-done r (e ∙ z)) in rw (n, e)

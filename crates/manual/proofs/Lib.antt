@@ -2,6 +2,7 @@ pub mod Examples
 pub mod WordsLaws
 pub mod AnswersLaws
 pub mod AnswerIsFirstThatApplies
+pub mod OneOutcomeOnly
 pub mod WellFormedLaws
 pub mod ImageLaws
 pub mod AcceptedImages

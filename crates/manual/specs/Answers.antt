@@ -103,9 +103,13 @@ ofStatus (StatusAnswer.Refused r) = answered (numberOf r) None 0
 
 -- the part is said of the caller's block beside it
 abbrev pub ofFrame : FrameAnswer → Answered
-ofFrame (At place) = answered 0 None 0
+ofFrame (At part) = answered 0 None 0
 ofFrame (FrameAnswer.Refused r) = answered (numberOf r) None 0
 
 abbrev pub ofLength : LengthAnswer → Answered
 ofLength (Written length) = answered 0 None length
 ofLength (LengthAnswer.Refused r) = answered (numberOf r) None 0
+
+-- an answer, with the frame part, the output room and the state that the call leaves
+abbrev pub leaves : Answered → List ℕ → List ℕ → State → Outcome
+leaves a part room s = record { answer = a .number; verdict = a .verdict; value = a .value; part = part; room = room; state = s }

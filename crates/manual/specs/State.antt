@@ -14,6 +14,9 @@ pub record State : Type 0 where
   pub memory : List ℕ
   pub board : Board
 
+abbrev pub lent : List ℕ → List ℤ → List ℕ → Board → State
+lent records debounce memory board = record { records = records; debounce = debounce; memory = memory; board = board }
+
 -- "Board: which of the four cycles run, and an overflow flag."
 abbrev pub runs : Board → ℕ → Bool
 runs b c = getD (b .running) c false

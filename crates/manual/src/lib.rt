@@ -50,9 +50,15 @@ pub enum StatusAnswer {
     Refused(Refusal),
 }
 
-// The answer of read frame: the place of the event's entry, whose frame is a part of the caller's own memory block.
+// A stored frame, as a part of the caller's own memory block: where it starts, and its length.
+pub struct FramePart {
+    pub start: usize,
+    pub length: usize,
+}
+
+// The answer of read frame: where the frame is.
 pub enum FrameAnswer {
-    At(Place),
+    At(FramePart),
     Refused(Refusal),
 }
 
@@ -60,4 +66,16 @@ pub enum FrameAnswer {
 pub enum LengthAnswer {
     Written(usize),
     Refused(Refusal),
+}
+
+// What a call that can change the board hands back: its answer, and the board.
+pub struct Returned {
+    pub answer: Answer,
+    pub board: Board,
+}
+
+// The same of a report.
+pub struct ReportReturned {
+    pub answer: ReportAnswer,
+    pub board: Board,
 }

@@ -1,4 +1,4 @@
--- Laws of specs/Lent.antt: what a step of the code leaves in the lent blocks is what the manual says of the state that they are.
+-- What a step of the code leaves in the lent blocks is what the manual says of the state that they are.
 use mathlib.Core.Path.{_≡_, refl, sym, ap, subst, _∙_}
 use mathlib.Core.Bool.{Bool, true, false, _||_, cond}
 use mathlib.Core.List.{List}
@@ -12,7 +12,7 @@ use Rattle.history.specs.History.{Token, failed, stop, step}
 use Rattle.manual.specs.declared.Board.{Board}
 use Rattle.manual.specs.declared.Verdict.{Verdict}
 use Rattle.manual.specs.Configuration.{Configuration, events, places, frameBytes, priorityOf, limitsOf}
-use Rattle.manual.specs.State.{State, recordWidth, Stored, opened, stored, storedAt, withStored, D, withD}
+use Rattle.manual.specs.State.{State, recordWidth, Stored, opened, stored, storedAt, withStored, D, withD, lent}
 use Rattle.manual.specs.Memory.{entriesOf, memoryOf, without, store}
 use Rattle.manual.specs.OneEvent.{happens, entryLeaves, keeps, memoryTold, fails, qualifies, stops, clears}
 use Rattle.manual.specs.Debouncing.{Debounced, reported, ticked}
@@ -31,7 +31,7 @@ use Rattle.status.proofs.RecordsLaws.{step-written, has-room}
 use Rattle.memory.specs.declared.StoreAnswer.{StoreAnswer}
 use Rattle.memory.specs.Store.{MayStore, quietIn, Left, leaves, isLost, stores}
 use Rattle.memory.proofs.StoreLaws.{answer-is-lost}
-use Rattle.one_event.specs.Lent.{lent, accepts, BlocksFit, EventFits, Ready}
+use Rattle.one_event.specs.Ready.{accepts, BlocksFit, EventFits, Ready}
 
 -- ---- what the functions of the crates below ask
 

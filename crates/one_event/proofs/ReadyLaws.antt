@@ -18,7 +18,7 @@ use Rattle.manual.proofs.MemoryLaws.{Framed, EntryGood, frames, memory-count, m
 use Rattle.manual.proofs.MemoryStaysGood.{hasFailedBit, MemoryGood}
 use Rattle.manual.proofs.EventLoops.{EventReady}
 use Rattle.memory.specs.InOrder.{InOrder}
-use Rattle.one_event.specs.Lent.{Ready}
+use Rattle.one_event.specs.Ready.{Ready}
 
 module _ (cfg : Configuration) (s : State) (ok : configOk cfg ≡ true) where
   in-order : MemoryGood cfg s → InOrder (events cfg) (places cfg) (frameBytes cfg) (s .memory)

@@ -10,13 +10,13 @@ ghost use lib.IntN.{ℤ, pos};
 ghost use lib.ListN.{length, set};
 ghost use Rattle.history.specs.History.{passed, start};
 ghost use Rattle.manual.specs.Configuration.{Configuration, events, places, frameBytes};
-ghost use Rattle.manual.specs.State.{recordWidth};
+ghost use Rattle.manual.specs.State.{recordWidth, lent};
 ghost use Rattle.manual.specs.OneEvent.{happens, entryLeaves, memoryTold, fails, qualifies, stops, clears};
 ghost use Rattle.manual.specs.Calls.{applied, reportDone, ticks};
 ghost use Rattle.debounce.specs.Rows.{answered};
 ghost use Rattle.memory.specs.InOrder.{InOrder};
 ghost use Rattle.memory.specs.Store.{MayStore, isLost};
-ghost use Rattle.one_event.specs.Lent.{lent, accepts, BlocksFit, EventFits, Ready};
+ghost use Rattle.one_event.specs.Ready.{accepts, BlocksFit, EventFits, Ready};
 
 // "Start of a stopped cycle: for its events clears 1, sets 6."
 pub fn starts(records: &mut [u8], event: EventNumber)

@@ -7,26 +7,13 @@ use Prim.Native.Nat.{ℕ}
 use native.Mathlib.Omega.{arith}
 use lib.Dec.{eqb}
 use Rattle.manual.specs.declared.Refusal.{Refusal}
-use Rattle.manual.specs.declared.Refusal.the-variants.{BadArgument, BadConfiguration, BadState, NoSuch, WrongCycleState, NoPreResult, RoomTooSmall, BadImage, WrongFrame, NoEntry}
 use Rattle.manual.specs.Configuration.{Configuration, configOk}
 use Rattle.manual.specs.State.{State}
 use Rattle.manual.specs.WellFormed.{lengthsFit, wellFormed}
 use Rattle.manual.specs.Answers.{Rule, firstThatApplies, numberOf}
 use Rattle.manual.specs.Calls.{begins, beginsWithLengths}
-use Rattle.state.specs.Lent.{twoThree}
-
--- no refusal has the number 0, which means done
-pub never-done : (r : Refusal) → numberOf r ≢ 0
-never-done BadArgument e = omega arith
-never-done BadConfiguration e = omega arith
-never-done BadState e = omega arith
-never-done NoSuch e = omega arith
-never-done WrongCycleState e = omega arith
-never-done NoPreResult e = omega arith
-never-done RoomTooSmall e = omega arith
-never-done BadImage e = omega arith
-never-done WrongFrame e = omega arith
-never-done NoEntry e = omega arith
+use Rattle.manual.proofs.AnswersLaws.{never-done}
+use Rattle.state.specs.Checks.{twoThree}
 
 -- ---- two tests, 2 and 3, and what follows them
 

@@ -11,12 +11,11 @@ use Rattle.history.proofs.WordsLaws.{and-true}
 use Rattle.manual.specs.declared.Board.{Board}
 use Rattle.manual.specs.Words.{allBelow}
 use Rattle.manual.specs.Configuration.{Configuration, events, places, frameBytes}
-use Rattle.manual.specs.State.{opened, storedAt}
+use Rattle.manual.specs.State.{opened, storedAt, lent}
 use Rattle.manual.specs.WellFormed.{lengthsFit, memoryFits, recordOk, DOk, memoryOk, wellFormed}
 use Rattle.manual.proofs.WellFormedLaws.{lengths-tell}
 use Rattle.memory.specs.Judgement.{blockOk}
 use Rattle.config.proofs.Tests.{all-both}
-use Rattle.state.specs.Lent.{lent}
 
 -- the passes over the events
 abbrev pub recordsAre : Configuration → List ℕ → Bool

@@ -11,11 +11,11 @@ ghost use Prim.Native.Nat.{_+_, _*_, _≤_, _<_};
 ghost use Rattle.manual.specs.declared.Board.{Board};
 ghost use Rattle.manual.specs.Words.{allBelow};
 ghost use Rattle.manual.specs.Configuration.{events, configOk};
-ghost use Rattle.manual.specs.State.{recordWidth, runs, opened, storedAt};
+ghost use Rattle.manual.specs.State.{recordWidth, runs, opened, storedAt, lent};
 ghost use Rattle.manual.specs.WellFormed.{lengthsFit, recordOk, DOk, wellFormed};
 ghost use Rattle.manual.specs.Answers.{firstThatApplies};
 ghost use Rattle.manual.specs.Calls.{begins, beginsWithLengths};
-ghost use Rattle.state.specs.Lent.{lent, checkNumber, twoThree};
+ghost use Rattle.state.specs.Checks.{checkNumber, twoThree};
 ghost use Rattle.state.specs.Fits.{EventIn, RecordsFor, NumbersFor};
 
 // Whether a call goes on, or why it is refused.

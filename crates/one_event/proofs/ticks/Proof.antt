@@ -2,7 +2,7 @@
 use denote.Ref.{now}
 use Rattle.debounce.specs.Rows.{answered}
 use Rattle.debounce.proofs.SmallNumbersLaws.{held}
-use Rattle.one_event.specs.Lent.{lent}
+use Rattle.manual.specs.State.{lent}
 use Rattle.one_event.proofs.LentLaws.{may-tick, ticks-is}
 use borrow.Author.Needs.{needs}
 use Rattle.one_event.proofs.ticks.Statement.{statement}

@@ -6,7 +6,7 @@ use Rattle.manual.specs.WellFormed.{lengthsFit}
 use Rattle.manual.proofs.ConfigurationLaws.{config-tells}
 use Rattle.manual.proofs.WellFormedLaws.{lengths-tell}
 use Rattle.memory.specs.Judgement.{blockOk}
-use Rattle.state.specs.Lent.{lent}
+use Rattle.manual.specs.State.{lent}
 use Rattle.state.proofs.WellFormedLaws.{not-fitting, judged-in-passes}
 use borrow.Author.Needs.{needs}
 use Rattle.state.proofs.well_formed.Statement.{statement}

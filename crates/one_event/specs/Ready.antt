@@ -1,20 +1,16 @@
--- The state that the lent blocks and a board are, and what a step on one event may count on. Assumes nothing.
+-- What a step on one event may count on, and what an accepted report leaves. Assumes nothing.
 use mathlib.Core.Path.{_≡_}
 use mathlib.Core.Bool.{true}
 use mathlib.Core.List.{List, []}
 use Prim.Native.Nat.{ℕ, _*_, _<_}
 use lib.IntN.{ℤ}
 use lib.ListN.{length}
-use Rattle.manual.specs.declared.Board.{Board}
 use Rattle.manual.specs.declared.Verdict.{Verdict}
 use Rattle.manual.specs.Configuration.{Configuration, events, places, frameBytes, configOk}
 use Rattle.manual.specs.State.{State, recordWidth, opened, storedAt, D}
 use Rattle.manual.specs.WellFormed.{recordOk, DOk}
 use Rattle.manual.specs.Answers.{Outcome}
 use Rattle.memory.specs.InOrder.{InOrder}
-
-abbrev pub lent : List ℕ → List ℤ → List ℕ → Board → State
-lent records debounce memory board = record { records = records; debounce = debounce; memory = memory; board = board }
 
 -- an accepted report's verdict, and the state that it leaves, as the manual has them
 abbrev pub accepts : Verdict → State → Outcome
