@@ -1,0 +1,109 @@
+// Document 01, "Numbers a call answers with": the number of each answer, and the verdict, status or length beside it.
+use manual::Answer;
+use manual::FrameAnswer;
+use manual::LengthAnswer;
+use manual::Refusal;
+use manual::ReportAnswer;
+use manual::StatusAnswer;
+use manual::Verdict;
+ghost use mathlib.Core.Path.{_≡_};
+ghost use Rattle.manual.specs.Answers.{numberOf, ofAnswer, ofReport, ofStatus, ofFrame, ofLength};
+
+pub fn refusal_number(r: Refusal) -> u8
+    ensures { λ n. ⌜ n ≡ numberOf r ⌝ }
+{
+    match r {
+        Refusal::BadArgument => 1,
+        Refusal::BadConfiguration => 2,
+        Refusal::BadState => 3,
+        Refusal::NoSuch => 4,
+        Refusal::WrongCycleState => 5,
+        Refusal::NoPreResult => 6,
+        Refusal::RoomTooSmall => 7,
+        Refusal::BadImage => 8,
+        Refusal::WrongFrame => 9,
+        Refusal::NoEntry => 10,
+    }
+}
+
+// ---- fresh, tick, start, stop, clear and restore
+
+pub fn answer_number(a: Answer) -> u8
+    ensures { λ n. ⌜ n ≡ ofAnswer a .number ⌝ }
+{
+    match a {
+        Answer::Done => 0,
+        Answer::Refused(r) => refusal_number(r),
+    }
+}
+
+// ---- report
+
+pub fn report_number(a: ReportAnswer) -> u8
+    ensures { λ n. ⌜ n ≡ ofReport a .number ⌝ }
+{
+    match a {
+        ReportAnswer::Accepted(_) => 0,
+        ReportAnswer::Refused(r) => refusal_number(r),
+    }
+}
+
+pub fn report_verdict(a: ReportAnswer) -> Verdict
+    ensures { λ v. ⌜ v ≡ ofReport a .verdict ⌝ }
+{
+    match a {
+        ReportAnswer::Accepted(verdict) => verdict,
+        ReportAnswer::Refused(_) => Verdict::None,
+    }
+}
+
+// ---- read status
+
+pub fn status_number(a: StatusAnswer) -> u8
+    ensures { λ n. ⌜ n ≡ ofStatus a .number ⌝ }
+{
+    match a {
+        StatusAnswer::Status(_) => 0,
+        StatusAnswer::Refused(r) => refusal_number(r),
+    }
+}
+
+pub fn status_byte(a: StatusAnswer) -> u8
+    ensures { λ n. ⌜ n ≡ ofStatus a .value ⌝ }
+{
+    match a {
+        StatusAnswer::Status(byte) => byte,
+        StatusAnswer::Refused(_) => 0,
+    }
+}
+
+// ---- read frame
+
+pub fn frame_number(a: FrameAnswer) -> u8
+    ensures { λ n. ⌜ n ≡ ofFrame a .number ⌝ }
+{
+    match a {
+        FrameAnswer::At(_) => 0,
+        FrameAnswer::Refused(r) => refusal_number(r),
+    }
+}
+
+// ---- save and a diagnostic request
+
+pub fn length_number(a: LengthAnswer) -> u8
+    ensures { λ n. ⌜ n ≡ ofLength a .number ⌝ }
+{
+    match a {
+        LengthAnswer::Written(_) => 0,
+        LengthAnswer::Refused(r) => refusal_number(r),
+    }
+}
+
+pub fn written_length(a: LengthAnswer) -> usize
+    ensures { λ n. ⌜ n ≡ ofLength a .value ⌝ }
+{
+    match a {
+        LengthAnswer::Written(length) => length,
+        LengthAnswer::Refused(_) => 0,
+    }
+}
