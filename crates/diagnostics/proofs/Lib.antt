@@ -1,4 +1,3 @@
-pub mod WritingLaws
 pub mod BelowLaws
 pub mod RepliesLaws
 pub mod RequestLaws

@@ -17,11 +17,11 @@ use Rattle.manual.specs.State.{State}
 use Rattle.manual.specs.Answers.{Outcome}
 use Rattle.manual.specs.Diagnostics.{Reply, positive, negative, replyBytes, SubFunction, subFunction, fitted, line, lines, maskOf, numberByMask, listByMask, listAll, subFunctions, suppresses, subFunctionReply, service19, sent}
 use Rattle.manual.proofs.ConfigurationLaws.{config-tells}
+use Rattle.writing.specs.Writing.{written, append}
 use Rattle.diagnostics.specs.declared.Asked.{Asked}
 use Rattle.diagnostics.specs.declared.Asked.the-variants.{All, Matching}
 use Rattle.diagnostics.specs.declared.Turn.{Turn}
 use Rattle.diagnostics.specs.declared.Turn.the-variants.{Write, Suppressed}
-use Rattle.diagnostics.specs.Writing.{written, append}
 use Rattle.diagnostics.specs.Replies.{holding, sentIs, asks, lineIfAsked, linesAsked, listing, Tests, turnIs, TurnBy}
 use Rattle.diagnostics.proofs.BelowLaws.{count-most, join-length}
 

@@ -15,9 +15,9 @@ use Rattle.manual.specs.Answers.{Outcome, refused, firstThatApplies, judged}
 use Rattle.manual.specs.Calls.{unknownCode, cleared}
 use Rattle.manual.specs.Diagnostics.{positive, negative, replyBytes, served, service19, service14, servedBy, sent, replied, requestRules, requestReply}
 use Rattle.manual.proofs.AnswersLaws.{none-applies, goes-through}
-use Rattle.diagnostics.specs.Writing.{written, append}
+use Rattle.writing.specs.Writing.{written, append}
+use Rattle.writing.proofs.WritingLaws.{append-next}
 use Rattle.diagnostics.specs.Replies.{sentIs, Accepted}
-use Rattle.diagnostics.proofs.WritingLaws.{append-next}
 use Rattle.diagnostics.proofs.RepliesLaws.{written-is-sent}
 
 -- ---- service 14

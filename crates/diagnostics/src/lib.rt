@@ -2,9 +2,6 @@
 use config::CodeSearch;
 use manual::EventNumber;
 use manual::Refusal;
-
-mod writing;
-
 ghost use mathlib.Core.Path.{_≡_};
 ghost use mathlib.Core.Bool.{true, cond};
 ghost use Prim.Native.Nat.{_+_, _%_, _<_, _≤_};
@@ -16,7 +13,7 @@ ghost use Rattle.manual.specs.WellFormed.{wellFormed};
 ghost use Rattle.manual.specs.Answers.{firstThatApplies};
 ghost use Rattle.manual.specs.Calls.{unknownCode};
 ghost use Rattle.manual.specs.Diagnostics.{negative, replyBytes, served, subFunction, line, maskOf, suppresses, numberByMask, listByMask, listAll, service19, service14, servedBy, sent, replied, requestRules};
-ghost use Rattle.diagnostics.specs.Writing.{written, append};
+ghost use Rattle.writing.specs.Writing.{written, append};
 ghost use Rattle.diagnostics.specs.Replies.{InStatesWith, holding, sentIs, asks, lineIfAsked, linesAsked, EventFits, BytesFit, Accepted, subFunctionOutcome, listing, TurnBy, clearRequestIs, serviceIs, judgementIs};
 
 // The events that a reply lists or counts: all, or those that match a mask.

@@ -1,5 +1,4 @@
 pub mod Examples
 pub mod TextLaws
-pub mod WritingLaws
 pub mod LineLaws
 pub mod WrittenReadsBack

@@ -5,8 +5,8 @@ ghost use mathlib.Core.List.{flatMap};
 ghost use Prim.Native.Nat.{_+_, _-_, _*_, _≤_, _<_};
 ghost use lib.ListN.{length, drop};
 ghost use Rattle.history.specs.Words.{allOf};
+ghost use Rattle.writing.specs.Writing.{written, append, filled};
 ghost use Rattle.transcript.specs.Text.{isSeparator, run, isDigit, oneToNineDigits, worth, withSign, readWord, nextRead};
-ghost use Rattle.transcript.specs.Writing.{written, append, filled};
 ghost use Rattle.transcript.specs.Line.{decimal, spaced, statusBytes, line, Room};
 
 // A place in the input.
@@ -136,31 +136,18 @@ pub fn next_number(text: &[u8], from: Cursor) -> Word
     read_word(&text[start..end], end)
 }
 
-// Writes src into the buffer at `at`, and answers the place behind it.
-fn write(buffer: &mut [u8], at: usize, src: &[u8]) -> usize
-    requires { ⌜ at + length (now src) ≤ length (now buffer) ⌝ }
-    ensures { λ r. ⌜ written r (now (buffer .exit)) ≡ append (now (src .entry)) (written at (now (buffer .entry))) ⌝ }
-{
-    let mut i = 0;
-    while i < src.len() {
-        buffer[at + i] = src[i];
-        i += 1;
-    }
-    at + i
-}
-
 // "decimal"
 fn put_decimal(buffer: &mut [u8], at: usize, n: u8) -> usize
     requires { ⌜ at + 3 ≤ length (now buffer) ⌝ }
     ensures { λ r. ⌜ written r (now (buffer .exit)) ≡ append (decimal n) (written at (now (buffer .entry))) ⌝ }
 {
     if n < 10 {
-        return write(buffer, at, &[b'0' + n]);
+        return writing::write(buffer, at, &[b'0' + n]);
     }
     if n < 100 {
-        return write(buffer, at, &[b'0' + n / 10, b'0' + n % 10]);
+        return writing::write(buffer, at, &[b'0' + n / 10, b'0' + n % 10]);
     }
-    write(
+    writing::write(
         buffer,
         at,
         &[b'0' + n / 100, b'0' + n / 10 % 10, b'0' + n % 10],
@@ -172,7 +159,7 @@ fn put_spaced(buffer: &mut [u8], at: usize, n: u8) -> usize
     requires { ⌜ at + 4 ≤ length (now buffer) ⌝ }
     ensures { λ r. ⌜ written r (now (buffer .exit)) ≡ append (spaced n) (written at (now (buffer .entry))) ⌝ }
 {
-    let next = write(buffer, at, b" ");
+    let next = writing::write(buffer, at, b" ");
     put_decimal(buffer, next, n)
 }
 
@@ -199,5 +186,5 @@ pub fn fill_line(buffer: &mut [u8], answer: u8, records: &[u8], events: usize) -
 {
     let statuses = put_decimal(buffer, 0, answer);
     let end = put_statuses(buffer, statuses, records, events);
-    write(buffer, end, b"\n")
+    writing::write(buffer, end, b"\n")
 }

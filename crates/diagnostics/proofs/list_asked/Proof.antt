@@ -3,8 +3,8 @@ use native.Mathlib.Omega.{arith}
 use lib.ListN.{length}
 use borrow.Author.Tests.{ltb-false}
 use borrow.Author.Needs.{needs}
+use Rattle.writing.proofs.WritingLaws.{append-then, append-next}
 use Rattle.diagnostics.specs.Replies.{holding}
-use Rattle.diagnostics.proofs.WritingLaws.{append-then, append-next}
 use Rattle.diagnostics.proofs.RepliesLaws.{written-is-sent, nothing-is-sent, by-turn, number-most, lines-length, lines-in, list-length, list-tests}
 use Rattle.diagnostics.proofs.list_asked.Statement.{statement}
 use Rattle.diagnostics.proofs.list_asked.Tie as tie

@@ -1,6 +1,6 @@
 use mathlib.Core.Path.{sym, _∙_}
 use borrow.Author.Needs.{needs}
-use Rattle.diagnostics.proofs.WritingLaws.{append-none}
+use Rattle.writing.proofs.WritingLaws.{append-none}
 use Rattle.diagnostics.proofs.write_line_if_asked.Statement.{statement}
 use Rattle.diagnostics.proofs.write_line_if_asked.Tie as tie
 

@@ -3,8 +3,8 @@ use mathlib.Core.Path.{_∙_}
 use native.Mathlib.Nat.{le-trans}
 use native.Mathlib.Omega.{arith}
 use borrow.Author.Needs.{needs}
+use Rattle.writing.proofs.WritingLaws.{append-then, append-next, append-filled}
 use Rattle.transcript.specs.Line.{line}
-use Rattle.transcript.proofs.WritingLaws.{append-then, append-next, append-filled}
 use Rattle.transcript.proofs.LineLaws.{decimal-few, statuses-few, line-few}
 use Rattle.transcript.proofs.fill_line.Statement.{statement}
 use Rattle.transcript.proofs.fill_line.Tie as tie

@@ -1,8 +1,8 @@
 -- `put_spaced` writes the space, and then the number.
 use native.Mathlib.Omega.{arith}
 use borrow.Author.Needs.{needs}
+use Rattle.writing.proofs.WritingLaws.{append-then, append-next}
 use Rattle.transcript.specs.Line.{spaced}
-use Rattle.transcript.proofs.WritingLaws.{append-then, append-next}
 use Rattle.transcript.proofs.put_spaced.Statement.{statement}
 use Rattle.transcript.proofs.put_spaced.Tie as tie
 

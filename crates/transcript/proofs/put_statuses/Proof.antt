@@ -4,9 +4,9 @@ use mathlib.Core.List.{flatMap}
 use Prim.Native.Nat.{_-_, _≤_}
 use native.Mathlib.Omega.{arith}
 use lib.ListN.{length}
-use Rattle.transcript.specs.Writing.{written, append}
+use Rattle.writing.specs.Writing.{written, append}
+use Rattle.writing.proofs.WritingLaws.{append-none, append-then, append-next}
 use Rattle.transcript.specs.Line.{spaced, statusBytes}
-use Rattle.transcript.proofs.WritingLaws.{append-none, append-then, append-next}
 use Rattle.transcript.proofs.LineLaws.{statuses-none, statuses-more, statuses-few}
 use Rattle.transcript.proofs.put_statuses.Statement.{statement}
 use Rattle.transcript.proofs.put_statuses.Tie as tie
