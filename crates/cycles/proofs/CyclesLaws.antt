@@ -1,0 +1,70 @@
+-- Laws of the start and the stop of a cycle: what a passed judgement gives, and what each call leaves.
+use mathlib.Core.Path.{_≡_, refl, sym, ap, _∙_}
+use mathlib.Core.Bool.{Bool, true, false, not}
+use mathlib.Core.List.{List, []}
+use Prim.Native.Nat.{ℕ, _+_, _*_, _≤_, _<_}
+use native.Mathlib.Omega.{arith}
+use lib.Dec.{ltb}
+use lib.ListN.{length}
+use borrow.Author.Tests.{ltb-false, not-false}
+use Rattle.history.specs.History.{start}
+use Rattle.manual.specs.declared.Refusal.{Refusal}
+use Rattle.manual.specs.Words.{forBelow}
+use Rattle.manual.specs.Configuration.{Configuration, events, configOk}
+use Rattle.manual.specs.State.{State, recordWidth, runs, withCycle}
+use Rattle.manual.specs.WellFormed.{wellFormed}
+use Rattle.manual.specs.OneEvent.{happens, stops, forThose}
+use Rattle.manual.specs.Answers.{refused, done, firstThatApplies, numberOf}
+use Rattle.manual.specs.Calls.{begins, ofCycle, startRules, startCycle, stopRules, stopCycle}
+use Rattle.manual.proofs.AnswersLaws.{none-applies, goes-through, stops-with}
+use Rattle.manual.proofs.ConfigurationLaws.{config-tells}
+use Rattle.manual.proofs.WellFormedLaws.{state-tells}
+use Rattle.manual.proofs.OneEventLaws.{acts-stops}
+use Rattle.manual.proofs.MemoryStaysGood.{good-stops}
+use Rattle.state.specs.Fits.{RecordsFor}
+use Rattle.one_event.specs.Ready.{EventFits}
+use Rattle.cycles.specs.Cycles.{fourFive, MayStop}
+use Rattle.cycles.proofs.TurnsLaws.{turn, ready-at-turn}
+
+-- ---- what a passed judgement gives
+
+module _ (cfg : Configuration) (s : State) (c : ℕ) (wrong : Bool) (z : firstThatApplies (begins cfg s (fourFive (ltb 3 c) wrong)) ≡ 0) where
+  pub may-stop : MayStop cfg s c
+  may-stop = record {
+    configured = not-false (configOk cfg) (none-applies _ z refl 0);
+    formed = not-false (wellFormed cfg s) (none-applies _ z refl 1);
+    is-cycle = let h = ltb-false 3 c (none-applies _ z refl 2) in omega arith;
+  }
+
+  pub may-start : RecordsFor cfg (s .records) × (c < 4)
+  may-start = (record { accepted = may-stop .configured; as-long = state-tells cfg s (may-stop .formed) .lengths .records }, may-stop .is-cycle)
+
+pub record-within : (cfg : Configuration) (records records′ : List ℕ) (e : ℕ) → RecordsFor cfg records → length records′ ≡ length records → e < events cfg
+    → (e < 512) × (recordWidth * e + recordWidth ≤ length records′)
+record-within cfg records records′ e r l h = let most = config-tells cfg (r .accepted) .n-most in let long = r .as-long in (omega arith, omega arith)
+
+pub stop-fits : (cfg : Configuration) (s : State) (c : ℕ) → MayStop cfg s c → (i : ℕ) {t : State} → i < events cfg → t ≡ forBelow i (turn (ofCycle cfg c) (stops cfg)) s
+    → EventFits cfg (t .records) (t .debounce) (t .memory) i
+stop-fits cfg s c m i h q = ready-at-turn (ofCycle cfg c) (stops cfg) cfg (acts-stops cfg) (good-stops cfg) s (m .configured) (m .formed) i h q .event
+
+-- ---- the calls
+
+module _ (cfg : Configuration) (s : State) (c : ℕ) (wrong : Bool) where
+  abbrev first : ℕ
+  first = firstThatApplies (begins cfg s (fourFive (ltb 3 c) wrong))
+
+  pub start-done : wrong ≡ runs (s .board) c → first ≡ 0 → {t : State} → t ≡ withCycle c true (forThose cfg (ofCycle cfg c) (happens cfg start) s) → done t ≡ startCycle cfg c s
+  unfolding startCycle startRules
+  start-done w z q = ap done q ∙ sym (goes-through _ [] s _ (rw w at z))
+
+  pub start-refused : wrong ≡ runs (s .board) c → (r : Refusal) → numberOf r ≡ first → refused (numberOf r) [] s ≡ startCycle cfg c s
+  unfolding startCycle startRules
+  start-refused w r z = stops-with _ [] s _ r (rw w at z)
+
+  pub stop-done : wrong ≡ not (runs (s .board) c) → first ≡ 0 → {t : State} → t ≡ withCycle c false (forThose cfg (ofCycle cfg c) (stops cfg) s) → done t ≡ stopCycle cfg c s
+  unfolding stopCycle stopRules
+  stop-done w z q = ap done q ∙ sym (goes-through _ [] s _ (rw w at z))
+
+  pub stop-refused : wrong ≡ not (runs (s .board) c) → (r : Refusal) → numberOf r ≡ first → refused (numberOf r) [] s ≡ stopCycle cfg c s
+  unfolding stopCycle stopRules
+  stop-refused w r z = stops-with _ [] s _ r (rw w at z)

@@ -1,0 +1,3 @@
+pub mod TurnsLaws
+pub mod CyclesLaws
+pub mod OneOutcomeOnly

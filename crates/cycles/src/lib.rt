@@ -1,0 +1,196 @@
+// Document 01, "Status byte": the calls that start and stop a cycle.
+use manual::Answer;
+use manual::Board;
+use manual::EventNumber;
+use manual::Refusal;
+use manual::Returned;
+use state::Check;
+ghost use mathlib.Core.Path.{_≡_};
+ghost use mathlib.Core.Bool.{true, false, cond};
+ghost use mathlib.Core.List.{List, []};
+ghost use Prim.Native.Nat.{ℕ, _+_, _*_, _≤_, _<_};
+ghost use lib.Dec.{ltb};
+ghost use lib.IntN.{ℤ};
+ghost use lib.ListN.{length};
+ghost use Rattle.history.specs.History.{start};
+ghost use Rattle.manual.specs.declared.Board.{Board};
+ghost use Rattle.manual.specs.State.{recordWidth, lent, withCycle};
+ghost use Rattle.manual.specs.OneEvent.{happens, stops, forThose};
+ghost use Rattle.manual.specs.Answers.{refused, done, firstThatApplies, numberOf, ofAnswer, leaves};
+ghost use Rattle.manual.specs.Calls.{begins, ofCycle, startCycle, stopCycle};
+ghost use Rattle.state.specs.Checks.{checkNumber};
+ghost use Rattle.state.specs.Fits.{RecordsFor};
+ghost use Rattle.one_event.specs.Ready.{EventFits};
+ghost use Rattle.cycles.specs.Cycles.{fourFive, MayStop};
+
+// ---- "start and stop 4, 5"
+
+// 4, then 5: "The first that applies, in the call's order, is given."
+fn four_five(no_such: bool, wrong: bool) -> Check
+    ensures { λ r. ⌜ checkNumber r ≡ firstThatApplies (fourFive «no_such» wrong) ⌝ }
+{
+    if no_such {
+        return Check::Stop(Refusal::NoSuch);
+    }
+    if wrong {
+        return Check::Stop(Refusal::WrongCycleState);
+    }
+    Check::Go
+}
+
+// 2, 3, then "4 | no such … cycle (above 3)", then 5 where the cycle is not in the state that the call asks for.
+fn judge(
+    cfg: &[i32],
+    records: &[u8],
+    debounce: &[i32],
+    memory: &[u8],
+    board: Board,
+    cycle: u32,
+    wrong: bool,
+) -> Check
+    ensures { λ r. ⌜ checkNumber r ≡ firstThatApplies (begins (now (cfg .entry)) (lent (now (records .entry)) (now (debounce .entry)) (now (memory .entry)) board) (fourFive (ltb 3 cycle) wrong)) ⌝ }
+{
+    match state::begin(cfg, records, debounce, memory, board) {
+        Check::Go => four_five(3 < cycle, wrong),
+        Check::Stop(refusal) => Check::Stop(refusal),
+    }
+}
+
+// "A refusal changes nothing lent and hands back the board it was given"
+fn refused(refusal: Refusal, given: Board) -> Returned
+    ensures { λ r. ⌜ ((records : List ℕ) (d : List ℤ) (m : List ℕ) → leaves (ofAnswer (r .answer)) [] [] (lent records d m (r .board)) ≡ refused (numberOf refusal) [] (lent records d m given)) ⌝ }
+{
+    Returned {
+        answer: Answer::Refused(refusal),
+        board: given,
+    }
+}
+
+// "0 | done"
+fn done(board: Board) -> Returned
+    ensures { λ r. ⌜ ((records : List ℕ) (d : List ℤ) (m : List ℕ) → leaves (ofAnswer (r .answer)) [] [] (lent records d m (r .board)) ≡ done (lent records d m board)) ⌝ }
+{
+    Returned {
+        answer: Answer::Done,
+        board,
+    }
+}
+
+// ---- the cycle and its events
+
+// Whether the event is one of the cycle.
+fn of_cycle(cfg: &[i32], cycle: usize, event: EventNumber) -> bool
+    requires { ⌜ event .0 < 512 ⌝ }
+    ensures { λ r. ⌜ r ≡ ofCycle (now (cfg .entry)) cycle (event .0) ⌝ }
+{
+    config::cycle_of(cfg, event) == cycle
+}
+
+// The board with the cycle turned on or off.
+fn turned(board: Board, cycle: usize, on: bool) -> Board
+    requires { ⌜ cycle < 4 ⌝ }
+    ensures { λ r. ⌜ ((records : List ℕ) (d : List ℤ) (m : List ℕ) → lent records d m r ≡ withCycle cycle on (lent records d m board)) ⌝ }
+{
+    let mut running = board.running;
+    running[cycle] = on;
+    Board {
+        running,
+        overflow: board.overflow,
+    }
+}
+
+// ---- start
+
+// The event, where it is one of the cycle.
+fn start_event(cfg: &[i32], records: &mut [u8], cycle: usize, event: EventNumber)
+    requires { ⌜ (event .0 < 512) × (recordWidth * event .0 + recordWidth ≤ length (now records)) ⌝ }
+    ensures { λ _. ⌜ ((d : List ℤ) (m : List ℕ) (b : Board) → lent (now (records .exit)) d m b ≡ cond (ofCycle (now (cfg .entry)) cycle (event .0)) (happens (now (cfg .entry)) start (event .0) (lent (now (records .entry)) d m b)) (lent (now (records .entry)) d m b)) ⌝ }
+{
+    if of_cycle(cfg, cycle, event) {
+        one_event::starts(records, event);
+    }
+}
+
+// "Start of a stopped cycle: for its events clears 1, sets 6."
+fn accept_start(cfg: &[i32], records: &mut [u8], board: Board, cycle: usize) -> Board
+    requires { ⌜ (RecordsFor (now cfg) (now records)) × (cycle < 4) ⌝ }
+    ensures { λ r. ⌜ ((d : List ℤ) (m : List ℕ) → lent (now (records .exit)) d m r ≡ withCycle cycle true (forThose (now (cfg .entry)) (ofCycle (now (cfg .entry)) cycle) (happens (now (cfg .entry)) start) (lent (now (records .entry)) d m board))) ⌝ }
+{
+    for event in 0..config::events(cfg) {
+        start_event(cfg, records, cycle, EventNumber(event));
+    }
+    turned(board, cycle, true)
+}
+
+// The call that starts a cycle; "5 | … start, cycle running".
+pub fn start(
+    cfg: &[i32],
+    records: &mut [u8],
+    debounce: &[i32],
+    memory: &[u8],
+    board: Board,
+    cycle: u32,
+) -> Returned
+    ensures { λ r. ⌜ leaves (ofAnswer (r .answer)) [] [] (lent (now (records .exit)) (now (debounce .entry)) (now (memory .entry)) (r .board)) ≡ startCycle (now (cfg .entry)) cycle (lent (now (records .entry)) (now (debounce .entry)) (now (memory .entry)) board) ⌝ }
+{
+    let wrong = state::runs(board, cycle as usize);
+    match judge(cfg, records, debounce, memory, board, cycle, wrong) {
+        Check::Go => done(accept_start(cfg, records, board, cycle as usize)),
+        Check::Stop(refusal) => refused(refusal, board),
+    }
+}
+
+// ---- stop
+
+// The event, where it is one of the cycle.
+fn stop_event(
+    cfg: &[i32],
+    records: &mut [u8],
+    debounce: &mut [i32],
+    memory: &mut [u8],
+    cycle: usize,
+    event: EventNumber,
+)
+    requires { ⌜ EventFits (now cfg) (now records) (now debounce) (now memory) (event .0) ⌝ }
+    ensures { λ _. ⌜ ((b : Board) → lent (now (records .exit)) (now (debounce .exit)) (now (memory .exit)) b ≡ cond (ofCycle (now (cfg .entry)) cycle (event .0)) (stops (now (cfg .entry)) (event .0) (lent (now (records .entry)) (now (debounce .entry)) (now (memory .entry)) b)) (lent (now (records .entry)) (now (debounce .entry)) (now (memory .entry)) b)) ⌝ }
+{
+    if of_cycle(cfg, cycle, event) {
+        one_event::stops(cfg, records, debounce, memory, event);
+    }
+}
+
+// "Stop, for its events: (a) … (b) … (c) D = 0."
+fn accept_stop(
+    cfg: &[i32],
+    records: &mut [u8],
+    debounce: &mut [i32],
+    memory: &mut [u8],
+    board: Board,
+    cycle: usize,
+) -> Board
+    requires { ⌜ MayStop (now cfg) (lent (now records) (now debounce) (now memory) board) cycle ⌝ }
+    ensures { λ r. ⌜ lent (now (records .exit)) (now (debounce .exit)) (now (memory .exit)) r ≡ withCycle cycle false (forThose (now (cfg .entry)) (ofCycle (now (cfg .entry)) cycle) (stops (now (cfg .entry))) (lent (now (records .entry)) (now (debounce .entry)) (now (memory .entry)) board)) ⌝ }
+{
+    for event in 0..config::events(cfg) {
+        stop_event(cfg, records, debounce, memory, cycle, EventNumber(event));
+    }
+    turned(board, cycle, false)
+}
+
+// The call that stops a cycle; "5 | … stop, cycle stopped".
+pub fn stop(
+    cfg: &[i32],
+    records: &mut [u8],
+    debounce: &mut [i32],
+    memory: &mut [u8],
+    board: Board,
+    cycle: u32,
+) -> Returned
+    ensures { λ r. ⌜ leaves (ofAnswer (r .answer)) [] [] (lent (now (records .exit)) (now (debounce .exit)) (now (memory .exit)) (r .board)) ≡ stopCycle (now (cfg .entry)) cycle (lent (now (records .entry)) (now (debounce .entry)) (now (memory .entry)) board) ⌝ }
+{
+    let wrong = !state::runs(board, cycle as usize);
+    match judge(cfg, records, debounce, memory, board, cycle, wrong) {
+        Check::Go => done(accept_stop(cfg, records, debounce, memory, board, cycle as usize)),
+        Check::Stop(refusal) => refused(refusal, board),
+    }
+}

@@ -1,0 +1,3 @@
+pub mod FilledLaws
+pub mod FreshLaws
+pub mod OneOutcomeOnly

@@ -1,0 +1,62 @@
+use mathlib.Core.Path.{sym, ap, _∙_}
+use Rattle.state.specs.Checks.{checkNumber}
+use Rattle.state.proofs.BeginLaws.{begun-with-lengths}
+use Rattle.fresh_state.proofs.FreshLaws.{fresh-done, fresh-refused}
+use borrow.Author.Needs.{needs}
+use Rattle.fresh_state.proofs.fresh.Statement.{statement}
+use Rattle.fresh_state.proofs.fresh.Tie as tie
+
+begin-with-lengths-requires : tie.Need-begin-with-lengths-requires
+begin-with-lengths-requires c κs = search needs
+
+enum-told : tie.Need-enum-told
+enum-told c = search needs
+
+make-fresh-requires : tie.Need-make-fresh-requires
+make-fresh-requires c κs = λ b. begun-with-lengths _ _ (sym (c .before .before .before .before .before .begin-with-lengths .ensures b) ∙ ap checkNumber (c .before .before .before .enum-told .given .1)) .1
+
+enum-known-refusal : tie.Need-enum-known-refusal
+enum-known-refusal c = search needs
+
+same-length : tie.Need-same-length
+same-length c = search needs
+
+same-length-2 : tie.Need-same-length-2
+same-length-2 c = search needs
+
+same-length-3 : tie.Need-same-length-3
+same-length-3 c = search needs
+
+returns : tie.Need-returns
+returns c = let go = ap checkNumber (c .before .before .before .before .before .before .before .before .before .enum-told .given .1) in
+    fresh-done _ _ (sym (c .before .before .before .before .before .before .before .before .before .before .before .begin-with-lengths .ensures (c .before .before .before .before .before .before .before .before .before .before .before .before .before .before .before .before .before .args .board)) ∙ go) (c .before .before .before .before .before .make-fresh .ensures)
+
+same-length-4 : tie.Need-same-length-4
+same-length-4 c = search needs
+
+same-length-5 : tie.Need-same-length-5
+same-length-5 c = search needs
+
+same-length-6 : tie.Need-same-length-6
+same-length-6 c = search needs
+
+returns-2 : tie.Need-returns-2
+returns-2 c = let stop = ap checkNumber (c .before .refusal .given .1) in
+    fresh-refused _ _ (c .before .refusal .given .0 .0) (sym stop ∙ c .before .before .before .begin-with-lengths .ensures (c .before .before .before .before .before .before .before .before .before .args .board))
+
+pub fresh-spec : {M : Type 1} → statement M
+fresh-spec =
+    tie.close
+    (tie.spec
+    begin-with-lengths-requires
+    enum-told
+    make-fresh-requires
+    enum-known-refusal
+    same-length
+    same-length-2
+    same-length-3
+    returns
+    same-length-4
+    same-length-5
+    same-length-6
+    returns-2)

@@ -1,0 +1,51 @@
+use mathlib.Core.Path.{_≡_, refl}
+use Prim.Native.Nat.{_-_, _≤_}
+use native.Mathlib.Omega.{arith}
+use denote.Ref.{now}
+use lib.ListN.{length, length-set}
+use Rattle.fresh_state.proofs.FilledLaws.{filledTo, fill-none, fill-more, fill-all}
+use Rattle.fresh_state.proofs.zero_from.Statement.{statement}
+use Rattle.fresh_state.proofs.zero_from.Tie as tie
+
+abbrev Inv-loop : tie.InvT-loop
+Inv-loop memory₀ from i₀ i-end memory i = ((from ≤ i) × (i ≤ length memory₀)) × (memory ≡ filledTo 0 from memory₀ i) × (length memory ≡ length memory₀)
+
+abbrev μ-loop : tie.MeasureT-loop
+μ-loop memory₀ from i₀ i-end memory i = i-end - i
+
+loop-holds : tie.Need-loop-holds Inv-loop μ-loop
+loop-holds c = ((omega arith, c .pre), fill-none 0 _ _ (c .pre), refl)
+
+slice-write-memory : tie.Need-slice-write-memory Inv-loop μ-loop
+slice-write-memory c = omega arith
+
+add-i : tie.Need-add-i Inv-loop μ-loop
+add-i c = omega arith
+
+loop-less : tie.Need-loop-less Inv-loop μ-loop
+loop-less c = omega arith
+
+loop-again : tie.Need-loop-again Inv-loop μ-loop
+loop-again c = let loop = c .before .loop in
+    ((omega arith, omega arith), fill-more 0 _ _ (c .before .before .pre) _ (loop .inv .0 .0) (omega arith) (loop .inv .1), simp length-set (loop .inv .2))
+
+same-length : tie.Need-same-length Inv-loop μ-loop
+same-length c = c .before .loop .inv .2
+
+returns : tie.Need-returns Inv-loop μ-loop
+returns c = let e : c .before .loop .i ≡ length (now (c .before .before .args .memory)) = omega arith in
+    fill-all 0 _ _ (c .before .before .pre) e (c .before .loop .inv .1)
+
+pub zero-from-spec : {M : Type 1} → statement M
+zero-from-spec =
+    tie.close
+    (tie.spec
+    Inv-loop
+    μ-loop
+    loop-holds
+    slice-write-memory
+    add-i
+    loop-less
+    loop-again
+    same-length
+    returns)

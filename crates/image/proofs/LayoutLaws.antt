@@ -1,0 +1,175 @@
+-- Laws of specs/Layout.antt: an image of the right length, cut into its header and its bodies.
+use mathlib.Core.Path.{_≡_, sym, ap, _∙_}
+use mathlib.Core.Bool.{Bool, true, false, _&&_}
+use mathlib.Core.List.{List, [], _∷_, _++_}
+use Prim.Native.Nat.{ℕ, suc, _+_, _-_, _*_, _≤_, _<_}
+use native.Mathlib.Nat.{mul-le-mul}
+use native.Mathlib.Omega.{arith}
+use lib.Dec.{eqb, leb}
+use lib.ListN.{length, getD, take, drop, length-append, length-drop, take-append-drop, List·getD-append}
+use lib.Seq.{take-all, take-at, drop-at, drop-drop, drop-cons, drop-length, length-take-le, getD-take}
+use borrow.Author.Tests.{eqb-true, eq-eqb, ne-eqb, leb-true, le-leb, lt-leb}
+use Rattle.history.proofs.WordsLaws.{and-left, and-right, both, and-false}
+use Rattle.manual.specs.Configuration.{Configuration, events, places, frameBytes, configOk}
+use Rattle.manual.specs.State.{recordWidth}
+use Rattle.manual.specs.Memory.{entryWidth, entryCount, bytesInUse}
+use Rattle.manual.specs.Image.{headerLength, recordsOf, afterRecords, usedIn}
+use Rattle.manual.proofs.ConfigurationLaws.{config-tells}
+use Rattle.image.specs.Layout.{memoryAt, lengthOk}
+use Rattle.image.specs.Ready.{Counted}
+
+-- ---- sizes
+
+pub used-most : (F k : ℕ) → F ≤ 32 → k ≤ 64 → bytesInUse F k ≤ 2241
+used-most F k h q = let w : entryWidth F ≤ 35 = omega arith in let m : entryWidth F * k ≤ 35 * 64 = mul-le-mul w q in omega arith
+
+-- ---- the tests of an image's length, in the code's order
+
+module _ (cfg : Configuration) (image : List ℕ) where
+  rest-is : {start : ℕ} → start ≡ memoryAt cfg → take (length image - start) (drop start image) ≡ afterRecords cfg image
+  rest-is {start} e = take-all (length image - start) (drop start image) (omega (arith, length-drop start image)) ∙ ap (λ (k : ℕ). drop k image) e
+
+  pub too-short : {start : ℕ} → start ≡ memoryAt cfg → length image ≤ start → lengthOk cfg image ≡ false
+  unfolding lengthOk
+  too-short e h =
+      ap (λ (b : Bool). leb (entryCount (afterRecords cfg image)) (places cfg) && b) (ne-eqb (length image) (memoryAt cfg + usedIn cfg image + 1) (λ q. omega arith))
+      ∙ and-false (leb (entryCount (afterRecords cfg image)) (places cfg))
+
+  module _ {start count : ℕ} (e : start ≡ memoryAt cfg) (q : count ≡ entryCount (take (length image - start) (drop start image))) where
+    count-is : count ≡ entryCount (afterRecords cfg image)
+    count-is = q ∙ ap entryCount (rest-is e)
+
+    pub too-many : places cfg < count → lengthOk cfg image ≡ false
+    unfolding lengthOk
+    too-many h = rw (lt-leb (entryCount (afterRecords cfg image)) (places cfg) (omega (arith, count-is)))
+
+    module _ (h : count ≤ places cfg) where
+      pub counted : configOk cfg ≡ true → start < length image → Counted cfg (take (length image - start) (drop start image))
+      counted ok k = record {
+        accepted = ok;
+        some = let l = length-take-le (length image - start) (drop start image) (omega (arith, length-drop start image)) in omega arith;
+        few = omega (arith, q);
+      }
+
+      module _ {used : ℕ} (u : used ≡ bytesInUse (frameBytes cfg) (entryCount (take (length image - start) (drop start image)))) where
+        pub end-most : configOk cfg ≡ true → start + used ≤ 4309
+        end-most ok =
+            let t = config-tells cfg ok in
+            let k = entryCount (take (length image - start) (drop start image)) in
+            omega (arith, e, t .n-most, u, used-most (frameBytes cfg) k (t .F-most) (omega (arith, q, t .M-most)))
+
+        pub few-enough : eqb (length image) (start + used + 1) ≡ lengthOk cfg image
+        unfolding lengthOk
+        few-enough =
+            let is = u ∙ ap (λ (l : List ℕ). bytesInUse (frameBytes cfg) (entryCount l)) (rest-is e) in
+            (λ i. eqb (length image) (e i + is i + 1)) ∙ sym (rw (le-leb (entryCount (afterRecords cfg image)) (places cfg) (omega (arith, count-is))))
+
+-- ---- an image cut into its header and its bodies
+
+abbrev pub joined : List ℕ → List ℕ → List ℕ → ℕ → List ℕ
+joined header records used flag = header ++ (records ++ (used ++ (flag ∷ [])))
+
+pub record Fitting (cfg : Configuration) (header records used : List ℕ) : Type 0 where
+  pub header-long : length header ≡ headerLength
+  pub records-long : length records ≡ recordWidth * events cfg
+  pub used-long : length used ≡ bytesInUse (frameBytes cfg) (entryCount used)
+  pub few : entryCount used ≤ places cfg
+
+-- what stands in such an image
+module _ (cfg : Configuration) (header records used : List ℕ) (flag : ℕ) (fits : Fitting cfg header records used) where
+  abbrev image : List ℕ
+  image = joined header records used flag
+
+  after-header : drop headerLength image ≡ records ++ (used ++ (flag ∷ []))
+  after-header = drop-at header _ headerLength (fits .header-long)
+
+  pub records-in : recordsOf cfg image ≡ records
+  records-in = ap (take (recordWidth * events cfg)) after-header ∙ take-at records _ (recordWidth * events cfg) (fits .records-long)
+
+  pub rest-in : afterRecords cfg image ≡ used ++ (flag ∷ [])
+  rest-in =
+      sym (drop-drop (recordWidth * events cfg) headerLength image)
+      ∙ ap (drop (recordWidth * events cfg)) after-header
+      ∙ drop-at records _ (recordWidth * events cfg) (fits .records-long)
+
+  pub count-in : entryCount (afterRecords cfg image) ≡ entryCount used
+  count-in = ap entryCount rest-in ∙ List·getD-append used (flag ∷ []) 0 0 (omega (arith, fits .used-long))
+
+  pub used-in : usedIn cfg image ≡ length used
+  used-in = ap (bytesInUse (frameBytes cfg)) count-in ∙ sym (fits .used-long)
+
+  length-in : length image ≡ memoryAt cfg + usedIn cfg image + 1
+  length-in =
+      simp length-append
+      (let a = fits .header-long in let b = fits .records-long in let d = used-in in omega arith)
+
+  pub length-right : lengthOk cfg image ≡ true
+  unfolding lengthOk
+  length-right =
+      both (leb (entryCount (afterRecords cfg image)) (places cfg)) (eqb (length image) (memoryAt cfg + usedIn cfg image + 1))
+      (le-leb (entryCount (afterRecords cfg image)) (places cfg) (let d = count-in in let e = fits .few in omega arith)) (eq-eqb _ _ length-in)
+
+-- every image of the right length is one
+module _ (cfg : Configuration) (image : List ℕ) (ok : lengthOk cfg image ≡ true) where
+  few-in : entryCount (afterRecords cfg image) ≤ places cfg
+  unfolding lengthOk
+  few-in = leb-true _ _ (and-left (leb (entryCount (afterRecords cfg image)) (places cfg)) (eqb (length image) (memoryAt cfg + usedIn cfg image + 1)) ok)
+
+  pub length-is : length image ≡ memoryAt cfg + usedIn cfg image + 1
+  unfolding lengthOk
+  length-is = eqb-true _ _ (and-right (leb (entryCount (afterRecords cfg image)) (places cfg)) (eqb (length image) (memoryAt cfg + usedIn cfg image + 1)) ok)
+
+  abbrev pub headerPart : List ℕ
+  headerPart = take headerLength image
+
+  abbrev pub usedPart : List ℕ
+  usedPart = take (usedIn cfg image) (afterRecords cfg image)
+
+  abbrev pub flagByte : ℕ
+  flagByte = getD image (length image - 1) 0
+
+  used-is : length usedPart ≡ usedIn cfg image
+  used-is = length-take-le (usedIn cfg image) (afterRecords cfg image) (let l = length-is in omega (arith, length-drop (memoryAt cfg) image))
+
+  same-count : entryCount usedPart ≡ entryCount (afterRecords cfg image)
+  same-count = getD-take (usedIn cfg image) (afterRecords cfg image) 0 0 (omega arith)
+
+  pub parts-fit : Fitting cfg headerPart (recordsOf cfg image) usedPart
+  parts-fit = record {
+    header-long = length-take-le headerLength image (let l = length-is in omega arith);
+    records-long = length-take-le (recordWidth * events cfg) (drop headerLength image) (let l = length-is in omega (arith, length-drop headerLength image));
+    used-long = used-is ∙ ap (bytesInUse (frameBytes cfg)) (sym same-count);
+    few = let e = same-count in let h = few-in in omega arith;
+  }
+
+  last-is : drop (usedIn cfg image) (afterRecords cfg image) ≡ flagByte ∷ []
+  last-is =
+      let l = length-is in
+      let at : length image - 1 ≡ memoryAt cfg + usedIn cfg image = omega arith in
+      let past : suc (memoryAt cfg + usedIn cfg image) ≡ length image = omega arith in
+      drop-drop (usedIn cfg image) (memoryAt cfg) image
+      ∙ drop-cons image (memoryAt cfg + usedIn cfg image) 0 (omega arith)
+      ∙ (λ i. getD image (sym at i) 0 ∷ (ap (λ (k : ℕ). drop k image) past ∙ drop-length image) i)
+
+  -- the numbers that the code goes by
+  pub length-least : memoryAt cfg + 2 ≤ length image
+  length-least = let l = length-is in omega arith
+
+  pub length-most : configOk cfg ≡ true → length image ≤ 4310
+  length-most accepted =
+      let t = config-tells cfg accepted in
+      let l = length-is in
+      let h = few-in in
+      let u = used-most (frameBytes cfg) (entryCount (afterRecords cfg image)) (t .F-most) (omega (arith, t .M-most)) in
+      omega (arith, t .n-most)
+
+  pub parts-joined : joined headerPart (recordsOf cfg image) usedPart flagByte ≡ image
+  parts-joined =
+      let rest : usedPart ++ (flagByte ∷ []) ≡ afterRecords cfg image =
+      ap (λ (l : List ℕ). usedPart ++ l) (sym last-is) ∙ take-append-drop (usedIn cfg image) (afterRecords cfg image) in
+      let bodies : recordsOf cfg image ++ afterRecords cfg image ≡ drop headerLength image =
+      ap (λ (l : List ℕ). recordsOf cfg image ++ l) (sym (drop-drop (recordWidth * events cfg) headerLength image))
+      ∙ take-append-drop (recordWidth * events cfg) (drop headerLength image) in
+      ap (λ (l : List ℕ). headerPart ++ (recordsOf cfg image ++ l)) rest
+      ∙ ap (λ (l : List ℕ). headerPart ++ l) bodies
+      ∙ take-append-drop headerLength image

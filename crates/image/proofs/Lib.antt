@@ -1,0 +1,5 @@
+pub mod LayoutLaws
+pub mod JudgementLaws
+pub mod SaveLaws
+pub mod RestoreLaws
+pub mod OneOutcomeOnly

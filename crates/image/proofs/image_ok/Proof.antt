@@ -1,0 +1,107 @@
+-- `image_ok` meets its contract: past the test of the length each part that is judged lies in the image.
+use mathlib.Core.Path.{_≡_, sym, _∙_}
+use mathlib.Core.Bool.{true}
+use Prim.Native.Nat.{_+_, _≤_}
+use native.Mathlib.Omega.{arith}
+use denote.Ref.{now}
+use lib.ListN.{length}
+use lib.Seq.{length-take-le}
+use borrow.Author.Tests.{not-true, not-false}
+use Rattle.image.specs.Layout.{memoryAt, lengthOk}
+use Rattle.image.proofs.LayoutLaws.{length-least, length-most}
+use Rattle.image.proofs.JudgementLaws.{refused-by-length, judged-right}
+use borrow.Author.Needs.{needs}
+use Rattle.image.proofs.image_ok.Statement.{statement}
+use Rattle.image.proofs.image_ok.Tie as tie
+
+-- past the test of the length
+right : (c : tie.Else1) → lengthOk (now (c .before .before .before .args .cfg)) (now (c .before .before .before .args .image)) ≡ true
+right c = sym (c .before .length-ok .ensures) ∙ not-false _ (c .if1 .left)
+
+least : (c : tie.Else1) → memoryAt (now (c .before .before .before .args .cfg)) + 2 ≤ length (now (c .before .before .before .args .image))
+least c = length-least _ _ (right c)
+
+length-ok-requires : tie.Need-length-ok-requires
+length-ok-requires c κs = search needs
+
+returns : tie.Need-returns
+returns c = sym (refused-by-length _ _ (sym (c .before .length-ok .ensures) ∙ not-true _ (c .if1 .taken)))
+
+memory-at-requires : tie.Need-memory-at-requires
+memory-at-requires c κs = search needs
+
+sub-end : tie.Need-sub-end
+sub-end c = omega (arith, least (c .before))
+
+sub-header : tie.Need-sub-header
+sub-header c = search needs
+
+sub-header-2 : tie.Need-sub-header-2
+sub-header-2 c = omega (arith, least (c .before), c .memory-at .ensures)
+
+header-requires : tie.Need-header-requires
+header-requires c κs = omega (arith, least (c .before), length-most _ _ (right (c .before)) (c .before .before .before .before .pre), c .memory-at .ensures)
+
+slice-aggregate-same-bytes : tie.Need-slice-aggregate-same-bytes
+slice-aggregate-same-bytes c = search needs
+
+slice-aggregate-same-bytes-2 : tie.Need-slice-aggregate-same-bytes-2
+slice-aggregate-same-bytes-2 c =
+    sym (length-take-le 20 (now (c .before .before .before .before .before .before .before .args .image)) (omega (arith, least (c .before .before .before .before))))
+
+same-bytes-requires : tie.Need-same-bytes-requires
+same-bytes-requires c κs = search needs
+
+sub-bodies-ok : tie.Need-sub-bodies-ok
+sub-bodies-ok c = search needs
+
+part-bodies-ok-start : tie.Need-part-bodies-ok-start
+part-bodies-ok-start c = search needs
+
+part-bodies-ok-end : tie.Need-part-bodies-ok-end
+part-bodies-ok-end c = omega (arith, least (c .before .before .before .before .before), c .before .before .before .before .memory-at .ensures)
+
+sub-bodies-ok-2 : tie.Need-sub-bodies-ok-2
+sub-bodies-ok-2 c = omega (arith, least (c .before .before .before .before .before .before), c .before .before .before .before .before .memory-at .ensures)
+
+part-bodies-ok-start-2 : tie.Need-part-bodies-ok-start-2
+part-bodies-ok-start-2 c = omega (arith, least (c .before .before .before .before .before .before), c .before .before .before .before .before .memory-at .ensures)
+
+part-bodies-ok-end-2 : tie.Need-part-bodies-ok-end-2
+part-bodies-ok-end-2 c = search needs
+
+bodies-ok-requires : tie.Need-bodies-ok-requires
+bodies-ok-requires c κs = search needs
+
+shared-slice-read-result : tie.Need-shared-slice-read-result
+shared-slice-read-result c = omega (arith, least (c .before .before .before .before .before .before .before .before .before))
+
+returns-2 : tie.Need-returns-2
+returns-2 c =
+    judged-right _ _ (right (c .before .before .before .before .before .before .before .before .before))
+    (c .before .before .before .before .before .before .before .before .memory-at .ensures) (c .before .before .before .before .before .before .before .header .ensures)
+    (c .before .before .before .before .same-bytes .ensures) (c .before .bodies-ok .ensures)
+
+pub image-ok-spec : {M : Type 1} → statement M
+image-ok-spec =
+    tie.close
+    (tie.spec
+    length-ok-requires
+    returns
+    memory-at-requires
+    sub-end
+    sub-header
+    sub-header-2
+    header-requires
+    slice-aggregate-same-bytes
+    slice-aggregate-same-bytes-2
+    same-bytes-requires
+    sub-bodies-ok
+    part-bodies-ok-start
+    part-bodies-ok-end
+    sub-bodies-ok-2
+    part-bodies-ok-start-2
+    part-bodies-ok-end-2
+    bodies-ok-requires
+    shared-slice-read-result
+    returns-2)

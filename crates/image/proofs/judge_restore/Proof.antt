@@ -1,0 +1,51 @@
+-- `judge_restore` meets its contract.
+use mathlib.Core.Bool.{false}
+use Rattle.manual.specs.declared.Board.{Board}
+use Rattle.manual.specs.State.{allStopped}
+use mathlib.Core.Path.{sym, ap, _∙_}
+use denote.Ref.{now}
+use Rattle.state.specs.Checks.{checkNumber}
+use Rattle.image.proofs.RestoreLaws.{begun-accepted, judged-go, judged-bad, judged-stop}
+use borrow.Author.Needs.{needs}
+use Rattle.image.proofs.judge_restore.Statement.{statement}
+use Rattle.image.proofs.judge_restore.Tie as tie
+
+begin-with-lengths-requires : tie.Need-begin-with-lengths-requires
+begin-with-lengths-requires c κs = search needs
+
+enum-told : tie.Need-enum-told
+enum-told c = search needs
+
+image-ok-requires : tie.Need-image-ok-requires
+image-ok-requires c κs = let b : Board = record { running = allStopped; overflow = false } in
+    begun-accepted _ (now (c .before .before .before .before .before .before .args .image)) _ _ _ b
+    (sym (c .before .before .begin-with-lengths .ensures b) ∙ ap checkNumber (c .enum-told .given .1))
+
+returns : tie.Need-returns
+returns c =
+    λ b. judged-go _ _ _ _ _ b (sym (c .before .before .before .before .begin-with-lengths .ensures b) ∙ ap checkNumber (c .before .before .enum-told .given .1))
+    (c .before .image-ok .ensures) (c .if1 .taken)
+
+enum-known-r : tie.Need-enum-known-r
+enum-known-r c = search needs
+
+returns-2 : tie.Need-returns-2
+returns-2 c =
+    λ b. judged-bad _ _ _ _ _ b (sym (c .before .before .before .before .begin-with-lengths .ensures b) ∙ ap checkNumber (c .before .before .enum-told .given .1))
+    (c .before .image-ok .ensures) (c .if1 .left)
+
+returns-3 : tie.Need-returns-3
+returns-3 c =
+    λ b. judged-stop _ _ _ _ _ b (c .before .r .given .0 .0) (sym (ap checkNumber (c .before .r .given .1)) ∙ c .before .before .before .begin-with-lengths .ensures b)
+
+pub judge-restore-spec : {M : Type 1} → statement M
+judge-restore-spec =
+    tie.close
+    (tie.spec
+    begin-with-lengths-requires
+    enum-told
+    image-ok-requires
+    returns
+    enum-known-r
+    returns-2
+    returns-3)

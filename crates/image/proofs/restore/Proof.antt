@@ -1,0 +1,72 @@
+-- `restore` meets its contract.
+use mathlib.Core.Path.{sym, ap, _∙_}
+use Rattle.state.specs.Checks.{checkNumber}
+use Rattle.manual.specs.Image.{restore}
+use Rattle.manual.proofs.AnswersLaws.{stops-with}
+use Rattle.image.proofs.RestoreLaws.{restore-ready, restore-done}
+use borrow.Author.Needs.{needs}
+use Rattle.image.proofs.restore.Statement.{statement}
+use Rattle.image.proofs.restore.Tie as tie
+
+judge-restore-requires : tie.Need-judge-restore-requires
+judge-restore-requires c κs = search needs
+
+enum-told : tie.Need-enum-told
+enum-told c = search needs
+
+accept-restore-requires : tie.Need-accept-restore-requires
+accept-restore-requires c κs =
+    let board = c .before .before .before .before .before .before .before .before .before .before .before .before .args .board in
+    let go = ap checkNumber (c .before .before .before .enum-told .given .1) in
+    restore-ready _ _ _ _ _ board (sym (c .before .before .before .before .before .judge-restore .ensures board) ∙ go)
+
+enum-known-r : tie.Need-enum-known-r
+enum-known-r c = search needs
+
+same-length : tie.Need-same-length
+same-length c = search needs
+
+same-length-2 : tie.Need-same-length-2
+same-length-2 c = search needs
+
+same-length-3 : tie.Need-same-length-3
+same-length-3 c = search needs
+
+returns : tie.Need-returns
+returns c =
+    let board = c .before .before .before .before .before .before .before .before .before .before .before .before .before .before .before .before .before .before .args .board in
+    let go = ap checkNumber (c .before .before .before .before .before .before .before .before .before .enum-told .given .1) in
+    restore-done _ _ _ _ _ board (sym (c .before .before .before .before .before .before .before .before .before .before .before .judge-restore .ensures board) ∙ go)
+    (c .before .before .before .before .before .accept-restore .ensures)
+
+same-length-4 : tie.Need-same-length-4
+same-length-4 c = search needs
+
+same-length-5 : tie.Need-same-length-5
+same-length-5 c = search needs
+
+same-length-6 : tie.Need-same-length-6
+same-length-6 c = search needs
+
+returns-2 : tie.Need-returns-2
+unfolding restore
+returns-2 c =
+    let board = c .before .before .before .before .before .before .before .before .before .before .args .board in
+    stops-with _ _ _ _ (c .before .r .given .0 .0) (sym (ap checkNumber (c .before .r .given .1)) ∙ c .before .before .before .judge-restore .ensures board)
+
+pub restore-spec : {M : Type 1} → statement M
+restore-spec =
+    tie.close
+    (tie.spec
+    judge-restore-requires
+    enum-told
+    accept-restore-requires
+    enum-known-r
+    same-length
+    same-length-2
+    same-length-3
+    returns
+    same-length-4
+    same-length-5
+    same-length-6
+    returns-2)

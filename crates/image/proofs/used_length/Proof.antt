@@ -1,0 +1,24 @@
+-- `used_length` meets its contract.
+use mathlib.Core.Path.{ap, _∙_}
+use Prim.Native.Nat.{ℕ}
+use native.Mathlib.Omega.{arith}
+use denote.Ref.{now}
+use Rattle.manual.specs.Memory.{entryCount, bytesInUse}
+use Rattle.manual.proofs.ConfigurationLaws.{config-tells}
+use borrow.Author.Needs.{needs}
+use Rattle.image.proofs.used_length.Statement.{statement}
+use Rattle.image.proofs.used_length.Tie as tie
+
+frame-bytes-requires : tie.Need-frame-bytes-requires
+frame-bytes-requires c κs = search needs
+
+bytes-in-use-requires : tie.Need-bytes-in-use-requires
+bytes-in-use-requires c κs =
+    let t = config-tells _ (c .before .before .pre .accepted) in
+    (c .before .before .pre .some, (omega (arith, c .before .before .pre .few, t .M-most), omega (arith, c .frame-bytes .ensures, t .F-most)))
+
+returns : tie.Need-returns
+returns c = c .bytes-in-use .ensures ∙ ap (λ (k : ℕ). bytesInUse k (entryCount (now (c .before .before .before .args .memory)))) (c .before .frame-bytes .ensures)
+
+pub used-length-spec : {M : Type 1} → statement M
+used-length-spec = tie.close (tie.spec frame-bytes-requires bytes-in-use-requires returns)

@@ -1,0 +1,370 @@
+// Document 01, "Saved image": save and restore.
+use manual::Answer;
+use manual::Board;
+use manual::LengthAnswer;
+use manual::Refusal;
+use manual::Returned;
+use state::Check;
+ghost use mathlib.Core.Path.{_≡_};
+ghost use mathlib.Core.Bool.{Bool, true, cond};
+ghost use mathlib.Core.List.{List, [], _∷_, _++_};
+ghost use Prim.Native.Nat.{_+_, _-_, _≤_, _<_};
+ghost use lib.IntN.{ℤ, pos};
+ghost use lib.ListN.{length, take, replicate};
+ghost use Rattle.manual.specs.declared.Board.{Board};
+ghost use Rattle.manual.specs.Words.{equal};
+ghost use Rattle.manual.specs.Configuration.{frameBytes, configOk};
+ghost use Rattle.manual.specs.State.{lent, allStopped};
+ghost use Rattle.manual.specs.Memory.{entryCount, bytesInUse};
+ghost use Rattle.manual.specs.Answers.{_if_, firstThatApplies, ofAnswer, ofLength, leaves};
+ghost use Rattle.manual.specs.Image.{headerLength, header, imageFrom, imageOf, stateOf, acceptable, anyRuns, saveRules, save, restoreRules, restore};
+ghost use Rattle.state.specs.Checks.{checkNumber};
+ghost use Rattle.state.specs.Fits.{RecordsFor};
+ghost use Rattle.writing.specs.Writing.{written, filled};
+ghost use Rattle.image.specs.Layout.{memoryAt, lengthOk, bodiesOk};
+ghost use Rattle.image.specs.Ready.{Counted, Savable, Restorable};
+
+// ---- the layout
+
+// "Byte 0 = 3 bodies, byte 1 = edition 1, then three rows of 6"
+const BODY_COUNT: u8 = 3;
+
+const EDITION: u8 = 1;
+
+const HEADER_LENGTH: usize = 20;
+
+// "kind (1, 2, 3 in that order)": "1 the records; 2 the entry count and the entries in use; 3 the overflow flag"
+const KIND_RECORDS: u8 = 1;
+
+const KIND_MEMORY: u8 = 2;
+
+const KIND_OVERFLOW: u8 = 3;
+
+const OVERFLOW_LENGTH: usize = 1;
+
+// "Records: 4n lent bytes"
+const RECORD_WIDTH: usize = 4;
+
+// The header of bodies of these lengths and the overflow flag: after the two bytes a row for each body, "kind …, 0, offset (2), length
+// (2)". "Numbers are high byte first", "Bodies follow without gaps".
+fn header(records: usize, memory: usize) -> [u8; HEADER_LENGTH]
+    requires { ⌜ headerLength + records + memory < 65536 ⌝ }
+    ensures { λ r. ⌜ r ≡ header records memory 1 ⌝ }
+{
+    let memory_at = HEADER_LENGTH + records;
+    let overflow_at = memory_at + memory;
+    [
+        BODY_COUNT,
+        EDITION,
+        KIND_RECORDS,
+        0,
+        (HEADER_LENGTH / 256) as u8,
+        (HEADER_LENGTH % 256) as u8,
+        (records / 256) as u8,
+        (records % 256) as u8,
+        KIND_MEMORY,
+        0,
+        (memory_at / 256) as u8,
+        (memory_at % 256) as u8,
+        (memory / 256) as u8,
+        (memory % 256) as u8,
+        KIND_OVERFLOW,
+        0,
+        (overflow_at / 256) as u8,
+        (overflow_at % 256) as u8,
+        (OVERFLOW_LENGTH / 256) as u8,
+        (OVERFLOW_LENGTH % 256) as u8,
+    ]
+}
+
+// "the overflow flag (0 or 1)"
+fn flag(overflow: bool) -> u8
+    ensures { λ r. ⌜ r ≡ cond overflow 1 0 ⌝ }
+{
+    if overflow { 1 } else { 0 }
+}
+
+// Where body 2 begins.
+fn memory_at(cfg: &[i32]) -> usize
+    requires { ⌜ configOk (now cfg) ≡ true ⌝ }
+    ensures { λ r. ⌜ r ≡ memoryAt (now (cfg .entry)) ⌝ }
+{
+    HEADER_LENGTH + RECORD_WIDTH * config::events(cfg)
+}
+
+// The length of body 2, which begins with the entry count: "the entry count and the entries in use".
+fn used_length(cfg: &[i32], memory: &[u8]) -> usize
+    requires { ⌜ Counted (now cfg) (now memory) ⌝ }
+    ensures { λ r. ⌜ r ≡ bytesInUse (frameBytes (now (cfg .entry))) (entryCount (now (memory .entry))) ⌝ }
+{
+    memory::bytes_in_use(memory, config::frame_bytes(cfg))
+}
+
+// ---- the judgement of an image
+
+// Whether two parts hold the same bytes.
+fn same_bytes(bytes: &[u8], others: &[u8]) -> bool
+    ensures { λ r. ⌜ r ≡ equal (now (bytes .entry)) (now (others .entry)) ⌝ }
+{
+    if bytes.len() != others.len() {
+        return false;
+    }
+    let mut i = 0;
+    while i < bytes.len() {
+        if bytes[i] != others[i] {
+            return false;
+        }
+        i += 1;
+    }
+    true
+}
+
+// Whether the image is as long as its entry count says, and that is at most M. Any bytes may be judged, of any number.
+fn length_ok(cfg: &[i32], image: &[u8]) -> bool
+    requires { ⌜ configOk (now cfg) ≡ true ⌝ }
+    ensures { λ r. ⌜ r ≡ lengthOk (now (cfg .entry)) (now (image .entry)) ⌝ }
+{
+    let start = memory_at(cfg);
+    if image.len() <= start {
+        return false;
+    }
+    let rest = &image[start..];
+    if config::places(cfg) < memory::entry_count(rest) {
+        return false;
+    }
+    image.len() == start + used_length(cfg, rest) + OVERFLOW_LENGTH
+}
+
+// Bodies 1 and 2 are judged as the records and the entries of a lent state are.
+fn bodies_ok(cfg: &[i32], records: &[u8], used: &[u8]) -> bool
+    requires { ⌜ RecordsFor (now cfg) (now records) ⌝ }
+    ensures { λ r. ⌜ r ≡ bodiesOk (now (cfg .entry)) (now (records .entry)) (now (used .entry)) ⌝ }
+{
+    let n = config::events(cfg);
+    let m = config::places(cfg);
+    let f = config::frame_bytes(cfg);
+    state::records_ok(cfg, records) & memory::entries_ok(n, m, f, used, records)
+}
+
+// "Restore accepts exactly the images of well-formed states with all cycles stopped". Any bytes may be judged, of any number.
+fn image_ok(cfg: &[i32], image: &[u8]) -> bool
+    requires { ⌜ configOk (now cfg) ≡ true ⌝ }
+    ensures { λ r. ⌜ r ≡ acceptable (now (cfg .entry)) (now (image .entry)) ⌝ }
+{
+    if !length_ok(cfg, image) {
+        return false;
+    }
+    let start = memory_at(cfg);
+    let end = image.len() - OVERFLOW_LENGTH;
+    let expected = header(start - HEADER_LENGTH, end - start);
+    same_bytes(&expected, &image[..HEADER_LENGTH])
+        & bodies_ok(cfg, &image[HEADER_LENGTH..start], &image[start..end])
+        & (image[end] <= 1)
+}
+
+// ---- save
+
+// "5 | … save, any cycle running"
+fn any_runs(board: Board) -> bool
+    ensures { λ r. ⌜ r ≡ anyRuns board ⌝ }
+{
+    let running = board.running;
+    running[0] | running[1] | running[2] | running[3]
+}
+
+// The length of the image of a state with these records and this memory.
+fn image_length(cfg: &[i32], records: &[u8], memory: &[u8]) -> usize
+    requires { ⌜ Savable (now cfg) (now records) (now memory) ⌝ }
+    ensures { λ r. ⌜ ((d : List ℤ) (b : Board) → r ≡ length (imageOf (now (cfg .entry)) (lent (now (records .entry)) d (now (memory .entry)) b))) ⌝ }
+{
+    HEADER_LENGTH + records.len() + used_length(cfg, memory) + OVERFLOW_LENGTH
+}
+
+// 5, then 7: "The first that applies, in the call's order, is given."
+fn first_of(running: bool, too_small: bool) -> Check
+    ensures { λ r. ⌜ checkNumber r ≡ firstThatApplies ((5 if running) ∷ (7 if «too_small») ∷ []) ⌝ }
+{
+    if running {
+        return Check::Stop(Refusal::WrongCycleState);
+    }
+    if too_small {
+        return Check::Stop(Refusal::RoomTooSmall);
+    }
+    Check::Go
+}
+
+// "save 5, 7"
+fn judge_save(
+    cfg: &[i32],
+    records: &[u8],
+    debounce: &[i32],
+    memory: &[u8],
+    board: Board,
+    room: &[u8],
+) -> Check
+    ensures { λ r. ⌜ checkNumber r
+        ≡ firstThatApplies (saveRules (now (cfg .entry)) (now (room .entry)) (lent (now (records .entry)) (now (debounce .entry)) (now (memory .entry)) board)) ⌝ }
+{
+    match state::begin(cfg, records, debounce, memory, board) {
+        Check::Go => {
+            let too_small = room.len() < image_length(cfg, records, memory);
+            first_of(any_runs(board), too_small)
+        }
+        Check::Stop(r) => Check::Stop(r),
+    }
+}
+
+// Writes the header and the three bodies one after the other, and answers the length of the whole.
+fn write_image(records: &[u8], used: &[u8], overflow: bool, room: &mut [u8]) -> usize
+    requires { ⌜ (headerLength + length (now records) + length (now used) < 65536)
+        × (headerLength + length (now records) + length (now used) + 1 ≤ length (now room)) ⌝ }
+    ensures { λ r. ⌜ written r (now (room .exit))
+        ≡ filled (imageFrom (now (records .entry)) (now (used .entry)) (cond overflow 1 0 ∷ [])) (now (room .entry)) ⌝ }
+{
+    let head = header(records.len(), used.len());
+    let records_at = writing::write(room, 0, &head);
+    let memory_at = writing::write(room, records_at, records);
+    let overflow_at = writing::write(room, memory_at, used);
+    writing::write(room, overflow_at, &[flag(overflow)])
+}
+
+// Writes the image of the state with these records, this memory and this overflow flag, and answers its length.
+fn accept_save(cfg: &[i32], records: &[u8], memory: &[u8], overflow: bool, room: &mut [u8]) -> usize
+    requires { ⌜ (Savable (now cfg) (now records) (now memory))
+        × (headerLength + length (now records) + bytesInUse (frameBytes (now cfg)) (entryCount (now memory)) + 1 ≤ length (now room)) ⌝ }
+    ensures { λ r. ⌜ ((d : List ℤ) (running : List Bool) → written r (now (room .exit))
+        ≡ filled (imageOf (now (cfg .entry)) (lent (now (records .entry)) d (now (memory .entry)) (record { running = running; overflow = overflow }))) (now (room .entry))) ⌝ }
+{
+    let used = used_length(cfg, memory);
+    write_image(records, &memory[..used], overflow, room)
+}
+
+// Save: 2, 3, 5 (any cycle running), 7 (the room is smaller than the image). "Save writes the image, no more, and answers its length."
+// A refusal leaves the room as it was, and its length is 0.
+pub fn save(
+    cfg: &[i32],
+    records: &[u8],
+    debounce: &[i32],
+    memory: &[u8],
+    board: Board,
+    room: &mut [u8],
+) -> LengthAnswer
+    ensures { λ r. ⌜ leaves (ofLength r) [] (now (room .exit)) (lent (now (records .entry)) (now (debounce .entry)) (now (memory .entry)) board)
+        ≡ save (now (cfg .entry)) (now (room .entry)) (lent (now (records .entry)) (now (debounce .entry)) (now (memory .entry)) board) ⌝ }
+{
+    match judge_save(cfg, records, debounce, memory, board, room) {
+        Check::Go => {
+            LengthAnswer::Written(accept_save(cfg, records, memory, board.overflow, room))
+        }
+        Check::Stop(r) => LengthAnswer::Refused(r),
+    }
+}
+
+// ---- restore
+
+// "restore 8"
+fn judge_restore(
+    cfg: &[i32],
+    records: &[u8],
+    debounce: &[i32],
+    memory: &[u8],
+    image: &[u8],
+) -> Check
+    ensures { λ r. ⌜ ((b : Board) → checkNumber r
+        ≡ firstThatApplies (restoreRules (now (cfg .entry)) (now (image .entry)) (lent (now (records .entry)) (now (debounce .entry)) (now (memory .entry)) b))) ⌝ }
+{
+    match state::begin_with_lengths(cfg, records, debounce, memory) {
+        Check::Go => {
+            if image_ok(cfg, image) {
+                return Check::Go;
+            }
+            Check::Stop(Refusal::BadImage)
+        }
+        Check::Stop(r) => Check::Stop(r),
+    }
+}
+
+// Every D 0.
+fn reset_numbers(debounce: &mut [i32])
+    ensures { λ _. ⌜ now (debounce .exit) ≡ replicate (length (now (debounce .entry))) (pos 0) ⌝ }
+{
+    for event in 0..debounce.len() {
+        debounce[event] = 0;
+    }
+}
+
+// Bytes 0 from a place to the end.
+fn zero_from(memory: &mut [u8], at: usize)
+    requires { ⌜ at ≤ length (now memory) ⌝ }
+    ensures { λ _. ⌜ now (memory .exit) ≡ take at (now (memory .entry)) ++ replicate (length (now (memory .entry)) - at) 0 ⌝ }
+{
+    for i in at..memory.len() {
+        memory[i] = 0;
+    }
+}
+
+// Memory of these bytes in use: "the bytes after the last entry are 0".
+fn fill_memory(memory: &mut [u8], used: &[u8])
+    requires { ⌜ length (now used) ≤ length (now memory) ⌝ }
+    ensures { λ _. ⌜ now (memory .exit) ≡ now (used .entry) ++ replicate (length (now (memory .entry)) - length (now (used .entry))) 0 ⌝ }
+{
+    let end = writing::write(memory, 0, used);
+    zero_from(memory, end);
+}
+
+// "all cycles stopped"
+fn stopped_board(overflow: bool) -> Board
+    ensures { λ r. ⌜ r ≡ record { running = allStopped; overflow = overflow } ⌝ }
+{
+    Board {
+        running: [false; 4],
+        overflow,
+    }
+}
+
+// Makes the state that the image tells: its records, every D 0, its entries, all cycles stopped, its overflow flag.
+fn accept_restore(
+    cfg: &[i32],
+    records: &mut [u8],
+    debounce: &mut [i32],
+    memory: &mut [u8],
+    image: &[u8],
+) -> Board
+    requires { ⌜ Restorable (now cfg) (now records) (now debounce) (now memory) (now image) ⌝ }
+    ensures { λ r. ⌜ lent (now (records .exit)) (now (debounce .exit)) (now (memory .exit)) r ≡ stateOf (now (cfg .entry)) (now (image .entry)) ⌝ }
+{
+    let start = memory_at(cfg);
+    let end = image.len() - OVERFLOW_LENGTH;
+    writing::write(records, 0, &image[HEADER_LENGTH..start]);
+    reset_numbers(debounce);
+    fill_memory(memory, &image[start..end]);
+    stopped_board(image[end] == 1)
+}
+
+// Restore: 2, 3 (lengths only), 8. "Restore accepts exactly the images of well-formed states with all cycles stopped, and makes that
+// state." The image is judged whole before anything is written; a refusal changes nothing and hands back the board it was given.
+pub fn restore(
+    cfg: &[i32],
+    records: &mut [u8],
+    debounce: &mut [i32],
+    memory: &mut [u8],
+    board: Board,
+    image: &[u8],
+) -> Returned
+    ensures { λ r. ⌜ leaves (ofAnswer (r .answer)) [] [] (lent (now (records .exit)) (now (debounce .exit)) (now (memory .exit)) (r .board))
+        ≡ restore (now (cfg .entry)) (now (image .entry)) (lent (now (records .entry)) (now (debounce .entry)) (now (memory .entry)) board) ⌝ }
+{
+    match judge_restore(cfg, records, debounce, memory, image) {
+        Check::Go => {
+            let restored = accept_restore(cfg, records, debounce, memory, image);
+            Returned {
+                answer: Answer::Done,
+                board: restored,
+            }
+        }
+        Check::Stop(r) => Returned {
+            answer: Answer::Refused(r),
+            board,
+        },
+    }
+}
