@@ -1,0 +1,74 @@
+-- Read status and read frame: their refusal 4, and where in the caller's own memory block the frame stands. Assumes nothing.
+use mathlib.Core.Bool.{Bool, cond}
+use mathlib.Core.List.{List, [], _∷_}
+use Prim.Native.Nat.{ℕ, _+_}
+use lib.Dec.{eqb, leb}
+use lib.ListN.{length, take, drop}
+use Rattle.manual.specs.declared.FrameAnswer.{FrameAnswer}
+use Rattle.manual.specs.declared.FrameAnswer.the-variants.{At}
+use Rattle.manual.specs.declared.Place.{Place}
+use Rattle.manual.specs.declared.Refusal.the-variants.{NoEntry}
+use Rattle.manual.specs.Configuration.{Configuration, frameBytes}
+use Rattle.manual.specs.State.{State}
+use Rattle.manual.specs.Memory.{bytesInUse}
+use Rattle.manual.specs.WellFormed.{entries}
+use Rattle.manual.specs.Answers.{Outcome, Rule, _if_, ofFrame, leaves}
+use Rattle.manual.specs.Calls.{readFrame}
+use Rattle.memory.specs.declared.Find.{Find}
+use Rattle.memory.specs.declared.Find.the-variants.{Nothing}
+use Rattle.memory.specs.Places.{placeOf}
+
+-- "read status 4; read frame 4, 10": the rule that both have
+abbrev pub four : Bool → List Rule
+four no-such = (4 if no-such) ∷ []
+
+-- ---- the part of a memory block that an answer names
+
+-- as many bytes as the length from the start on, where all of them lie within the block; else none
+unfoldable pub partAt : ℕ → ℕ → List ℕ → List ℕ
+partAt start size m = cond (leb (start + size) (length m)) (take size (drop start m)) []
+
+abbrev pub partOf : FrameAnswer → List ℕ → List ℕ
+partOf (At p) m = partAt (p .start) (p .length) m
+partOf (FrameAnswer.Refused r) m = []
+
+abbrev pub startIn : FrameAnswer → ℕ
+startIn (At p) = p .start
+startIn (FrameAnswer.Refused r) = 0
+
+abbrev pub lengthIn : FrameAnswer → ℕ
+lengthIn (At p) = p .length
+lengthIn (FrameAnswer.Refused r) = 0
+
+-- ---- what read frame answers
+
+-- the outcome, and where the part stands in the caller's block: two entries may hold the same bytes
+pub record FrameRead : Type 0 where
+  pub outcome : Outcome
+  pub start : ℕ
+  pub length : ℕ
+
+-- what an answer says of a state that is left as found
+abbrev pub says : FrameAnswer → State → FrameRead
+says a s = record { outcome = leaves (ofFrame a) (partOf a (s .memory)) [] s; start = startIn a; length = lengthIn a }
+
+-- where the frame of the entry at a place starts: behind "event number (2 bytes, high first), occurrence count (1 to 255)"
+abbrev pub frameAt : ℕ → Place → ℕ
+frameAt F p = bytesInUse F (p .0) + 3
+
+abbrev pub frameStart : ℕ → Find → ℕ
+frameStart F (Find.At p) = frameAt F p
+frameStart F Nothing = 0
+
+-- the answer where 2, 3 and 4 do not apply: "10 | event has no memory entry"
+abbrev pub entryAnswer : ℕ → Find → FrameAnswer
+entryAnswer F (Find.At p) = At (record { start = frameAt F p; length = F })
+entryAnswer F Nothing = FrameAnswer.Refused NoEntry
+
+-- "a frame part empty": a refusal has neither start nor length
+abbrev pub placed : Outcome → ℕ → ℕ → FrameRead
+placed o start size = record { outcome = o; start = cond (eqb (o .answer) 0) start 0; length = cond (eqb (o .answer) 0) size 0 }
+
+-- "The stored frame is read as a part of the caller's own memory block, no copy.": the F bytes that stand in the event's own entry
+unfoldable pub frameRead : Configuration → ℕ → State → FrameRead
+frameRead cfg e s = placed (readFrame cfg e s) (frameStart (frameBytes cfg) (placeOf e (entries cfg s))) (frameBytes cfg)
