@@ -1,0 +1,2 @@
+pub mod BeginningLaws
+pub mod TurnLaws

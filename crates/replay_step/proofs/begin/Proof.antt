@@ -1,0 +1,57 @@
+use mathlib.Core.Path.{ap, _∙_}
+use lib.IntN.{ℤ}
+use denote.Ref.{now}
+use Rattle.config.proofs.SignedInCode.{back}
+use Rattle.replay_step.specs.Beginning.{beginning, withCount}
+use borrow.Author.Needs.{needs}
+use Rattle.replay_step.proofs.begin.Statement.{statement}
+use Rattle.replay_step.proofs.begin.Tie as tie
+
+returns : tie.Need-returns
+unfolding beginning
+returns c = rw (c .if1 .taken)
+
+next-number-requires : tie.Need-next-number-requires
+next-number-requires c κs = search needs
+
+enum-known-count : tie.Need-enum-known-count
+enum-known-count c = search needs
+
+counted-requires : tie.Need-counted-requires
+counted-requires c κs = search needs
+
+enum-told : tie.Need-enum-told
+enum-told c = search needs
+
+enum-told-2 : tie.Need-enum-told-2
+enum-told-2 c = search needs
+
+same-length : tie.Need-same-length
+same-length c = search needs
+
+returns-2 : tie.Need-returns-2
+unfolding beginning
+returns-2 c = rw (c .before .before .before .before .before .before .before .before .before .if1 .left, ← c .before .before .before .before .before .before .before .before .next-number .ensures, c .before .before .before .before .before .before .count .given .1) (c .before .counted .ensures ∙ ap (λ (z : ℤ). withCount z (c .before .before .before .before .before .before .count .given .0 .0 .next .at) (now (c .before .before .before .before .before .before .before .before .before .before .before .args .text))) (back (c .before .before .before .before .before .before .count .given .0 .0 .value) (c .before .before .struct-told .given .0 .1)))
+
+returns-3 : tie.Need-returns-3
+unfolding beginning
+returns-3 c = rw (c .before .before .before .if1 .left, ← c .before .before .next-number .ensures, c .enum-told .given .1)
+
+returns-4 : tie.Need-returns-4
+unfolding beginning
+returns-4 c = rw (c .before .before .before .if1 .left, ← c .before .before .next-number .ensures, c .enum-told2 .given .1)
+
+pub begin-spec : {M : Type 1} → statement M
+begin-spec =
+    tie.close
+    (tie.spec
+    returns
+    next-number-requires
+    enum-known-count
+    counted-requires
+    enum-told
+    enum-told-2
+    same-length
+    returns-2
+    returns-3
+    returns-4)

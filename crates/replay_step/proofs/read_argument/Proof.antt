@@ -1,0 +1,18 @@
+use Rattle.replay_step.specs.Asked.{argumentAt, argumentOf}
+use mathlib.Core.Path.{_∙_, ap}
+use borrow.Author.Needs.{needs}
+use Rattle.replay_step.proofs.read_argument.Statement.{statement}
+use Rattle.replay_step.proofs.read_argument.Tie as tie
+
+next-number-requires : tie.Need-next-number-requires
+next-number-requires c κs = search needs
+
+argument-of-requires : tie.Need-argument-of-requires
+argument-of-requires c κs = search needs
+
+returns : tie.Need-returns
+unfolding argumentAt
+returns c = c .argument-of .ensures ∙ ap argumentOf (c .before .next-number .ensures)
+
+pub read-argument-spec : {M : Type 1} → statement M
+read-argument-spec = tie.close (tie.spec next-number-requires argument-of-requires returns)

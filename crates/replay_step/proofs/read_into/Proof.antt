@@ -1,0 +1,54 @@
+use mathlib.Core.Path.{ap}
+use mathlib.Core.List.{List}
+use lib.IntN.{ℤ}
+use lib.Seq.{take-suc-set}
+use Rattle.config.proofs.SignedInCode.{back}
+use Rattle.replay_step.specs.Beginning.{readTo}
+use borrow.Author.Needs.{needs}
+use Rattle.replay_step.proofs.read_into.Statement.{statement}
+use Rattle.replay_step.proofs.read_into.Tie as tie
+
+next-number-requires : tie.Need-next-number-requires
+next-number-requires c κs = search needs
+
+enum-known-read : tie.Need-enum-known-read
+enum-known-read c = search needs
+
+mul-value : tie.Need-mul-value
+mul-value c = search needs
+
+slice-set-from-value : tie.Need-slice-set-from-value
+slice-set-from-value c = search needs
+
+enum-told : tie.Need-enum-told
+enum-told c = search needs
+
+enum-told-2 : tie.Need-enum-told-2
+enum-told-2 c = search needs
+
+same-length : tie.Need-same-length
+same-length c = search needs
+
+returns : tie.Need-returns
+returns c = rw (← c .before .before .before .before .before .next-number .ensures, c .before .before .before .read .given .1) (ap (λ (l : List ℤ). readTo l (c .before .before .before .read .given .0 .0 .next .at)) (rw (back (c .before .before .before .read .given .0 .0 .value) (c .before .struct-told .given .0 .1)) (take-suc-set _ _ _ (c .before .before .before .before .before .before .before .pre))))
+
+returns-2 : tie.Need-returns-2
+returns-2 c = rw (← c .before .before .next-number .ensures, c .enum-told .given .1)
+
+returns-3 : tie.Need-returns-3
+returns-3 c = rw (← c .before .before .next-number .ensures, c .enum-told2 .given .1)
+
+pub read-into-spec : {M : Type 1} → statement M
+read-into-spec =
+    tie.close
+    (tie.spec
+    next-number-requires
+    enum-known-read
+    mul-value
+    slice-set-from-value
+    enum-told
+    enum-told-2
+    same-length
+    returns
+    returns-2
+    returns-3)

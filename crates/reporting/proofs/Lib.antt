@@ -1,0 +1,4 @@
+pub mod JudgedLaws
+pub mod ReportLaws
+pub mod TickLaws
+pub mod OneOutcomeOnly

@@ -1,0 +1,51 @@
+-- `row_tests` meets its contract: each test in turn.
+use Rattle.manual.specs.Answers.{firstThatApplies}
+use borrow.Author.Needs.{needs}
+use Rattle.reporting.proofs.row_tests.Statement.{statement}
+use Rattle.reporting.proofs.row_tests.Tie as tie
+
+no-pre-result-requires : tie.Need-no-pre-result-requires
+no-pre-result-requires c κs = search needs
+
+wrong-frame-requires : tie.Need-wrong-frame-requires
+wrong-frame-requires c κs = search needs
+
+cycle-runs-requires : tie.Need-cycle-runs-requires
+cycle-runs-requires c κs = search needs
+
+returns : tie.Need-returns
+unfolding firstThatApplies
+returns c = simp (← c .before .before .before .no-pre-result .ensures, c .if1 .taken)
+
+returns-2 : tie.Need-returns-2
+unfolding firstThatApplies
+returns-2 c =
+    simp (← c .before .before .before .before .no-pre-result .ensures, ← c .before .before .before .wrong-frame .ensures, c .before .if1 .left, c .if2 .taken)
+
+returns-3 : tie.Need-returns-3
+unfolding firstThatApplies
+returns-3 c =
+    let no-pre-result = c .before .before .before .before .before .no-pre-result in
+    let wrong-frame = c .before .before .before .before .wrong-frame in
+    let cycle-runs = c .before .before .before .cycle-runs in
+    simp (← no-pre-result .ensures, ← wrong-frame .ensures, ← cycle-runs .ensures, c .before .before .if1 .left, c .before .if2 .left, c .if3 .taken)
+
+returns-4 : tie.Need-returns-4
+unfolding firstThatApplies
+returns-4 c =
+    let no-pre-result = c .before .before .before .before .before .no-pre-result in
+    let wrong-frame = c .before .before .before .before .wrong-frame in
+    let cycle-runs = c .before .before .before .cycle-runs in
+    simp (← no-pre-result .ensures, ← wrong-frame .ensures, ← cycle-runs .ensures, c .before .before .if1 .left, c .before .if2 .left, c .if3 .left)
+
+pub row-tests-spec : {M : Type 1} → statement M
+row-tests-spec =
+    tie.close
+    (tie.spec
+    no-pre-result-requires
+    wrong-frame-requires
+    cycle-runs-requires
+    returns
+    returns-2
+    returns-3
+    returns-4)

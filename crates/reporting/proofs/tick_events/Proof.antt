@@ -1,0 +1,89 @@
+-- `tick_events` meets its contract: at each turn the events below have had their part of the tick.
+use mathlib.Core.Path.{_≡_, refl, _∙_}
+use Prim.Native.Nat.{_-_, _≤_, _<_}
+use native.Mathlib.Numerals.{add-one}
+use native.Mathlib.Omega.{arith}
+use denote.Ref.{now}
+use lib.ListN.{length}
+use Rattle.manual.specs.Words.{forBelow}
+use Rattle.manual.specs.Configuration.{events}
+use Rattle.manual.specs.State.{lent}
+use Rattle.manual.specs.OneEvent.{forThose}
+use Rattle.reporting.proofs.TickLaws.{tickedBelow, turn-ready}
+use borrow.Author.Needs.{needs}
+use Rattle.reporting.proofs.tick_events.Statement.{statement}
+use Rattle.reporting.proofs.tick_events.Tie as tie
+
+abbrev Inv-loop : tie.InvT-loop
+Inv-loop cfg records₀ debounce₀ memory₀ board ms frame n after₀ event₀ records debounce memory after event =
+    (event ≤ n) × (lent records debounce memory after ≡ tickedBelow cfg (lent records₀ debounce₀ memory₀ board) ms frame event)
+    × (length records ≡ length records₀) × (length debounce ≡ length debounce₀) × (length memory ≡ length memory₀)
+
+abbrev μ-loop : tie.MeasureT-loop
+μ-loop cfg records₀ debounce₀ memory₀ board ms frame n after₀ event₀ records debounce memory after event = n - event
+
+events-requires : tie.Need-events-requires Inv-loop μ-loop
+events-requires c κs = search needs
+
+loop-holds : tie.Need-loop-holds Inv-loop μ-loop
+unfolding forBelow
+loop-holds c = (omega arith, refl, refl, refl, refl)
+
+tick-event-requires : tie.Need-tick-event-requires Inv-loop μ-loop
+tick-event-requires c κs =
+    let m = c .before .before .before .before .before .before .before .before .before .pre in
+    let loop = c .before .before .before .before .loop in
+    let cfg = c .before .before .before .before .before .before .before .before .before .args .cfg in
+    let below : loop .event < events (now cfg) = omega (arith, c .before .before .before .loop-test .taken, c .before .before .before .before .before .events .ensures) in
+    (turn-ready _ _ _ _ m (loop .event) below (loop .inv .1), (m .frame-fits, m .short))
+
+add-event : tie.Need-add-event Inv-loop μ-loop
+add-event c = omega arith
+
+loop-less : tie.Need-loop-less Inv-loop μ-loop
+loop-less c = omega arith
+
+loop-again : tie.Need-loop-again Inv-loop μ-loop
+unfolding forBelow
+loop-again c =
+    let inv = c .before .before .before .before .before .before .before .before .before .before .loop .inv in
+    let tick-event = c .before .before .before .before .before .tick-event in (
+      omega arith,
+      rw (add-one, ← inv .1) (tick-event .ensures),
+      tick-event .kept .1 .0 ∙ inv .2,
+      tick-event .kept .1 .1 .0 ∙ inv .3,
+      tick-event .kept .1 .1 .1 .0 ∙ inv .4,
+    )
+
+same-length : tie.Need-same-length Inv-loop μ-loop
+same-length c = search needs
+
+same-length-2 : tie.Need-same-length-2 Inv-loop μ-loop
+same-length-2 c = search needs
+
+same-length-3 : tie.Need-same-length-3 Inv-loop μ-loop
+same-length-3 c = search needs
+
+returns : tie.Need-returns Inv-loop μ-loop
+unfolding forThose
+returns c =
+    let cfg = c .before .before .before .before .before .before .args .cfg in
+    let all : c .before .loop .event ≡ events (now cfg) = omega (arith, c .before .before .events .ensures) in
+    rw (← all) (c .before .loop .inv .1)
+
+pub tick-events-spec : {M : Type 1} → statement M
+tick-events-spec =
+    tie.close
+    (tie.spec
+    Inv-loop
+    μ-loop
+    events-requires
+    loop-holds
+    tick-event-requires
+    add-event
+    loop-less
+    loop-again
+    same-length
+    same-length-2
+    same-length-3
+    returns)

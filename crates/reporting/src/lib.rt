@@ -1,0 +1,293 @@
+// Document 01, "report" and "tick": the two calls that bring results to the events.
+use manual::Answer;
+use manual::Board;
+use manual::EventNumber;
+use manual::Refusal;
+use manual::ReportAnswer;
+use manual::ReportReturned;
+use manual::Returned;
+use state::Check;
+ghost use mathlib.Core.Path.{_≡_};
+ghost use mathlib.Core.Bool.{true, _&&_, cond};
+ghost use mathlib.Core.List.{List, []};
+ghost use Prim.Native.Nat.{ℕ, _≤_, _<_};
+ghost use lib.Dec.{ltb};
+ghost use lib.IntN.{ℤ};
+ghost use lib.ListN.{length};
+ghost use Rattle.manual.specs.Configuration.{frameBytes, isInternal, configOk};
+ghost use Rattle.manual.specs.State.{lent};
+ghost use Rattle.manual.specs.Answers.{refused, firstThatApplies, numberOf, ofAnswer, ofReport, leaves};
+ghost use Rattle.manual.specs.OneEvent.{forThose};
+ghost use Rattle.manual.specs.Calls.{wrongFrame, cycleRuns, reportRules, reportDone, report, tickRules, timeRuns, ticks, tick};
+ghost use Rattle.state.specs.Checks.{checkNumber};
+ghost use Rattle.one_event.specs.Ready.{Ready};
+ghost use Rattle.reporting.specs.Accepted.{MayTick};
+ghost use Rattle.reporting.specs.Tests.{rowTests, reportTests, tickTests};
+
+// "Codes: 0 passed, 1 failed, 2 pre-passed, 3 pre-failed."
+const FAILED: u32 = 1;
+
+const PRE_FAILED: u32 = 3;
+
+// "Tick of d ms (0 to 60,000)"
+const LONGEST_TICK: u32 = 60_000;
+
+// "9 | lent frame is not F bytes"
+fn wrong_frame(cfg: &[i32], frame: &[u8]) -> bool
+    ensures { λ r. ⌜ r ≡ wrongFrame (now (cfg .entry)) (now (frame .entry)) ⌝ }
+{
+    frame.len() != config::frame_bytes(cfg)
+}
+
+// Whether the event's cycle runs.
+fn cycle_runs(cfg: &[i32], board: Board, event: EventNumber) -> bool
+    requires { ⌜ event .0 < 512 ⌝ }
+    ensures { λ r. ⌜ r ≡ cycleRuns (now (cfg .entry)) board (event .0) ⌝ }
+{
+    state::runs(board, config::cycle_of(cfg, event))
+}
+
+// ---- report
+
+// "6 | pre-result reported to an event of kind 0"
+fn no_pre_result(cfg: &[i32], event: EventNumber, code: u32) -> bool
+    requires { ⌜ event .0 < 512 ⌝ }
+    ensures { λ r. ⌜ r ≡ isInternal (now (cfg .entry)) (event .0) && ltb 1 code ⌝ }
+{
+    (config::kind_of(cfg, event) == config::INTERNAL) & (FAILED < code)
+}
+
+// "report …, 6, 9, 5", of an event that has a row.
+fn row_tests(cfg: &[i32], board: Board, event: EventNumber, code: u32, frame: &[u8]) -> Check
+    requires { ⌜ event .0 < 512 ⌝ }
+    ensures { λ r. ⌜ checkNumber r ≡ firstThatApplies (rowTests (now (cfg .entry)) board (event .0) code (now (frame .entry))) ⌝ }
+{
+    let pre_refused = no_pre_result(cfg, event, code);
+    let frame_refused = wrong_frame(cfg, frame);
+    let running = cycle_runs(cfg, board, event);
+    if pre_refused {
+        return Check::Stop(Refusal::NoPreResult);
+    }
+    if frame_refused {
+        return Check::Stop(Refusal::WrongFrame);
+    }
+    if !running {
+        return Check::Stop(Refusal::WrongCycleState);
+    }
+    Check::Go
+}
+
+// "report 4, 1, 6, 9, 5". An event past the last has no row, so 4 is judged before the row is read.
+fn report_tests(cfg: &[i32], board: Board, event: EventNumber, code: u32, frame: &[u8]) -> Check
+    requires { ⌜ configOk (now cfg) ≡ true ⌝ }
+    ensures { λ r. ⌜ checkNumber r ≡ firstThatApplies (reportTests (now (cfg .entry)) board (event .0) code (now (frame .entry))) ⌝ }
+{
+    let event_refused = config::events(cfg) <= event.0;
+    let code_refused = PRE_FAILED < code;
+    if event_refused {
+        return Check::Stop(Refusal::NoSuch);
+    }
+    if code_refused {
+        return Check::Stop(Refusal::BadArgument);
+    }
+    row_tests(cfg, board, event, code, frame)
+}
+
+// "The first that applies, in the call's order, is given. Every call begins 2, 3."
+fn judge_report(
+    cfg: &[i32],
+    records: &[u8],
+    debounce: &[i32],
+    memory: &[u8],
+    board: Board,
+    event: EventNumber,
+    code: u32,
+    frame: &[u8],
+) -> Check
+    ensures { λ r. ⌜ checkNumber r ≡ firstThatApplies (reportRules (now (cfg .entry)) (event .0) code (now (frame .entry)) (lent (now (records .entry)) (now (debounce .entry)) (now (memory .entry)) board)) ⌝ }
+{
+    match state::begin(cfg, records, debounce, memory, board) {
+        Check::Go => report_tests(cfg, board, event, code, frame),
+        Check::Stop(r) => Check::Stop(r),
+    }
+}
+
+// "Each accepted report gives a verdict: none, passed or failed."
+fn accept_report(
+    cfg: &[i32],
+    records: &mut [u8],
+    debounce: &mut [i32],
+    memory: &mut [u8],
+    board: Board,
+    event: EventNumber,
+    code: u32,
+    frame: &[u8],
+) -> ReportReturned
+    requires { ⌜ (Ready (now cfg) (lent (now records) (now debounce) (now memory) board) (event .0)) × (length (now frame) ≡ frameBytes (now cfg)) ⌝ }
+    ensures { λ r. ⌜ leaves (ofReport (r .answer)) [] [] (lent (now (records .exit)) (now (debounce .exit)) (now (memory .exit)) (r .board)) ≡ reportDone (now (cfg .entry)) (event .0) code (now (frame .entry)) (lent (now (records .entry)) (now (debounce .entry)) (now (memory .entry)) board) ⌝ }
+{
+    let after = one_event::reports(cfg, records, debounce, memory, board, event, code, frame);
+    let verdict = after.verdict;
+    let board_after = after.board;
+    ReportReturned {
+        answer: ReportAnswer::Accepted(verdict),
+        board: board_after,
+    }
+}
+
+// "A refusal changes nothing lent and hands back the board it was given; …, a verdict none."
+fn refuse_report(refusal: Refusal, board: Board) -> ReportReturned
+    ensures { λ r. ⌜ ((records : List ℕ) (debounce : List ℤ) (memory : List ℕ) → leaves (ofReport (r .answer)) [] [] (lent records debounce memory (r .board)) ≡ refused (numberOf refusal) [] (lent records debounce memory board)) ⌝ }
+{
+    let answer = ReportAnswer::Refused(refusal);
+    ReportReturned { answer, board }
+}
+
+// A test of the event has a result: code "0 passed, 1 failed, 2 pre-passed, 3 pre-failed". Memory is told of a fresh failure, with the
+// lent frame. Answers the verdict, or the first of 2, 3, 4, 1, 6, 9, 5 that applies.
+pub fn report(
+    cfg: &[i32],
+    records: &mut [u8],
+    debounce: &mut [i32],
+    memory: &mut [u8],
+    board: Board,
+    event: EventNumber,
+    code: u32,
+    frame: &[u8],
+) -> ReportReturned
+    ensures { λ r. ⌜ leaves (ofReport (r .answer)) [] [] (lent (now (records .exit)) (now (debounce .exit)) (now (memory .exit)) (r .board)) ≡ report (now (cfg .entry)) (event .0) code (now (frame .entry)) (lent (now (records .entry)) (now (debounce .entry)) (now (memory .entry)) board) ⌝ }
+{
+    match judge_report(cfg, records, debounce, memory, board, event, code, frame) {
+        Check::Go => accept_report(cfg, records, debounce, memory, board, event, code, frame),
+        Check::Stop(r) => refuse_report(r, board),
+    }
+}
+
+// ---- tick
+
+// "tick 1, 9"
+fn tick_tests(cfg: &[i32], ms: u32, frame: &[u8]) -> Check
+    ensures { λ r. ⌜ checkNumber r ≡ firstThatApplies (tickTests (now (cfg .entry)) ms (now (frame .entry))) ⌝ }
+{
+    let ms_refused = LONGEST_TICK < ms;
+    let frame_refused = wrong_frame(cfg, frame);
+    if ms_refused {
+        Check::Stop(Refusal::BadArgument)
+    } else if frame_refused {
+        Check::Stop(Refusal::WrongFrame)
+    } else {
+        Check::Go
+    }
+}
+
+// "The first that applies, in the call's order, is given. Every call begins 2, 3."
+fn judge_tick(
+    cfg: &[i32],
+    records: &[u8],
+    debounce: &[i32],
+    memory: &[u8],
+    board: Board,
+    ms: u32,
+    frame: &[u8],
+) -> Check
+    ensures { λ r. ⌜ checkNumber r ≡ firstThatApplies (tickRules (now (cfg .entry)) ms (now (frame .entry)) (lent (now (records .entry)) (now (debounce .entry)) (now (memory .entry)) board)) ⌝ }
+{
+    match state::begin(cfg, records, debounce, memory, board) {
+        Check::Go => tick_tests(cfg, ms, frame),
+        Check::Stop(r) => Check::Stop(r),
+    }
+}
+
+// "only kind 2 with its cycle running"
+fn time_runs(cfg: &[i32], board: Board, event: EventNumber) -> bool
+    requires { ⌜ event .0 < 512 ⌝ }
+    ensures { λ r. ⌜ r ≡ timeRuns (now (cfg .entry)) board (event .0) ⌝ }
+{
+    (config::kind_of(cfg, event) == config::TIME) & cycle_runs(cfg, board, event)
+}
+
+// The event's part of a tick: which cycles run is read off the board at the tick's start.
+fn tick_event(
+    cfg: &[i32],
+    records: &mut [u8],
+    debounce: &mut [i32],
+    memory: &mut [u8],
+    board: Board,
+    at_start: Board,
+    event: EventNumber,
+    ms: u32,
+    frame: &[u8],
+) -> Board
+    requires { ⌜ (Ready (now cfg) (lent (now records) (now debounce) (now memory) board) (event .0)) × ((length (now frame) ≡ frameBytes (now cfg)) × (ms ≤ 60000)) ⌝ }
+    ensures { λ r. ⌜ lent (now (records .exit)) (now (debounce .exit)) (now (memory .exit)) r ≡ cond (timeRuns (now (cfg .entry)) «at_start» (event .0)) (ticks (now (cfg .entry)) ms (now (frame .entry)) (event .0) (lent (now (records .entry)) (now (debounce .entry)) (now (memory .entry)) board)) (lent (now (records .entry)) (now (debounce .entry)) (now (memory .entry)) board) ⌝ }
+{
+    if time_runs(cfg, at_start, event) {
+        one_event::ticks(cfg, records, debounce, memory, board, event, ms, frame)
+    } else {
+        board
+    }
+}
+
+// "events in rising number"
+fn tick_events(
+    cfg: &[i32],
+    records: &mut [u8],
+    debounce: &mut [i32],
+    memory: &mut [u8],
+    board: Board,
+    ms: u32,
+    frame: &[u8],
+) -> Board
+    requires { ⌜ MayTick (now cfg) (lent (now records) (now debounce) (now memory) board) ms (now frame) ⌝ }
+    ensures { λ r. ⌜ lent (now (records .exit)) (now (debounce .exit)) (now (memory .exit)) r ≡ forThose (now (cfg .entry)) (timeRuns (now (cfg .entry)) board) (ticks (now (cfg .entry)) ms (now (frame .entry))) (lent (now (records .entry)) (now (debounce .entry)) (now (memory .entry)) board) ⌝ }
+{
+    let n = config::events(cfg);
+    let mut after = board;
+    for event in 0..n {
+        after = tick_event(
+            cfg,
+            records,
+            debounce,
+            memory,
+            after,
+            board,
+            EventNumber(event),
+            ms,
+            frame,
+        );
+    }
+    after
+}
+
+// "A refusal changes nothing lent and hands back the board it was given"
+fn refuse_tick(refusal: Refusal, board: Board) -> Returned
+    ensures { λ r. ⌜ ((records : List ℕ) (debounce : List ℤ) (memory : List ℕ) → leaves (ofAnswer (r .answer)) [] [] (lent records debounce memory (r .board)) ≡ refused (numberOf refusal) [] (lent records debounce memory board)) ⌝ }
+{
+    let answer = Answer::Refused(refusal);
+    Returned { answer, board }
+}
+
+// "Tick of d ms (0 to 60,000)": time passes for the events of kind 2 whose cycle runs. "Every event so qualified takes the lent frame."
+// Answers done, or the first of 2, 3, 1, 9 that applies.
+pub fn tick(
+    cfg: &[i32],
+    records: &mut [u8],
+    debounce: &mut [i32],
+    memory: &mut [u8],
+    board: Board,
+    ms: u32,
+    frame: &[u8],
+) -> Returned
+    ensures { λ r. ⌜ leaves (ofAnswer (r .answer)) [] [] (lent (now (records .exit)) (now (debounce .exit)) (now (memory .exit)) (r .board)) ≡ tick (now (cfg .entry)) ms (now (frame .entry)) (lent (now (records .entry)) (now (debounce .entry)) (now (memory .entry)) board) ⌝ }
+{
+    match judge_tick(cfg, records, debounce, memory, board, ms, frame) {
+        Check::Go => {
+            let after = tick_events(cfg, records, debounce, memory, board, ms, frame);
+            Returned {
+                answer: Answer::Done,
+                board: after,
+            }
+        }
+        Check::Stop(r) => refuse_tick(r, board),
+    }
+}
