@@ -1,3 +1,4 @@
 pub mod BelowLaws
+pub mod OneOutcomeOnly
 pub mod RepliesLaws
 pub mod RequestLaws

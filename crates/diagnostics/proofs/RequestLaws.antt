@@ -1,23 +1,27 @@
--- Laws of the manual's service 14, of the choice of a service, and of the request's refusals, by the tests that the code makes.
+-- Laws of the manual's service 14, of the choice of a service by the tests that the code makes, and of the call.
 use mathlib.Core.Path.{_≡_, refl, sym, ap, _∙_}
 use mathlib.Core.Logic.{_≢_}
 use mathlib.Core.Bool.{true, false}
 use mathlib.Core.List.{List, [], _∷_}
-use Prim.Native.Nat.{ℕ, _≤_, _<_}
+use Prim.Native.Nat.{ℕ, _≤_}
 use native.Mathlib.Omega.{arith}
 use lib.ListN.{length, getD}
-use borrow.Author.Tests.{eq-eqb, ne-eqb, lt-ltb, le-ltb, ltb-false, not-false}
+use borrow.Author.Tests.{eq-eqb, ne-eqb, ltb-false, not-false}
+use Rattle.manual.specs.declared.Refusal.{Refusal}
+use Rattle.manual.specs.declared.LengthAnswer.the-variants.{Written, Refused}
 use Rattle.manual.specs.Words.{threeAt}
 use Rattle.manual.specs.Configuration.{Configuration, configOk}
 use Rattle.manual.specs.State.{State}
 use Rattle.manual.specs.WellFormed.{wellFormed}
-use Rattle.manual.specs.Answers.{Outcome, refused, firstThatApplies, judged}
+use Rattle.manual.specs.Answers.{Outcome, firstThatApplies, numberOf, ofLength, leaves}
 use Rattle.manual.specs.Calls.{unknownCode, cleared}
 use Rattle.manual.specs.Diagnostics.{positive, negative, replyBytes, served, service19, service14, servedBy, sent, replied, requestRules, requestReply}
-use Rattle.manual.proofs.AnswersLaws.{none-applies, goes-through}
+use Rattle.manual.proofs.AnswersLaws.{none-applies, goes-through, stops-with}
 use Rattle.writing.specs.Writing.{written, append}
 use Rattle.writing.proofs.WritingLaws.{append-next}
-use Rattle.diagnostics.specs.Replies.{sentIs, Accepted}
+use Rattle.diagnostics.specs.Replies.{sentIs, Accepted, serviceIs}
+use Rattle.diagnostics.specs.declared.Service.{Service}
+use Rattle.diagnostics.specs.declared.Service.the-variants.{Replied, Clear}
 use Rattle.diagnostics.proofs.RepliesLaws.{written-is-sent}
 
 -- ---- service 14
@@ -67,36 +71,32 @@ module _ (cfg : Configuration) (request room : List ℕ) (s : State) where
     unfolding servedBy
     serves-no-other a b p = rw (← first, ne-eqb _ _ a, ne-eqb _ _ b) p
 
--- ---- "diagnostic request 7, 1"
-
-module _ (cfg : Configuration) (request room : List ℕ) (s : State) (ok : configOk cfg ≡ true) (w : wellFormed cfg s ≡ true) where
-  pub refused-7 : length room < 3 → 7 ≡ firstThatApplies (requestRules cfg request room s)
-  unfolding requestRules firstThatApplies
-  refused-7 h = rw (ok, w, lt-ltb _ _ h)
-
-  pub refused-1 : 3 ≤ length room → length request ≡ 0 → 1 ≡ firstThatApplies (requestRules cfg request room s)
-  unfolding requestRules firstThatApplies
-  refused-1 h e = rw (ok, w, le-ltb _ _ h, eq-eqb _ _ e)
-
-  pub accepted : 3 ≤ length room → length request ≢ 0 → 0 ≡ firstThatApplies (requestRules cfg request room s)
-  unfolding requestRules firstThatApplies
-  accepted h n = rw (ok, w, le-ltb _ _ h, ne-eqb _ _ n)
-
--- ---- the request
+-- ---- the call
 
 module _ (cfg : Configuration) (request room : List ℕ) (s : State) where
-  -- what a request that no rule refuses may count on
-  pub accepted-tells : firstThatApplies (requestRules cfg request room s) ≡ 0 → Accepted cfg room
+  -- a request that nothing refuses: its reply
+  pub replied-is : {after : List ℕ} (size : ℕ) {service : Service} → service ≡ Replied size → Serves cfg request room s (serviceIs cfg service after s) → Serves cfg request room s (leaves (ofLength (Written size)) [] after s)
+  replied-is {after} size e p = ap (λ (k : Service). serviceIs cfg k after s) (sym e) ∙ p
+
+  -- and the clear that service 14 asks for
+  pub cleared-is : {after : List ℕ} (code : ℕ) {service : Service} {t : State} → service ≡ Clear code → t ≡ cleared cfg code s → Serves cfg request room s (serviceIs cfg service after s) → Serves cfg request room s (leaves (ofLength (Written 1)) [] after t)
+  cleared-is {after} code e q p = ap (sentIs 1 after) q ∙ ap (λ (k : Service). serviceIs cfg k after s) (sym e) ∙ p
+
+  -- what it may count on
+  pub may-serve : firstThatApplies (requestRules cfg request room s) ≡ 0 → Accepted cfg room × (wellFormed cfg s ≡ true)
   unfolding requestRules
-  accepted-tells z = record {
-    config = not-false (configOk cfg) (none-applies _ z refl 0);
-    room-least = ltb-false (length room) 3 (none-applies _ z refl 2);
-  }
+  may-serve z = (
+    record {
+      config = not-false (configOk cfg) (none-applies _ z refl 0);
+      room-least = ltb-false (length room) 3 (none-applies _ z refl 2);
+    },
+    not-false _ (none-applies _ z refl 1),
+  )
 
-  pub request-goes : firstThatApplies (requestRules cfg request room s) ≡ 0 → requestReply cfg request room s ≡ replied cfg (getD request 0 0) room (servedBy cfg request (length room) s)
+  pub request-done : {o : Outcome} → firstThatApplies (requestRules cfg request room s) ≡ 0 → Serves cfg request room s o → o ≡ requestReply cfg request room s
   unfolding requestReply
-  request-goes z = goes-through _ _ _ _ z
+  request-done z p = p ∙ sym (goes-through _ _ _ _ z)
 
-  pub request-stops : {k : ℕ} → k ≢ 0 → firstThatApplies (requestRules cfg request room s) ≡ k → requestReply cfg request room s ≡ refused k room s
-  unfolding requestReply judged
-  request-stops n e = rw (e, ne-eqb _ _ n)
+  pub request-refused : (r : Refusal) → numberOf r ≡ firstThatApplies (requestRules cfg request room s) → leaves (ofLength (Refused r)) [] room s ≡ requestReply cfg request room s
+  unfolding requestReply
+  request-refused r e = stops-with _ room s _ r e

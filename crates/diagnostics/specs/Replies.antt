@@ -9,7 +9,7 @@ use lib.ListN.{length}
 use Rattle.manual.specs.declared.Verdict.the-variants.{None}
 use Rattle.manual.specs.Configuration.{Configuration, events, configOk}
 use Rattle.manual.specs.State.{State, allStopped}
-use Rattle.manual.specs.Answers.{Outcome, numberOf}
+use Rattle.manual.specs.Answers.{Outcome}
 use Rattle.manual.specs.Calls.{cleared}
 use Rattle.manual.specs.Diagnostics.{Reply, positive, negative, Served, served, SubFunction, subFunction, matches, line, lines, suppresses, subFunctionReply, replied}
 use Rattle.diagnostics.specs.declared.Asked.{Asked}
@@ -20,8 +20,6 @@ use Rattle.diagnostics.specs.declared.ClearRequest.{ClearRequest}
 use Rattle.diagnostics.specs.declared.ClearRequest.the-variants.{Clear, Negative}
 use Rattle.diagnostics.specs.declared.Service.{Service}
 use Rattle.diagnostics.specs.declared.Service.the-variants.{Replied}
-use Rattle.diagnostics.specs.declared.Judgement.{Judgement}
-use Rattle.diagnostics.specs.declared.Judgement.the-variants.{Go, Stop}
 
 -- ---- a reply reads nothing of the state but its records
 
@@ -96,11 +94,6 @@ module _ (cfg : Configuration) where
   abbrev pub serviceIs : Service → List ℕ → State → Outcome
   serviceIs (Replied size) room s = sentIs size room s
   serviceIs (Service.Clear code) room s = sentIs 1 room (cleared cfg code s)
-
--- the number of the refusal; "0 | done"
-abbrev pub judgementIs : Judgement → ℕ
-judgementIs Go = 0
-judgementIs (Stop refusal) = numberOf refusal
 
 -- the reply in this turn, where these are the bytes of the positive one
 abbrev pub turnIs : Turn → List ℕ → Reply

@@ -1,20 +1,24 @@
-// Document 01, "Diagnostic requests": the replies, and what a request asks to be cleared.
-use config::CodeSearch;
+// Document 01, "Diagnostic requests".
+use manual::Board;
 use manual::EventNumber;
+use manual::LengthAnswer;
 use manual::Refusal;
+use state::Check;
 ghost use mathlib.Core.Path.{_≡_};
 ghost use mathlib.Core.Bool.{true, cond};
+ghost use mathlib.Core.List.{[], _∷_};
 ghost use Prim.Native.Nat.{_+_, _%_, _<_, _≤_};
 ghost use lib.ListN.{length, getD};
+ghost use lib.Dec.{eqb, ltb};
 ghost use Rattle.manual.specs.Words.{countBelow, threeAt};
 ghost use Rattle.manual.specs.Configuration.{Configuration, events, configOk};
-ghost use Rattle.manual.specs.State.{State};
+ghost use Rattle.manual.specs.State.{State, lent};
 ghost use Rattle.manual.specs.WellFormed.{wellFormed};
-ghost use Rattle.manual.specs.Answers.{firstThatApplies};
-ghost use Rattle.manual.specs.Calls.{unknownCode};
-ghost use Rattle.manual.specs.Diagnostics.{negative, replyBytes, served, subFunction, line, maskOf, suppresses, numberByMask, listByMask, listAll, service19, service14, servedBy, sent, replied, requestRules};
+ghost use Rattle.manual.specs.Answers.{_if_, firstThatApplies, ofLength, leaves};
+ghost use Rattle.manual.specs.Diagnostics.{negative, replyBytes, served, subFunction, line, maskOf, suppresses, numberByMask, listByMask, listAll, service19, service14, servedBy, sent, replied, requestRules, requestReply};
+ghost use Rattle.state.specs.Checks.{checkNumber};
 ghost use Rattle.writing.specs.Writing.{written, append};
-ghost use Rattle.diagnostics.specs.Replies.{InStatesWith, holding, sentIs, asks, lineIfAsked, linesAsked, EventFits, BytesFit, Accepted, subFunctionOutcome, listing, TurnBy, clearRequestIs, serviceIs, judgementIs};
+ghost use Rattle.diagnostics.specs.Replies.{InStatesWith, holding, sentIs, asks, lineIfAsked, linesAsked, EventFits, BytesFit, Accepted, subFunctionOutcome, listing, TurnBy, clearRequestIs, serviceIs};
 
 // The events that a reply lists or counts: all, or those that match a mask.
 enum Asked {
@@ -37,15 +41,15 @@ enum ClearRequest {
 
 // What is left to do once the reply stands in the room: nothing, and this is its length; or its length is 1, and the events of this
 // trouble code are still to be cleared.
-pub enum Service {
+enum Service {
     Replied(usize),
     Clear(u32),
 }
 
-// Whether the request is accepted.
-pub enum Judgement {
-    Go,
-    Stop(Refusal),
+// What the call hands back: how long the reply is, and the board.
+pub struct RequestReturned {
+    pub answer: LengthAnswer,
+    pub board: Board,
 }
 
 // ---- reading the request
@@ -304,20 +308,6 @@ fn reply_19(cfg: &[i32], records: &[u8], request: &[u8], room: &mut [u8]) -> usi
 
 // ---- service 14
 
-// "unknown: code 31": no event has this trouble code, and it is not FFFFFFh, which means all.
-fn is_unknown(cfg: &[i32], code: u32) -> bool
-    requires { ⌜ configOk (now cfg) ≡ true ⌝ }
-    ensures { λ r. ⌜ r ≡ unknownCode (now (cfg .entry)) code ⌝ }
-{
-    if code == 0xFFFFFF {
-        return false;
-    }
-    match config::find_code(cfg, code) {
-        CodeSearch::At(_) => false,
-        CodeSearch::Nothing => true,
-    }
-}
-
 // "14: length must be 4 (else 13); the three bytes are a trouble code; unknown: code 31; else clear and `54`."
 fn clear_request(cfg: &[i32], request: &[u8]) -> ClearRequest
     requires { ⌜ configOk (now cfg) ≡ true ⌝ }
@@ -327,7 +317,7 @@ fn clear_request(cfg: &[i32], request: &[u8]) -> ClearRequest
         return ClearRequest::Negative(0x13);
     }
     let code = code_in(request);
-    if is_unknown(cfg, code) {
+    if clearing::is_unknown(cfg, code) {
         return ClearRequest::Negative(0x31);
     }
     ClearRequest::Clear(code)
@@ -354,27 +344,8 @@ fn reply_14(cfg: &[i32], request: &[u8], room: &mut [u8]) -> Service
 
 // ---- the request
 
-// "diagnostic request 7, 1": the room holds less than 3 bytes, or the request is empty. Refusals 2 and 3 come before these.
-pub fn judge(request: &[u8], room: &[u8]) -> Judgement
-    ensures { λ r.
-        ⌜
-        ((cfg : Configuration) (s : State)
-        → configOk cfg ≡ true
-        → wellFormed cfg s ≡ true
-        → judgementIs r ≡ firstThatApplies (requestRules cfg (now (request .entry)) (now (room .entry)) s))
-        ⌝ }
-{
-    if room.len() < 3 {
-        return Judgement::Stop(Refusal::RoomTooSmall);
-    }
-    if request.len() == 0 {
-        return Judgement::Stop(Refusal::BadArgument);
-    }
-    Judgement::Go
-}
-
 // Writes the reply to an accepted request, and says what is left to do. "First byte other than 19 or 14: code 11."
-pub fn serve(cfg: &[i32], records: &[u8], request: &[u8], room: &mut [u8]) -> Service
+fn serve(cfg: &[i32], records: &[u8], request: &[u8], room: &mut [u8]) -> Service
     requires { ⌜ Accepted (now cfg) (now room) ⌝ }
     ensures { λ r.
         ⌜
@@ -389,5 +360,90 @@ pub fn serve(cfg: &[i32], records: &[u8], request: &[u8], room: &mut [u8]) -> Se
         0x19 => Service::Replied(reply_19(cfg, records, request, room)),
         0x14 => reply_14(cfg, request, room),
         _ => Service::Replied(negative(service, 0x11, room)),
+    }
+}
+
+// A request that nothing refuses: its reply, then the clear where it asks for one.
+fn accept(
+    cfg: &[i32],
+    records: &mut [u8],
+    debounce: &mut [i32],
+    memory: &mut [u8],
+    board: Board,
+    request: &[u8],
+    room: &mut [u8],
+) -> RequestReturned
+    requires { ⌜ Accepted (now cfg) (now room) × (wellFormed (now cfg) (lent (now records) (now debounce) (now memory) board) ≡ true) ⌝ }
+    ensures { λ r.
+        ⌜
+        leaves (ofLength (r .answer)) [] (now (room .exit)) (lent (now (records .exit)) (now (debounce .exit)) (now (memory .exit)) (r .board))
+        ≡ replied (now (cfg .entry)) (getD (now (request .entry)) 0 0) (now (room .entry))
+        (servedBy (now (cfg .entry)) (now (request .entry)) (length (now (room .entry))) (lent (now (records .entry)) (now (debounce .entry)) (now (memory .entry)) board))
+        ⌝ }
+{
+    match serve(cfg, records, request, room) {
+        Service::Replied(size) => {
+            let answer = LengthAnswer::Written(size);
+            RequestReturned { answer, board }
+        }
+        Service::Clear(code) => {
+            let after = clearing::clear_covered(cfg, records, debounce, memory, board, code);
+            RequestReturned {
+                answer: LengthAnswer::Written(1),
+                board: after,
+            }
+        }
+    }
+}
+
+// The call's own refusals: "diagnostic request 7, 1".
+fn judge_sizes(request: &[u8], room: &[u8]) -> Check
+    ensures { λ r. ⌜ checkNumber r ≡ firstThatApplies ((7 if ltb (length (now (room .entry))) 3) ∷ (1 if eqb (length (now (request .entry))) 0) ∷ []) ⌝ }
+{
+    if room.len() < 3 {
+        return Check::Stop(Refusal::RoomTooSmall);
+    }
+    if request.len() == 0 {
+        return Check::Stop(Refusal::BadArgument);
+    }
+    Check::Go
+}
+
+// "Every call begins 2, 3. Then: … diagnostic request 7, 1."
+fn judge(
+    cfg: &[i32],
+    records: &[u8],
+    debounce: &[i32],
+    memory: &[u8],
+    board: Board,
+    request: &[u8],
+    room: &[u8],
+) -> Check
+    ensures { λ r. ⌜ checkNumber r ≡ firstThatApplies (requestRules (now (cfg .entry)) (now (request .entry)) (now (room .entry)) (lent (now (records .entry)) (now (debounce .entry)) (now (memory .entry)) board)) ⌝ }
+{
+    match state::begin(cfg, records, debounce, memory, board) {
+        Check::Go => judge_sizes(request, room),
+        Check::Stop(refusal) => Check::Stop(refusal),
+    }
+}
+
+// The diagnostic request: writes the reply at the front of the room, and answers its length.
+pub fn request(
+    cfg: &[i32],
+    records: &mut [u8],
+    debounce: &mut [i32],
+    memory: &mut [u8],
+    board: Board,
+    request: &[u8],
+    room: &mut [u8],
+) -> RequestReturned
+    ensures { λ r. ⌜ leaves (ofLength (r .answer)) [] (now (room .exit)) (lent (now (records .exit)) (now (debounce .exit)) (now (memory .exit)) (r .board)) ≡ requestReply (now (cfg .entry)) (now (request .entry)) (now (room .entry)) (lent (now (records .entry)) (now (debounce .entry)) (now (memory .entry)) board) ⌝ }
+{
+    match judge(cfg, records, debounce, memory, board, request, room) {
+        Check::Go => accept(cfg, records, debounce, memory, board, request, room),
+        Check::Stop(refusal) => RequestReturned {
+            answer: LengthAnswer::Refused(refusal),
+            board,
+        },
     }
 }
