@@ -2,13 +2,13 @@
 use mathlib.Core.Path.{_≡_, refl, sym, ap, _∙_}
 use mathlib.Core.Bool.{Bool, true, false, not}
 use mathlib.Core.List.{List, [], _∷_, _++_, append-nil}
-use Prim.Native.Nat.{ℕ, _+_, _-_, _*_, _≤_, _<_}
+use Prim.Native.Nat.{ℕ, _+_, _-_, _*_, _≤_}
 use native.Mathlib.Nat.{mul-comm, mul-sub, mul-le-mul-left}
 use native.Mathlib.Omega.{arith}
 use lib.Dec.{eqb}
 use lib.IntN.{ℤ, pos}
-use lib.ListN.{length, getD, take, drop, replicate, length-append, length-replicate, length-drop, drop-of-length-le, getD-replicate}
-use lib.Seq.{take-at, length-take-le, getD-append-add}
+use lib.ListN.{length, getD, take, drop, replicate, length-append, length-drop, drop-of-length-le}
+use lib.Seq.{take-at}
 use borrow.Author.Tests.{not-false}
 use Rattle.manual.specs.declared.Board.{Board}
 use Rattle.manual.specs.declared.Refusal.{Refusal}
@@ -30,6 +30,7 @@ use Rattle.image.specs.Layout.{memoryAt, lengthOk}
 use Rattle.image.specs.Ready.{Restorable}
 use Rattle.image.proofs.LayoutLaws.{Fitting, usedPart, flagByte, headerPart, parts-fit, parts-joined, length-least}
 use Rattle.image.proofs.JudgementLaws.{accepted-length, records-cut, used-cut, state-in}
+use Rattle.fresh_state.specs.Filled.{filledFrom}
 
 -- ---- the judge
 
@@ -86,8 +87,8 @@ whole-written xs block h e =
 
 -- a body at the front of a block, and bytes 0 behind it
 pub front-written : (xs block : List ℕ) {next : ℕ} {between after : List ℕ} → length xs ≤ length block → written next between ≡ append xs (written 0 block)
-    → after ≡ take next between ++ replicate (length between - next) 0 → after ≡ xs ++ replicate (length block - length xs) 0
-unfolding filled
+    → after ≡ filledFrom 0 next between → after ≡ xs ++ replicate (length block - length xs) 0
+unfolding filled filledFrom
 front-written xs block h e q =
     let w = e ∙ append-filled xs block h in
     q
@@ -139,18 +140,3 @@ module _ (cfg : Configuration) (records : List ℕ) (debounce : List ℤ) (memor
       (λ i. lent (records-are i) (numbers-are i) (memory-is i) (b i))
       ∙ sym (state-in cfg (headerPart cfg image right-length) (recordsOf cfg image) used (flagByte cfg image right-length) fits)
       ∙ ap (stateOf cfg) (parts-joined cfg image right-length)
-
--- ---- the loops
-
--- bytes 0 from a place on
-pub zeroed-length : (at : ℕ) (m : List ℕ) → at ≤ length m → length (take at m ++ replicate (length m - at) 0) ≡ length m
-zeroed-length at m h = length-append (take at m) (replicate (length m - at) 0) ∙ (λ i. length-take-le at m h i + length-replicate {A = ℕ} (length m - at) 0 i) ∙ omega arith
-
-pub zeroed-in : (at : ℕ) (m : List ℕ) (i : ℕ) → at ≤ i → i < length m → 0 ≡ getD (take at m ++ replicate (length m - at) 0) i 0
-zeroed-in at m i h k =
-    let n : length (take at m) ≡ at = length-take-le at m (omega arith) in
-    let e : i ≡ length (take at m) + (i - at) = omega arith in
-    sym
-    (ap (λ (j : ℕ). getD (take at m ++ replicate (length m - at) 0) j 0) e
-    ∙ getD-append-add (take at m) (replicate (length m - at) 0) (i - at) 0
-    ∙ getD-replicate (length m - at) (i - at) 0 0 (omega arith))

@@ -9,12 +9,12 @@ ghost use mathlib.Core.Path.{_≡_};
 ghost use mathlib.Core.Bool.{Bool, true, cond};
 ghost use mathlib.Core.List.{List, [], _∷_, _++_};
 ghost use Prim.Native.Nat.{_+_, _-_, _≤_, _<_};
-ghost use lib.IntN.{ℤ, pos};
-ghost use lib.ListN.{length, take, replicate};
+ghost use lib.IntN.{ℤ};
+ghost use lib.ListN.{length, replicate};
 ghost use Rattle.manual.specs.declared.Board.{Board};
 ghost use Rattle.manual.specs.Words.{equal};
 ghost use Rattle.manual.specs.Configuration.{frameBytes, configOk};
-ghost use Rattle.manual.specs.State.{lent, allStopped};
+ghost use Rattle.manual.specs.State.{lent};
 ghost use Rattle.manual.specs.Memory.{entryCount, bytesInUse};
 ghost use Rattle.manual.specs.Answers.{_if_, firstThatApplies, ofAnswer, ofLength, leaves};
 ghost use Rattle.manual.specs.Image.{headerLength, header, imageFrom, imageOf, stateOf, acceptable, anyRuns, saveRules, save, restoreRules, restore};
@@ -284,42 +284,13 @@ fn judge_restore(
     }
 }
 
-// Every D 0.
-fn reset_numbers(debounce: &mut [i32])
-    ensures { λ _. ⌜ now (debounce .exit) ≡ replicate (length (now (debounce .entry))) (pos 0) ⌝ }
-{
-    for event in 0..debounce.len() {
-        debounce[event] = 0;
-    }
-}
-
-// Bytes 0 from a place to the end.
-fn zero_from(memory: &mut [u8], at: usize)
-    requires { ⌜ at ≤ length (now memory) ⌝ }
-    ensures { λ _. ⌜ now (memory .exit) ≡ take at (now (memory .entry)) ++ replicate (length (now (memory .entry)) - at) 0 ⌝ }
-{
-    for i in at..memory.len() {
-        memory[i] = 0;
-    }
-}
-
 // Memory of these bytes in use: "the bytes after the last entry are 0".
 fn fill_memory(memory: &mut [u8], used: &[u8])
     requires { ⌜ length (now used) ≤ length (now memory) ⌝ }
     ensures { λ _. ⌜ now (memory .exit) ≡ now (used .entry) ++ replicate (length (now (memory .entry)) - length (now (used .entry))) 0 ⌝ }
 {
     let end = writing::write(memory, 0, used);
-    zero_from(memory, end);
-}
-
-// "all cycles stopped"
-fn stopped_board(overflow: bool) -> Board
-    ensures { λ r. ⌜ r ≡ record { running = allStopped; overflow = overflow } ⌝ }
-{
-    Board {
-        running: [false; 4],
-        overflow,
-    }
+    fresh_state::zero_from(memory, end);
 }
 
 // Makes the state that the image tells: its records, every D 0, its entries, all cycles stopped, its overflow flag.
@@ -336,9 +307,9 @@ fn accept_restore(
     let start = memory_at(cfg);
     let end = image.len() - OVERFLOW_LENGTH;
     writing::write(records, 0, &image[HEADER_LENGTH..start]);
-    reset_numbers(debounce);
+    fresh_state::reset_numbers(debounce);
     fill_memory(memory, &image[start..end]);
-    stopped_board(image[end] == 1)
+    fresh_state::stopped_board(image[end] == 1)
 }
 
 // Restore: 2, 3 (lengths only), 8. "Restore accepts exactly the images of well-formed states with all cycles stopped, and makes that
