@@ -1,8 +1,8 @@
 -- Laws of a clear: what each event of its loop may count on, what the loop leaves, and what the call answers.
-use mathlib.Core.Path.{_≡_, refl, sym, ap, subst, _∙_}
+use mathlib.Core.Path.{_≡_, refl, sym, ap, _∙_}
 use mathlib.Core.Bool.{true}
 use mathlib.Core.List.{[]}
-use Prim.Native.Nat.{ℕ, suc, _<_}
+use Prim.Native.Nat.{ℕ, _<_}
 use borrow.Author.Tests.{not-false}
 use Rattle.manual.specs.declared.Refusal.{Refusal}
 use Rattle.manual.specs.declared.Answer.the-variants.{Done, Refused}
@@ -10,43 +10,30 @@ use Rattle.manual.specs.Words.{forBelow}
 use Rattle.manual.specs.Configuration.{Configuration, events, configOk}
 use Rattle.manual.specs.State.{State}
 use Rattle.manual.specs.WellFormed.{wellFormed}
-use Rattle.manual.specs.OneEvent.{forThose}
+use Rattle.manual.specs.OneEvent.{clears}
 use Rattle.manual.specs.Answers.{done, firstThatApplies, numberOf, ofAnswer, leaves}
 use Rattle.manual.specs.Calls.{covers, overflowCleared, cleared, clearRules, clearCode}
 use Rattle.manual.proofs.AnswersLaws.{none-applies, goes-through, stops-with}
 use Rattle.manual.proofs.OneEventLaws.{acts-clears}
 use Rattle.manual.proofs.MemoryStaysGood.{good-clears}
-use Rattle.manual.proofs.EventLoops.{loop-ready}
-use Rattle.one_event.specs.Ready.{EventFits, Ready}
-use Rattle.one_event.proofs.ReadyLaws.{ready-of}
-use Rattle.clearing.specs.Covered.{clearsCovered}
+use Rattle.one_event.specs.Ready.{EventFits}
+use Rattle.one_event.proofs.TurnsLaws.{turn, last-turn, ready-at-turn}
 
 -- ---- the loop
 
 module _ (cfg : Configuration) (code : ℕ) where
   -- after the events below i
-  unfoldable pub upTo : ℕ → State → State
-  upTo i s = forBelow i (clearsCovered cfg code) s
+  abbrev pub upTo : ℕ → State → State
+  upTo i s = forBelow i (turn (covers cfg code) (clears cfg)) s
 
   module _ (s : State) where
-    pub before-all : s ≡ upTo 0 s
-    unfolding upTo forBelow
-    before-all = refl
-
-    pub one-more : (i : ℕ) {t t′ : State} → t ≡ upTo i s → t′ ≡ clearsCovered cfg code i t → t′ ≡ upTo (suc i) s
-    unfolding upTo forBelow
-    one-more i p q = q ∙ ap (clearsCovered cfg code i) p
-
     -- "clearing all also clears overflow"
     pub after-all : {i : ℕ} → i ≡ events cfg → {t t′ : State} → t ≡ upTo i s → t′ ≡ overflowCleared cfg code t → t′ ≡ cleared cfg code s
-    unfolding upTo cleared forThose
-    after-all e p q = q ∙ ap (overflowCleared cfg code) (p ∙ ap (λ (k : ℕ). upTo k s) e)
+    unfolding cleared
+    after-all e p q = q ∙ ap (overflowCleared cfg code) (last-turn (covers cfg code) (clears cfg) cfg _ s e p)
 
     pub fits-at : configOk cfg ≡ true → wellFormed cfg s ≡ true → (i : ℕ) → i < events cfg → {t : State} → t ≡ upTo i s → EventFits cfg (t .records) (t .debounce) (t .memory) i
-    unfolding upTo
-    fits-at ok formed i h p =
-        subst (λ (x : State). Ready cfg x i) (sym p)
-        (ready-of cfg (upTo i s) ok i h (loop-ready cfg (acts-clears cfg) (good-clears cfg) (covers cfg code) s formed i h)) .event
+    fits-at ok formed i h p = ready-at-turn (covers cfg code) (clears cfg) cfg (acts-clears cfg) (good-clears cfg) s ok formed i h p .event
 
 -- ---- the call
 

@@ -24,7 +24,7 @@ use Rattle.manual.proofs.MemoryStaysGood.{good-stops}
 use Rattle.state.specs.Fits.{RecordsFor}
 use Rattle.one_event.specs.Ready.{EventFits}
 use Rattle.cycles.specs.Cycles.{fourFive, MayStop}
-use Rattle.cycles.proofs.TurnsLaws.{turn, ready-at-turn}
+use Rattle.one_event.proofs.TurnsLaws.{turn, ready-at-turn}
 
 -- ---- what a passed judgement gives
 

@@ -1,3 +1,2 @@
-pub mod TurnsLaws
 pub mod CyclesLaws
 pub mod OneOutcomeOnly

@@ -1,6 +1,5 @@
 -- What an accepted tick finds, at its start and at each event.
-use mathlib.Core.Path.{_≡_, refl, sym, subst}
-use mathlib.Core.Bool.{cond}
+use mathlib.Core.Path.{_≡_, refl}
 use mathlib.Core.List.{List}
 use Prim.Native.Nat.{ℕ, _<_}
 use lib.IntN.{ℤ}
@@ -14,9 +13,8 @@ use Rattle.manual.specs.Calls.{tickRules, timeRuns, ticks}
 use Rattle.manual.proofs.AnswersLaws.{none-applies}
 use Rattle.manual.proofs.OneEventLaws.{acts-applied}
 use Rattle.manual.proofs.MemoryStaysGood.{good-applied}
-use Rattle.manual.proofs.EventLoops.{loop-ready}
 use Rattle.one_event.specs.Ready.{Ready}
-use Rattle.one_event.proofs.ReadyLaws.{ready-of}
+use Rattle.one_event.proofs.TurnsLaws.{turn, ready-at-turn}
 use Rattle.reporting.specs.Accepted.{MayTick}
 
 module _ (cfg : Configuration) (s : State) (ms : ℕ) (frame : List ℕ) where
@@ -31,10 +29,9 @@ module _ (cfg : Configuration) (s : State) (ms : ℕ) (frame : List ℕ) where
 
   -- the state when the events below i have had their part of the tick
   abbrev pub tickedBelow : ℕ → State
-  tickedBelow i = forBelow i (λ e t. cond (timeRuns cfg (s .board) e) (ticks cfg ms frame e t) t) s
+  tickedBelow i = forBelow i (turn (timeRuns cfg (s .board)) (ticks cfg ms frame)) s
 
   pub turn-ready : MayTick cfg s ms frame → (i : ℕ) → i < events cfg → {t : State} → t ≡ tickedBelow i → Ready cfg t i
-  turn-ready m i h {t} p =
-      subst (λ (x : State). Ready cfg x i) (sym p)
-      (ready-of cfg (tickedBelow i) (m .configured) i h
-      (loop-ready cfg (acts-applied cfg frame (λ e (d : ℤ). ticked cfg e ms d)) (λ k t l g. good-applied cfg frame k _ t (m .frame-fits) l g) (timeRuns cfg (s .board)) s (m .formed) i h))
+  turn-ready m i h p =
+      ready-at-turn (timeRuns cfg (s .board)) (ticks cfg ms frame) cfg (acts-applied cfg frame (λ e (d : ℤ). ticked cfg e ms d))
+      (λ k t l g. good-applied cfg frame k _ t (m .frame-fits) l g) s (m .configured) (m .formed) i h p

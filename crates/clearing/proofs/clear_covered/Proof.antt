@@ -1,12 +1,14 @@
 use mathlib.Core.Path.{_≡_, refl, _∙_}
 use Prim.Native.Nat.{_-_, _≤_, _<_}
-use native.Mathlib.Numerals.{add-one}
 use native.Mathlib.Omega.{arith}
 use denote.Ref.{now}
 use lib.ListN.{length}
 use Rattle.manual.specs.Configuration.{events}
 use Rattle.manual.specs.State.{lent}
-use Rattle.clearing.proofs.ClearingLaws.{upTo, before-all, one-more, fits-at, after-all}
+use Rattle.manual.specs.OneEvent.{clears}
+use Rattle.manual.specs.Calls.{covers}
+use Rattle.one_event.proofs.TurnsLaws.{no-turn, next-turn}
+use Rattle.clearing.proofs.ClearingLaws.{upTo, fits-at, after-all}
 use Rattle.clearing.proofs.clear_covered.Statement.{statement}
 use Rattle.clearing.proofs.clear_covered.Tie as tie
 
@@ -22,13 +24,14 @@ events-requires : tie.Need-events-requires Inv-loop μ-loop
 events-requires c κs = tt
 
 loop-holds : tie.Need-loop-holds Inv-loop μ-loop
-loop-holds c = (omega arith, before-all _ _ _, refl, refl, refl)
+loop-holds c = let a = c .before .before .before .args in
+    (omega arith, no-turn (covers (now (a .cfg)) (a .code)) (clears (now (a .cfg))) _, refl, refl, refl)
 
 clear-if-covered-requires : tie.Need-clear-if-covered-requires Inv-loop μ-loop
 clear-if-covered-requires c κs = let loop = c .before .before .before .before .loop in
     let pre = c .before .before .before .before .before .before .before .before .pre in
     let h : loop .event < events (now (c .before .before .before .before .before .before .before .before .args .cfg)) = omega (arith, c .before .before .before .before .before .events .ensures) in
-    fits-at _ _ _ (pre .0) (pre .1) _ h (loop .inv .1)
+    fits-at _ (c .before .before .before .before .before .before .before .before .args .code) _ (pre .0) (pre .1) _ h (loop .inv .1)
 
 add-event : tie.Need-add-event Inv-loop μ-loop
 add-event c = omega arith
@@ -39,7 +42,8 @@ loop-less c = omega arith
 loop-again : tie.Need-loop-again Inv-loop μ-loop
 loop-again c = let loop = c .before .before .before .before .before .before .before .before .before .before .loop in
     let step = c .before .before .before .before .before .clear-if-covered in
-    (omega arith, rw add-one (one-more _ _ _ _ (loop .inv .1) (step .ensures _)), step .kept .1 .0 ∙ loop .inv .2, step .kept .1 .1 .0 ∙ loop .inv .3, step .kept .1 .1 .1 .0 ∙ loop .inv .4)
+    let a = c .before .before .before .before .before .before .before .before .before .before .before .before .before .before .args in
+    (omega arith, next-turn (covers (now (a .cfg)) (a .code)) (clears (now (a .cfg))) (loop .event) _ (loop .inv .1) (step .ensures _), step .kept .1 .0 ∙ loop .inv .2, step .kept .1 .1 .0 ∙ loop .inv .3, step .kept .1 .1 .1 .0 ∙ loop .inv .4)
 
 overflow-cleared-requires : tie.Need-overflow-cleared-requires Inv-loop μ-loop
 overflow-cleared-requires c κs = tt

@@ -13,7 +13,7 @@ use Rattle.manual.specs.Configuration.{events}
 use Rattle.manual.specs.State.{lent, withCycle}
 use Rattle.manual.specs.OneEvent.{happens}
 use Rattle.manual.specs.Calls.{ofCycle}
-use Rattle.cycles.proofs.TurnsLaws.{turn, no-turn, next-turn, last-turn}
+use Rattle.one_event.proofs.TurnsLaws.{turn, no-turn, next-turn, last-turn}
 use Rattle.cycles.proofs.CyclesLaws.{record-within}
 use borrow.Author.Needs.{needs}
 use Rattle.cycles.proofs.accept_start.Statement.{statement}

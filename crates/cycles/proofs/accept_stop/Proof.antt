@@ -10,7 +10,7 @@ use Rattle.manual.specs.Configuration.{events}
 use Rattle.manual.specs.State.{lent, withCycle}
 use Rattle.manual.specs.OneEvent.{stops}
 use Rattle.manual.specs.Calls.{ofCycle}
-use Rattle.cycles.proofs.TurnsLaws.{turn, no-turn, next-turn, last-turn}
+use Rattle.one_event.proofs.TurnsLaws.{turn, no-turn, next-turn, last-turn}
 use Rattle.cycles.proofs.CyclesLaws.{stop-fits}
 use borrow.Author.Needs.{needs}
 use Rattle.cycles.proofs.accept_stop.Statement.{statement}

@@ -1,14 +1,13 @@
 -- `tick_events` meets its contract: at each turn the events below have had their part of the tick.
 use mathlib.Core.Path.{_≡_, refl, _∙_}
 use Prim.Native.Nat.{_-_, _≤_, _<_}
-use native.Mathlib.Numerals.{add-one}
 use native.Mathlib.Omega.{arith}
 use denote.Ref.{now}
 use lib.ListN.{length}
-use Rattle.manual.specs.Words.{forBelow}
 use Rattle.manual.specs.Configuration.{events}
 use Rattle.manual.specs.State.{lent}
-use Rattle.manual.specs.OneEvent.{forThose}
+use Rattle.manual.specs.Calls.{timeRuns, ticks}
+use Rattle.one_event.proofs.TurnsLaws.{no-turn, next-turn, last-turn}
 use Rattle.reporting.proofs.TickLaws.{tickedBelow, turn-ready}
 use borrow.Author.Needs.{needs}
 use Rattle.reporting.proofs.tick_events.Statement.{statement}
@@ -26,8 +25,8 @@ events-requires : tie.Need-events-requires Inv-loop μ-loop
 events-requires c κs = search needs
 
 loop-holds : tie.Need-loop-holds Inv-loop μ-loop
-unfolding forBelow
-loop-holds c = (omega arith, refl, refl, refl, refl)
+loop-holds c = let a = c .before .before .before .before .args in
+    (omega arith, no-turn (timeRuns (now (a .cfg)) (a .board)) (ticks (now (a .cfg)) (a .ms) (now (a .frame))) _, refl, refl, refl)
 
 tick-event-requires : tie.Need-tick-event-requires Inv-loop μ-loop
 tick-event-requires c κs =
@@ -44,12 +43,13 @@ loop-less : tie.Need-loop-less Inv-loop μ-loop
 loop-less c = omega arith
 
 loop-again : tie.Need-loop-again Inv-loop μ-loop
-unfolding forBelow
 loop-again c =
-    let inv = c .before .before .before .before .before .before .before .before .before .before .loop .inv in
+    let loop = c .before .before .before .before .before .before .before .before .before .before .loop in
+    let inv = loop .inv in
+    let a = c .before .before .before .before .before .before .before .before .before .before .before .before .before .before .before .args in
     let tick-event = c .before .before .before .before .before .tick-event in (
       omega arith,
-      rw (add-one, ← inv .1) (tick-event .ensures),
+      next-turn (timeRuns (now (a .cfg)) (a .board)) (ticks (now (a .cfg)) (a .ms) (now (a .frame))) (loop .event) _ (inv .1) (tick-event .ensures),
       tick-event .kept .1 .0 ∙ inv .2,
       tick-event .kept .1 .1 .0 ∙ inv .3,
       tick-event .kept .1 .1 .1 .0 ∙ inv .4,
@@ -65,11 +65,10 @@ same-length-3 : tie.Need-same-length-3 Inv-loop μ-loop
 same-length-3 c = search needs
 
 returns : tie.Need-returns Inv-loop μ-loop
-unfolding forThose
 returns c =
-    let cfg = c .before .before .before .before .before .before .args .cfg in
-    let all : c .before .loop .event ≡ events (now cfg) = omega (arith, c .before .before .events .ensures) in
-    rw (← all) (c .before .loop .inv .1)
+    let a = c .before .before .before .before .before .before .args in
+    let all : c .before .loop .event ≡ events (now (a .cfg)) = omega (arith, c .before .before .events .ensures) in
+    last-turn (timeRuns (now (a .cfg)) (a .board)) (ticks (now (a .cfg)) (a .ms) (now (a .frame))) (now (a .cfg)) (c .before .loop .event) _ all (c .before .loop .inv .1)
 
 pub tick-events-spec : {M : Type 1} → statement M
 tick-events-spec =
