@@ -1,0 +1,2 @@
+pub mod PanelLaws
+pub mod OneOutcomeOnly

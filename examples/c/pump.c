@@ -1,0 +1,210 @@
+/*
+ * A panel's loop for one pump, with two events of its one cycle:
+ *
+ *   the pressure   tested on each value that arrives, counted up and down
+ *   the link       tested every 100 ms by whether the sensor answers, timed
+ *
+ * While the link is silent no value arrives and the pressure is not tested. The
+ * panel paints the value by the status bytes of both events: it is good only if
+ * both tests were completed in this run and neither has failed. So a last value
+ * does not stay good on the glass after the link has dropped.
+ */
+#include <stdbool.h>
+#include <stdio.h>
+#include <stdlib.h>
+#include <string.h>
+
+#include "grelpicado.h"
+
+enum { EVENTS = 2, PLACES = 2, FRAME = 2 };
+enum { PRESSURE = 0, LINK = 1 };
+enum { PUMP = 0 };  /* the cycle of both events */
+enum { STEP_MS = 100 };
+enum { LOWEST = 150, HIGHEST = 400 };  /* the good pressures, in 0.01 bar */
+enum { SILENT = -1 };  /* no value arrived */
+
+static const int32_t config[GRELPICADO_CONFIG_NUMBERS(EVENTS)] = {
+    EVENTS, PLACES, FRAME,
+    /* code, priority, cycle, kind, P, Q, up, down, jumps, C, H, A, indicator */
+    0x0A11, 1, PUMP, 1, -2, 2, 1, 1, 3, 1, 1, 3, 1,
+    0x0A12, 2, PUMP, 2, -200, 500, 0, 0, 0, 1, 1, 3, 1,
+};
+
+/* All that the manager works on beside the configuration. It belongs to the panel. */
+struct panel {
+    uint8_t records[GRELPICADO_RECORDS_BYTES(EVENTS)];
+    int32_t debounce[GRELPICADO_DEBOUNCE_NUMBERS(EVENTS)];
+    uint8_t memory[GRELPICADO_MEMORY_BYTES(PLACES, FRAME)];
+    grelpicado_board board;
+};
+
+/* What a call is lent, in the order in which every call takes it. */
+#define LENT(panel)                                                  \
+    config, sizeof config / sizeof config[0],                        \
+    (panel)->records, sizeof (panel)->records,                       \
+    (panel)->debounce, sizeof (panel)->debounce / sizeof (panel)->debounce[0], \
+    (panel)->memory, sizeof (panel)->memory,                         \
+    (panel)->board
+
+static void must_be_done(uint8_t number, const char *call)
+{
+    if (number != GRELPICADO_DONE) {
+        fprintf(stderr, "%s refused: %u\n", call, (unsigned)number);
+        exit(EXIT_FAILURE);
+    }
+}
+
+/* The board that a call hands back is the one that the next call is given. */
+static void keep(struct panel *panel, grelpicado_answer answer, const char *call)
+{
+    must_be_done(answer.number, call);
+    panel->board = answer.board;
+}
+
+static uint8_t status_of(const struct panel *panel, size_t event)
+{
+    grelpicado_status_answer answer = grelpicado_read_status(LENT(panel), event);
+    must_be_done(answer.number, "read status");
+    return answer.status;
+}
+
+/* ---- printing */
+
+static const char *const bit_names[8] = {
+    "testFailed", "testFailedThisOperationCycle", "pending", "confirmed",
+    "testNotCompletedSinceLastClear", "testFailedSinceLastClear",
+    "testNotCompletedThisOperationCycle", "warningIndicatorRequested",
+};
+
+static void print_status(const char *name, uint8_t status)
+{
+    printf("  %-9s%02Xh", name, (unsigned)status);
+    for (unsigned bit = 0; bit < 8; bit++) {
+        if (status >> bit & 1u) {
+            printf(" %s", bit_names[bit]);
+        }
+    }
+    putchar('\n');
+}
+
+static const char *painted(uint8_t pressure, uint8_t link)
+{
+    if ((pressure | link) & GRELPICADO_TEST_NOT_COMPLETED_THIS_OPERATION_CYCLE) {
+        return "grey: not tested in this run";
+    }
+    if (link & GRELPICADO_TEST_FAILED) {
+        return "grey: the link is lost";
+    }
+    if (pressure & GRELPICADO_TEST_FAILED) {
+        return "red: failed";
+    }
+    return "good";
+}
+
+static void print_panel(const struct panel *panel, const char *moment)
+{
+    uint8_t pressure = status_of(panel, PRESSURE);
+    uint8_t link = status_of(panel, LINK);
+    printf("%s\n", moment);
+    print_status("pressure", pressure);
+    print_status("link", link);
+    printf("  the value is painted %s\n", painted(pressure, link));
+}
+
+/* The value that the pressure failed with, read in the panel's own memory block. */
+static void print_frame(const struct panel *panel)
+{
+    grelpicado_frame_answer frame = grelpicado_read_frame(LENT(panel), PRESSURE);
+    if (frame.number == GRELPICADO_NO_ENTRY) {
+        printf("  no entry of the pressure\n");
+        return;
+    }
+    must_be_done(frame.number, "read frame");
+    const uint8_t *bytes = panel->memory + frame.start;
+    unsigned value = bytes[0] * 256u + bytes[1];
+    printf("  stored with the failure: %u.%02u bar\n", value / 100, value % 100);
+}
+
+/* ---- the loop */
+
+static void report(struct panel *panel, size_t event, uint32_t code, const uint8_t *frame)
+{
+    grelpicado_report_answer answer = grelpicado_report(LENT(panel), event, code, frame, FRAME);
+    must_be_done(answer.number, "report");
+    panel->board = answer.board;
+}
+
+/* One step: the link answers with a value or is silent, and 100 ms pass. */
+static void step(struct panel *panel, int value)
+{
+    bool answers = value != SILENT;
+    uint8_t frame[FRAME] = {0, 0};
+    if (answers) {
+        bool good = LOWEST <= value && value <= HIGHEST;
+        frame[0] = (uint8_t)(value / 256);
+        frame[1] = (uint8_t)(value % 256);
+        report(panel, PRESSURE, good ? GRELPICADO_PRE_PASSED : GRELPICADO_PRE_FAILED, frame);
+    }
+    report(panel, LINK, answers ? GRELPICADO_PRE_PASSED : GRELPICADO_PRE_FAILED, frame);
+    keep(panel, grelpicado_tick(LENT(panel), STEP_MS, frame, FRAME), "tick");
+}
+
+static void run(struct panel *panel, const int *values, size_t steps)
+{
+    keep(panel, grelpicado_start(LENT(panel), PUMP), "start");
+    for (size_t i = 0; i < steps; i++) {
+        step(panel, values[i]);
+    }
+}
+
+static void stop(struct panel *panel)
+{
+    keep(panel, grelpicado_stop(LENT(panel), PUMP), "stop");
+}
+
+/* ---- power off and on */
+
+/* Saves the state, loses every block, and restores. */
+static void lose_power(struct panel *panel)
+{
+    uint8_t image[GRELPICADO_IMAGE_BYTES(EVENTS, PLACES, FRAME)];
+    grelpicado_length_answer saved = grelpicado_save(LENT(panel), image, sizeof image);
+    must_be_done(saved.number, "save");
+    printf("Power off: %zu bytes saved.\n", saved.length);
+    memset(panel, 0xA5, sizeof *panel);
+    keep(panel, grelpicado_restore(LENT(panel), image, saved.length), "restore");
+}
+
+int main(void)
+{
+    static const int no_answer[] = {SILENT, SILENT, SILENT, SILENT, SILENT, SILENT};
+    static const int falling[] = {210, 210, 208, 96, 31};
+    static const int good[] = {210, 209, 210};
+    static const int dropping[] = {210, 210, 210, SILENT, SILENT, SILENT, SILENT, SILENT};
+    struct panel panel;
+    memset(&panel, 0, sizeof panel);
+    keep(&panel, grelpicado_fresh(LENT(&panel)), "fresh");
+
+    run(&panel, no_answer, sizeof no_answer / sizeof no_answer[0]);
+    print_panel(&panel, "First run: the sensor never answers.");
+    stop(&panel);
+
+    run(&panel, falling, sizeof falling / sizeof falling[0]);
+    print_panel(&panel, "Second run: the link is back, then the pressure falls.");
+    print_frame(&panel);
+    stop(&panel);
+
+    lose_power(&panel);
+    print_panel(&panel, "Power on: the state is as it was saved.");
+
+    run(&panel, good, sizeof good / sizeof good[0]);
+    print_panel(&panel, "Third run: the pressure is good again.");
+    stop(&panel);
+    print_panel(&panel, "Stopped: a clean run has healed the warning.");
+    print_frame(&panel);
+
+    run(&panel, dropping, sizeof dropping / sizeof dropping[0]);
+    print_panel(&panel, "Fourth run: 2.10 bar, then the link drops.");
+    stop(&panel);
+    return EXIT_SUCCESS;
+}

@@ -1,0 +1,173 @@
+//! What the stories are about, and whether it happened: a story in which no
+//! event ever ages says nothing of ageing.
+
+use crate::call::Call;
+use crate::reference::{
+    Configuration, State, CONFIRMED, FAILED_THIS_CYCLE, PENDING, TEST_FAILED, WARNING,
+};
+
+const NEEDED: [&str; 25] = [
+    "an event confirms",
+    "an event asks for the indicator",
+    "an event fails by a tick",
+    "K held at 255",
+    "pending ends",
+    "an event heals",
+    "an event ages",
+    "an event ages and its entry leaves",
+    "an event ages that still asks for the indicator",
+    "a known entry moves to the end",
+    "an occurrence count held at 255",
+    "an entry of greater priority number is displaced",
+    "an entry of equal priority number is displaced",
+    "overflow",
+    "a clear of one takes an entry out",
+    "a clear of all clears overflow",
+    "negative reply 11",
+    "negative reply 12",
+    "negative reply 13",
+    "negative reply 14",
+    "negative reply 31",
+    "a suppressed reply",
+    "a reply with events",
+    "a restore with entries",
+    "a restore with overflow",
+];
+
+#[derive(Default)]
+pub struct Happenings {
+    counts: [u64; NEEDED.len()],
+}
+
+impl Happenings {
+    pub fn missing(&self) -> Vec<&'static str> {
+        let never = NEEDED.iter().zip(self.counts).filter(|(_, met)| *met == 0);
+        never.map(|(what, _)| *what).collect()
+    }
+
+    fn met(&mut self, what: &str, did: bool) {
+        let at = NEEDED.iter().position(|needed| *needed == what);
+        self.counts[at.expect("a needed happening")] += u64::from(did);
+    }
+
+    /// Looks at an accepted call, the room after it, and the state on both sides of it.
+    pub fn observe(
+        &mut self,
+        config: &Configuration,
+        call: &Call,
+        room: &[u8],
+        before: &State,
+        after: &State,
+    ) {
+        match call {
+            Call::Report { event, .. } => {
+                self.failures(before, after, false);
+                self.storing(config, *event, before, after);
+            }
+            Call::Tick { .. } => self.failures(before, after, true),
+            Call::Stop { .. } => self.stops(config, before, after),
+            Call::Clear { .. } => {
+                let left = before.memory[0] == after.memory[0] + 1;
+                self.met("a clear of one takes an entry out", left);
+                let cleared = before.board.overflow && !after.board.overflow;
+                self.met("a clear of all clears overflow", cleared);
+            }
+            Call::Request { request, room: 3.. } => self.replies(request, room, before == after),
+            Call::Restore { .. } => {
+                self.met("a restore with entries", after.memory[0] > 0);
+                self.met("a restore with overflow", after.board.overflow);
+            }
+            _ => {}
+        }
+    }
+
+    fn failures(&mut self, before: &State, after: &State, by_tick: bool) {
+        for (_, (was, is)) in pairs(before, after) {
+            let gained = is[0] & !was[0];
+            self.met("an event confirms", gained & CONFIRMED != 0);
+            self.met("an event asks for the indicator", gained & WARNING != 0);
+            let failed = gained & FAILED_THIS_CYCLE != 0;
+            self.met("an event fails by a tick", failed && by_tick);
+            self.met("K held at 255", failed && was[1] == 255);
+        }
+    }
+
+    /// What a report did to memory.
+    fn storing(&mut self, config: &Configuration, event: usize, before: &State, after: &State) {
+        let fresh_failure = before.records[4 * event] & TEST_FAILED == 0
+            && after.records[4 * event] & TEST_FAILED != 0;
+        if !fresh_failure {
+            return;
+        }
+        let overflow = after.board.overflow && !before.board.overflow;
+        self.met("overflow", overflow);
+        let (old, new) = (entries(config, before), entries(config, after));
+        if let Some((_, count)) = old.iter().find(|(known, _)| *known == event) {
+            let was_last = old.last().is_some_and(|(last, _)| *last == event);
+            self.met("a known entry moves to the end", !was_last);
+            self.met("an occurrence count held at 255", *count == 255);
+        }
+        let kept = |gone: usize| new.iter().any(|(event, _)| *event == gone);
+        if let Some((gone, _)) = old.iter().find(|(event, _)| !kept(*event)) {
+            let (victim, own) = (config.row(*gone).priority, config.row(event).priority);
+            let (greater, equal) = (victim > own, victim == own);
+            self.met("an entry of greater priority number is displaced", greater);
+            self.met("an entry of equal priority number is displaced", equal);
+        }
+    }
+
+    fn stops(&mut self, config: &Configuration, before: &State, after: &State) {
+        let remaining = entries(config, after);
+        for (event, (was, is)) in pairs(before, after) {
+            let lost = was[0] & !is[0];
+            let aged = lost & CONFIRMED != 0;
+            self.met("pending ends", lost & PENDING != 0);
+            self.met("an event heals", lost & WARNING != 0 && !aged);
+            self.met("an event ages", aged);
+            let warned = aged && lost & WARNING != 0;
+            self.met("an event ages that still asks for the indicator", warned);
+            let fewer = before.memory[0] > after.memory[0];
+            let left = aged && fewer && !remaining.iter().any(|(kept, _)| *kept == event);
+            self.met("an event ages and its entry leaves", left);
+        }
+    }
+
+    fn replies(&mut self, request: &[u8], room: &[u8], stays: bool) {
+        let negative = room[0] == 0x7F && room[1] == request[0] && stays;
+        let codes = [
+            ("negative reply 11", 0x11),
+            ("negative reply 12", 0x12),
+            ("negative reply 13", 0x13),
+            ("negative reply 14", 0x14),
+            ("negative reply 31", 0x31),
+        ];
+        for (what, code) in codes {
+            self.met(what, negative && room[2] == code);
+        }
+        let suppressed = matches!(request, [0x19, 0x81 | 0x82, _] | [0x19, 0x8A]);
+        self.met("a suppressed reply", suppressed);
+        let listed = matches!(request, [0x19, 0x02, _]) && room.len() > 6 && room[0] == 0x59;
+        self.met("a reply with events", listed);
+    }
+}
+
+type Pair<'a> = (&'a [u8], &'a [u8]);
+
+/// Each event's record before and after.
+fn pairs<'a>(before: &'a State, after: &'a State) -> impl Iterator<Item = (usize, Pair<'a>)> {
+    let was = before.records.chunks_exact(4);
+    was.zip(after.records.chunks_exact(4)).enumerate()
+}
+
+/// The event number and occurrence count of each entry.
+fn entries(config: &Configuration, state: &State) -> Vec<(usize, u8)> {
+    let all = state.memory[1..].chunks_exact(config.entry());
+    all.take(usize::from(state.memory[0]))
+        .map(|entry| {
+            (
+                usize::from(entry[0]) * 256 + usize::from(entry[1]),
+                entry[2],
+            )
+        })
+        .collect()
+}

@@ -1,0 +1,853 @@
+//! Document 01 in plain code that shares nothing with the archive.
+//!
+//! Each call judges first, in the document's order, and only then changes the
+//! lent blocks, in place. `Err` is a refusal and holds the number answered.
+
+pub const DONE: u8 = 0;
+pub const BAD_ARGUMENT: u8 = 1;
+pub const BAD_CONFIGURATION: u8 = 2;
+pub const BAD_STATE: u8 = 3;
+pub const NO_SUCH: u8 = 4;
+pub const WRONG_CYCLE_STATE: u8 = 5;
+pub const NO_PRE_RESULT: u8 = 6;
+pub const ROOM_TOO_SMALL: u8 = 7;
+pub const BAD_IMAGE: u8 = 8;
+pub const WRONG_FRAME: u8 = 9;
+pub const NO_ENTRY: u8 = 10;
+
+/// The bits of the status byte.
+pub const TEST_FAILED: u8 = 0x01;
+pub const FAILED_THIS_CYCLE: u8 = 0x02;
+pub const PENDING: u8 = 0x04;
+pub const CONFIRMED: u8 = 0x08;
+pub const NOT_COMPLETED_SINCE_CLEAR: u8 = 0x10;
+pub const FAILED_SINCE_CLEAR: u8 = 0x20;
+pub const NOT_COMPLETED_THIS_CYCLE: u8 = 0x40;
+pub const WARNING: u8 = 0x80;
+pub const FRESH_STATUS: u8 = 0x50;
+
+/// The codes of a report.
+pub const PASSED: u32 = 0;
+pub const FAILED: u32 = 1;
+pub const PRE_PASSED: u32 = 2;
+pub const PRE_FAILED: u32 = 3;
+
+/// "Clear, by one trouble code or FFFFFFh for all".
+pub const ALL_CODES: u32 = 0xFF_FFFF;
+
+/// Numbers of a row of the configuration.
+pub const ROW: usize = 13;
+
+pub const KIND_INTERNAL: i32 = 0;
+pub const KIND_COUNTER: i32 = 1;
+pub const KIND_TIME: i32 = 2;
+const JUMP_UP: i32 = 1;
+const JUMP_DOWN: i32 = 2;
+
+/// The image's two bytes in front and three rows of 6.
+const IMAGE_HEAD: usize = 20;
+
+#[derive(Clone, Copy, PartialEq, Eq, Debug)]
+pub enum Verdict {
+    None,
+    Passed,
+    Failed,
+}
+
+/// "Which of the four cycles run, and an overflow flag."
+#[derive(Clone, Copy, PartialEq, Eq, Debug, Default)]
+pub struct Board {
+    pub running: [bool; 4],
+    pub overflow: bool,
+}
+
+/// The blocks that a caller lends, and the board.
+#[derive(PartialEq, Eq, Debug, Default)]
+pub struct State {
+    pub records: Vec<u8>,
+    pub debounce: Vec<i32>,
+    pub memory: Vec<u8>,
+    pub board: Board,
+}
+
+impl Clone for State {
+    fn clone(&self) -> State {
+        let mut copy = State::default();
+        copy.clone_from(self);
+        copy
+    }
+
+    // Keeps the room that the blocks already have.
+    fn clone_from(&mut self, from: &State) {
+        self.records.clone_from(&from.records);
+        self.debounce.clone_from(&from.debounce);
+        self.memory.clone_from(&from.memory);
+        self.board = from.board;
+    }
+}
+
+/// One event's 13 numbers.
+pub struct Row {
+    pub trouble_code: i32,
+    pub priority: i32,
+    pub cycle: i32,
+    pub kind: i32,
+    pub p: i32,
+    pub q: i32,
+    pub up: i32,
+    pub down: i32,
+    pub jumps: i32,
+    pub confirm: i32,
+    pub heal: i32,
+    pub age: i32,
+    pub indicator: i32,
+}
+
+impl Row {
+    #[inline]
+    fn read(numbers: &[i32; ROW]) -> Row {
+        Row {
+            trouble_code: numbers[0],
+            priority: numbers[1],
+            cycle: numbers[2],
+            kind: numbers[3],
+            p: numbers[4],
+            q: numbers[5],
+            up: numbers[6],
+            down: numbers[7],
+            jumps: numbers[8],
+            confirm: numbers[9],
+            heal: numbers[10],
+            age: numbers[11],
+            indicator: numbers[12],
+        }
+    }
+
+    /// The table's column "allowed", but for the rising of trouble codes.
+    fn allowed(&self) -> bool {
+        let bounds = match self.kind {
+            KIND_INTERNAL => self.p == 0 && self.q == 0,
+            KIND_COUNTER | KIND_TIME => {
+                (-30_000..=-1).contains(&self.p) && (1..=30_000).contains(&self.q)
+            }
+            _ => false,
+        };
+        let steps = if self.kind == KIND_COUNTER {
+            (1..=30_000).contains(&self.up)
+                && (1..=30_000).contains(&self.down)
+                && (0..=3).contains(&self.jumps)
+        } else {
+            self.up == 0 && self.down == 0 && self.jumps == 0
+        };
+        bounds
+            && steps
+            && (1..=16_777_214).contains(&self.trouble_code)
+            && (1..=255).contains(&self.priority)
+            && (0..=3).contains(&self.cycle)
+            && (1..=255).contains(&self.confirm)
+            && (1..=255).contains(&self.heal)
+            && (1..=255).contains(&self.age)
+            && (0..=1).contains(&self.indicator)
+    }
+
+    /// The least D: P, or P−1 for kind 2. Kind 0 has P = 0.
+    pub fn bottom(&self) -> i32 {
+        if self.kind == KIND_TIME {
+            self.p - 1
+        } else {
+            self.p
+        }
+    }
+
+    /// The greatest D: Q, or Q+1 for kind 2. Kind 0 has Q = 0.
+    pub fn top(&self) -> i32 {
+        if self.kind == KIND_TIME {
+            self.q + 1
+        } else {
+            self.q
+        }
+    }
+
+    /// "Verdict, kinds 1 and 2: failed if the report leaves D at its top,
+    /// passed if at its bottom, else none."
+    fn verdict_at(&self, d: i32) -> Verdict {
+        if d == self.top() {
+            Verdict::Failed
+        } else if d == self.bottom() {
+            Verdict::Passed
+        } else {
+            Verdict::None
+        }
+    }
+
+    fn runs(&self, board: &Board) -> bool {
+        board.running[self.cycle as usize]
+    }
+}
+
+/// A configuration that keeps its table.
+#[derive(Clone, Copy)]
+pub struct Configuration<'a> {
+    /// n.
+    pub events: usize,
+    /// M.
+    pub places: usize,
+    /// F.
+    pub frame: usize,
+    rows: &'a [[i32; ROW]],
+}
+
+impl<'a> Configuration<'a> {
+    /// Answer 2: "configuration breaks the table above".
+    pub fn judge(numbers: &'a [i32]) -> Result<Configuration<'a>, u8> {
+        let [n, m, f, rest @ ..] = numbers else {
+            return Err(BAD_CONFIGURATION);
+        };
+        let front = (1..=512).contains(n) && (1..=64).contains(m) && (0..=32).contains(f);
+        if !front || rest.len() != ROW * *n as usize {
+            return Err(BAD_CONFIGURATION);
+        }
+        let (rows, _) = rest.as_chunks::<ROW>();
+        let mut code_before = 0;
+        for numbers in rows {
+            let row = Row::read(numbers);
+            if !row.allowed() || row.trouble_code <= code_before {
+                return Err(BAD_CONFIGURATION);
+            }
+            code_before = row.trouble_code;
+        }
+        Ok(Configuration {
+            events: *n as usize,
+            places: *m as usize,
+            frame: *f as usize,
+            rows,
+        })
+    }
+
+    #[inline]
+    pub fn row(&self, event: usize) -> Row {
+        Row::read(&self.rows[event])
+    }
+
+    pub fn rows(&self) -> impl Iterator<Item = Row> + 'a {
+        self.rows.iter().map(Row::read)
+    }
+
+    /// Bytes of an entry: event number 2, occurrence count 1, frame F.
+    pub fn entry(&self) -> usize {
+        3 + self.frame
+    }
+
+    pub fn memory(&self) -> usize {
+        1 + self.places * self.entry()
+    }
+
+    /// The event that has this trouble code.
+    fn event_of(&self, code: u32) -> Option<usize> {
+        self.rows().position(|row| row.trouble_code as u32 == code)
+    }
+
+    fn lengths_fit(&self, state: &State) -> bool {
+        state.records.len() == 4 * self.events
+            && state.debounce.len() == self.events
+            && state.memory.len() == self.memory()
+    }
+}
+
+/// "Every call begins 2, 3."
+fn judge<'a>(config: &'a [i32], state: &State) -> Result<Configuration<'a>, u8> {
+    let config = judge_lengths(config, state)?;
+    if records_well_formed(&config, state) && memory_well_formed(&config, state) {
+        Ok(config)
+    } else {
+        Err(BAD_STATE)
+    }
+}
+
+/// "For restore and for making a fresh state, 3 judges lengths only."
+fn judge_lengths<'a>(config: &'a [i32], state: &State) -> Result<Configuration<'a>, u8> {
+    let config = Configuration::judge(config)?;
+    if config.lengths_fit(state) {
+        Ok(config)
+    } else {
+        Err(BAD_STATE)
+    }
+}
+
+fn records_well_formed(config: &Configuration, state: &State) -> bool {
+    let (records, _) = state.records.as_chunks::<4>();
+    let rows = config.rows().zip(records).zip(&state.debounce);
+    for ((row, record), d) in rows {
+        // "D is 0 if the event's cycle is stopped or its kind is 0"
+        let d_fits = if row.runs(&state.board) {
+            (row.bottom()..=row.top()).contains(d)
+        } else {
+            *d == 0
+        };
+        if !d_fits || !record_well_formed(&row, record) {
+            return false;
+        }
+    }
+    true
+}
+
+/// The clauses of *well formed* on status, K, h and g.
+fn record_well_formed(row: &Row, record: &[u8; 4]) -> bool {
+    let [status, k, h, g] = *record;
+    let set = |bit: u8| status & bit != 0;
+    (!set(NOT_COMPLETED_SINCE_CLEAR) || status == FRESH_STATUS)
+        && (!set(TEST_FAILED | PENDING | CONFIRMED) || set(FAILED_SINCE_CLEAR))
+        && (!set(FAILED_THIS_CYCLE) || (set(PENDING) && !set(NOT_COMPLETED_THIS_CYCLE)))
+        && (!set(WARNING) || (set(CONFIRMED) && row.indicator == 1))
+        && (k >= 1) == set(PENDING)
+        && i32::from(h) < row.heal
+        && (h == 0 || set(WARNING))
+        && i32::from(g) < row.age
+        && (g == 0 || set(CONFIRMED))
+}
+
+fn memory_well_formed(config: &Configuration, state: &State) -> bool {
+    let entries = usize::from(state.memory[0]);
+    if entries > config.places {
+        return false;
+    }
+    let (used, after) = state.memory[1..].split_at(entries * config.entry());
+    entries_well_formed(config, used, &state.records) && after.iter().all(|byte| *byte == 0)
+}
+
+/// "Event numbers below n and no two equal, occurrence ≥ 1, each entry's event has bit 5 set."
+fn entries_well_formed(config: &Configuration, used: &[u8], records: &[u8]) -> bool {
+    let mut seen = [false; 512];
+    for entry in used.chunks_exact(config.entry()) {
+        let event = event_in(entry);
+        if event >= config.events || seen[event] || entry[2] == 0 {
+            return false;
+        }
+        if records[4 * event] & FAILED_SINCE_CLEAR == 0 {
+            return false;
+        }
+        seen[event] = true;
+    }
+    true
+}
+
+/// An entry's event number, "2 bytes, high first".
+fn event_in(entry: &[u8]) -> usize {
+    usize::from(entry[0]) << 8 | usize::from(entry[1])
+}
+
+/// The status of an event with its K, h and g.
+fn record(state: &mut State, event: usize) -> &mut [u8; 4] {
+    &mut state.records.as_chunks_mut::<4>().0[event]
+}
+
+/// The fresh state: "status 50h, K = h = g = 0, D = 0, memory empty (all
+/// bytes 0), cycles stopped, overflow clear".
+pub fn fresh(config: &[i32], state: &mut State) -> Result<(), u8> {
+    judge_lengths(config, state)?;
+    for record in state.records.as_chunks_mut::<4>().0 {
+        *record = [FRESH_STATUS, 0, 0, 0];
+    }
+    state.debounce.fill(0);
+    state.memory.fill(0);
+    state.board = Board::default();
+    Ok(())
+}
+
+pub fn report(
+    config: &[i32],
+    state: &mut State,
+    event: usize,
+    code: u32,
+    frame: &[u8],
+) -> Result<Verdict, u8> {
+    let config = judge(config, state)?;
+    if event >= config.events {
+        return Err(NO_SUCH);
+    }
+    let row = config.row(event);
+    if code > PRE_FAILED {
+        return Err(BAD_ARGUMENT);
+    }
+    if row.kind == KIND_INTERNAL && code >= PRE_PASSED {
+        return Err(NO_PRE_RESULT);
+    }
+    if frame.len() != config.frame {
+        return Err(WRONG_FRAME);
+    }
+    if !row.runs(&state.board) {
+        return Err(WRONG_CYCLE_STATE);
+    }
+    let (d, verdict) = debounced(&row, state.debounce[event], code);
+    state.debounce[event] = d;
+    qualify(&config, state, event, verdict, frame);
+    Ok(verdict)
+}
+
+/// The new D and the verdict of a report.
+fn debounced(row: &Row, d: i32, code: u32) -> (i32, Verdict) {
+    if row.kind == KIND_INTERNAL {
+        // "passed and failed are the verdict; D stays 0"
+        let failed = code == FAILED;
+        return (
+            0,
+            if failed {
+                Verdict::Failed
+            } else {
+                Verdict::Passed
+            },
+        );
+    }
+    let moved = match (code, row.kind) {
+        (FAILED, _) => row.top(),
+        (PASSED, _) => row.bottom(),
+        (PRE_FAILED, KIND_COUNTER) => {
+            let jump = row.jumps & JUMP_UP != 0 && d < 0;
+            let start = if jump { 0 } else { d };
+            (start + row.up).min(row.q)
+        }
+        (PRE_PASSED, KIND_COUNTER) => {
+            let jump = row.jumps & JUMP_DOWN != 0 && d > 0;
+            let start = if jump { 0 } else { d };
+            (start - row.down).max(row.p)
+        }
+        // "Pre-failed: D = 1 if D ≤ 0, else unchanged."
+        (PRE_FAILED, _) => d.max(1),
+        // "Pre-passed: D = −1 if D ≥ 0, else unchanged."
+        _ => d.min(-1),
+    };
+    (moved, row.verdict_at(moved))
+}
+
+/// What a qualified result does to the event's record, and to memory.
+fn qualify(
+    config: &Configuration,
+    state: &mut State,
+    event: usize,
+    verdict: Verdict,
+    frame: &[u8],
+) {
+    match verdict {
+        Verdict::None => {}
+        Verdict::Passed => {
+            let [status, ..] = record(state, event);
+            *status &= !(TEST_FAILED | NOT_COMPLETED_SINCE_CLEAR | NOT_COMPLETED_THIS_CYCLE);
+        }
+        Verdict::Failed => fail(config, state, event, frame),
+    }
+}
+
+fn fail(config: &Configuration, state: &mut State, event: usize, frame: &[u8]) {
+    let row = config.row(event);
+    let [status, k, h, g] = record(state, event);
+    let fresh_failure = *status & TEST_FAILED == 0;
+    // "if bit 1 was clear, K rises by one, at most 255"
+    if *status & FAILED_THIS_CYCLE == 0 {
+        *k = k.saturating_add(1);
+    }
+    *status |= TEST_FAILED | FAILED_THIS_CYCLE | PENDING | FAILED_SINCE_CLEAR;
+    *status &= !(NOT_COMPLETED_SINCE_CLEAR | NOT_COMPLETED_THIS_CYCLE);
+    *h = 0;
+    *g = 0;
+    if i32::from(*k) >= row.confirm {
+        *status |= CONFIRMED;
+        if row.indicator == 1 {
+            *status |= WARNING;
+        }
+    }
+    if fresh_failure {
+        store(config, state, event, frame);
+    }
+}
+
+/// "Fresh failure of e with the lent frame", cases 1 to 4.
+fn store(config: &Configuration, state: &mut State, event: usize, frame: &[u8]) {
+    let mut count = 1;
+    if let Some(place) = place_of(config, &state.memory, event) {
+        count = state.memory[at(config, place) + 2].saturating_add(1);
+        take_out(config, &mut state.memory, place);
+    } else if usize::from(state.memory[0]) == config.places {
+        match victim(config, state, event) {
+            Some(place) => take_out(config, &mut state.memory, place),
+            None => {
+                state.board.overflow = true;
+                return;
+            }
+        }
+    }
+    let from = at(config, usize::from(state.memory[0]));
+    let entry = &mut state.memory[from..from + config.entry()];
+    entry[..3].copy_from_slice(&[(event >> 8) as u8, event as u8, count]);
+    entry[3..].copy_from_slice(frame);
+    state.memory[0] += 1;
+}
+
+/// Where the entry at a place begins in the memory block.
+fn at(config: &Configuration, place: usize) -> usize {
+    1 + place * config.entry()
+}
+
+/// The entries in use, the oldest first.
+fn entries<'a>(config: &Configuration, memory: &'a [u8]) -> std::slice::ChunksExact<'a, u8> {
+    memory[1..at(config, usize::from(memory[0]))].chunks_exact(config.entry())
+}
+
+fn place_of(config: &Configuration, memory: &[u8], event: usize) -> Option<usize> {
+    entries(config, memory).position(|entry| event_in(entry) == event)
+}
+
+/// The place of the entry that gives way to event e, if there is one.
+fn victim(config: &Configuration, state: &State, event: usize) -> Option<usize> {
+    let own = config.row(event).priority;
+    let mut greatest = own;
+    let mut chosen = None;
+    for (place, entry) in entries(config, &state.memory).enumerate() {
+        // "the greatest, and the oldest among equals"
+        let priority = config.row(event_in(entry)).priority;
+        if priority > greatest {
+            greatest = priority;
+            chosen = Some(place);
+        }
+    }
+    // "If none: the oldest entry of equal priority number whose event has bit 0 clear."
+    chosen.or_else(|| {
+        entries(config, &state.memory).position(|entry| {
+            let other = event_in(entry);
+            config.row(other).priority == own && state.records[4 * other] & TEST_FAILED == 0
+        })
+    })
+}
+
+/// "Removal closes the gap and keeps the order."
+fn take_out(config: &Configuration, memory: &mut [u8], place: usize) {
+    let last = usize::from(memory[0]) - 1;
+    let end = at(config, last + 1);
+    memory.copy_within(at(config, place + 1)..end, at(config, place));
+    memory[at(config, last)..end].fill(0);
+    memory[0] -= 1;
+}
+
+/// "Its entry leaves", if it has one.
+fn leave(config: &Configuration, state: &mut State, event: usize) {
+    if let Some(place) = place_of(config, &state.memory, event) {
+        take_out(config, &mut state.memory, place);
+    }
+}
+
+pub fn tick(config: &[i32], state: &mut State, ms: u32, frame: &[u8]) -> Result<(), u8> {
+    let config = judge(config, state)?;
+    if ms > 60_000 {
+        return Err(BAD_ARGUMENT);
+    }
+    if frame.len() != config.frame {
+        return Err(WRONG_FRAME);
+    }
+    for (event, row) in config.rows().enumerate() {
+        if row.kind != KIND_TIME || !row.runs(&state.board) {
+            continue;
+        }
+        let d = state.debounce[event];
+        let moved = if 0 < d && d < row.top() {
+            (d + ms as i32).min(row.top())
+        } else if row.bottom() < d && d < 0 {
+            (d - ms as i32).max(row.bottom())
+        } else {
+            continue;
+        };
+        state.debounce[event] = moved;
+        qualify(&config, state, event, row.verdict_at(moved), frame);
+    }
+    Ok(())
+}
+
+pub fn start(config: &[i32], state: &mut State, cycle: u32) -> Result<(), u8> {
+    let config = judge(config, state)?;
+    if cycle > 3 {
+        return Err(NO_SUCH);
+    }
+    if state.board.running[cycle as usize] {
+        return Err(WRONG_CYCLE_STATE);
+    }
+    state.board.running[cycle as usize] = true;
+    for (event, row) in config.rows().enumerate() {
+        if row.cycle as u32 == cycle {
+            let [status, ..] = record(state, event);
+            *status &= !FAILED_THIS_CYCLE;
+            *status |= NOT_COMPLETED_THIS_CYCLE;
+        }
+    }
+    Ok(())
+}
+
+pub fn stop(config: &[i32], state: &mut State, cycle: u32) -> Result<(), u8> {
+    let config = judge(config, state)?;
+    if cycle > 3 {
+        return Err(NO_SUCH);
+    }
+    if !state.board.running[cycle as usize] {
+        return Err(WRONG_CYCLE_STATE);
+    }
+    state.board.running[cycle as usize] = false;
+    for (event, row) in config.rows().enumerate() {
+        if row.cycle as u32 == cycle {
+            heal(&row, record(state, event));
+            if age(&row, record(state, event)) {
+                leave(&config, state, event);
+            }
+            state.debounce[event] = 0;
+        }
+    }
+    Ok(())
+}
+
+/// Stop, (a): "if 1 and 6 are clear: bit 2 clear, K = 0, and if bit 7 is set
+/// h rises by one; at H, bit 7 clear and h = 0".
+fn heal(row: &Row, record: &mut [u8; 4]) {
+    let [status, k, h, _] = record;
+    if *status & (FAILED_THIS_CYCLE | NOT_COMPLETED_THIS_CYCLE) != 0 {
+        return;
+    }
+    *status &= !PENDING;
+    *k = 0;
+    if *status & WARNING != 0 {
+        *h += 1;
+        if i32::from(*h) == row.heal {
+            *status &= !WARNING;
+            *h = 0;
+        }
+    }
+}
+
+/// Stop, (b): "if 1 is clear and 3 is set: g rises by one; at A the event ages".
+/// Says whether it aged.
+fn age(row: &Row, record: &mut [u8; 4]) -> bool {
+    let [status, _, h, g] = record;
+    if *status & FAILED_THIS_CYCLE != 0 || *status & CONFIRMED == 0 {
+        return false;
+    }
+    *g += 1;
+    if i32::from(*g) < row.age {
+        return false;
+    }
+    *status &= !(CONFIRMED | WARNING);
+    *h = 0;
+    *g = 0;
+    true
+}
+
+pub fn clear(config: &[i32], state: &mut State, code: u32) -> Result<(), u8> {
+    let config = judge(config, state)?;
+    if clear_code(&config, state, code) {
+        Ok(())
+    } else {
+        Err(NO_SUCH)
+    }
+}
+
+/// Clears one trouble code or all. False, and nothing done, for an unknown code.
+fn clear_code(config: &Configuration, state: &mut State, code: u32) -> bool {
+    if code == ALL_CODES {
+        for event in 0..config.events {
+            *record(state, event) = [FRESH_STATUS, 0, 0, 0];
+        }
+        state.debounce.fill(0);
+        // Every entry's event is covered, so every entry leaves.
+        state.memory.fill(0);
+        state.board.overflow = false;
+        return true;
+    }
+    let Some(event) = config.event_of(code) else {
+        return false;
+    };
+    *record(state, event) = [FRESH_STATUS, 0, 0, 0];
+    state.debounce[event] = 0;
+    leave(config, state, event);
+    true
+}
+
+pub fn read_status(config: &[i32], state: &State, event: usize) -> Result<u8, u8> {
+    let config = judge(config, state)?;
+    if event >= config.events {
+        return Err(NO_SUCH);
+    }
+    Ok(state.records[4 * event])
+}
+
+/// The frame's start in the memory block, and its length.
+pub fn read_frame(config: &[i32], state: &State, event: usize) -> Result<(usize, usize), u8> {
+    let config = judge(config, state)?;
+    if event >= config.events {
+        return Err(NO_SUCH);
+    }
+    match place_of(&config, &state.memory, event) {
+        Some(place) => Ok((at(&config, place) + 3, config.frame)),
+        None => Err(NO_ENTRY),
+    }
+}
+
+/// The image's bytes before its bodies, for this many entries.
+pub fn image_head(config: &Configuration, entries: usize) -> [u8; IMAGE_HEAD] {
+    let mut head = [0; IMAGE_HEAD];
+    head[..2].copy_from_slice(&[3, 1]);
+    let lengths = [4 * config.events, 1 + entries * config.entry(), 1];
+    let mut offset = IMAGE_HEAD;
+    for (body, length) in lengths.into_iter().enumerate() {
+        let row = &mut head[2 + 6 * body..8 + 6 * body];
+        row[0] = body as u8 + 1;
+        row[2..4].copy_from_slice(&(offset as u16).to_be_bytes());
+        row[4..].copy_from_slice(&(length as u16).to_be_bytes());
+        offset += length;
+    }
+    head
+}
+
+/// Writes the image into the room and answers its length.
+pub fn save(config: &[i32], state: &State, room: &mut [u8]) -> Result<usize, u8> {
+    let config = judge(config, state)?;
+    if state.board.running.contains(&true) {
+        return Err(WRONG_CYCLE_STATE);
+    }
+    let count = usize::from(state.memory[0]);
+    let used = at(&config, count);
+    let memory_from = IMAGE_HEAD + state.records.len();
+    let overflow_at = memory_from + used;
+    if room.len() < overflow_at + 1 {
+        return Err(ROOM_TOO_SMALL);
+    }
+    room[..IMAGE_HEAD].copy_from_slice(&image_head(&config, count));
+    room[IMAGE_HEAD..memory_from].copy_from_slice(&state.records);
+    room[memory_from..overflow_at].copy_from_slice(&state.memory[..used]);
+    room[overflow_at] = u8::from(state.board.overflow);
+    Ok(overflow_at + 1)
+}
+
+pub fn restore(config: &[i32], state: &mut State, image: &[u8]) -> Result<(), u8> {
+    let config = judge_lengths(config, state)?;
+    let (records, memory, overflow) = bodies(&config, image).ok_or(BAD_IMAGE)?;
+    state.records.copy_from_slice(records);
+    state.debounce.fill(0);
+    state.memory[..memory.len()].copy_from_slice(memory);
+    state.memory[memory.len()..].fill(0);
+    state.board = Board {
+        running: [false; 4],
+        overflow,
+    };
+    Ok(())
+}
+
+/// The three bodies of an image of a well-formed state with all cycles
+/// stopped; none for anything else.
+fn bodies<'a>(config: &Configuration, image: &'a [u8]) -> Option<(&'a [u8], &'a [u8], bool)> {
+    let (head, rest) = image.split_at_checked(IMAGE_HEAD)?;
+    let (records, rest) = rest.split_at_checked(4 * config.events)?;
+    let count = usize::from(*rest.first()?);
+    if count > config.places || head != image_head(config, count) {
+        return None;
+    }
+    let (memory, rest) = rest.split_at_checked(at(config, count))?;
+    let overflow = match rest {
+        [0] => false,
+        [1] => true,
+        _ => return None,
+    };
+    let mut rows = config.rows().zip(records.as_chunks::<4>().0);
+    let fits = rows.all(|(row, record)| record_well_formed(&row, record))
+        && entries_well_formed(config, &memory[1..], records);
+    fits.then_some((records, memory, overflow))
+}
+
+/// A diagnostic request. Writes the reply into the room and answers its length.
+pub fn request(
+    config: &[i32],
+    state: &mut State,
+    request: &[u8],
+    room: &mut [u8],
+) -> Result<usize, u8> {
+    let config = judge(config, state)?;
+    if room.len() < 3 {
+        return Err(ROOM_TOO_SMALL);
+    }
+    let Some(service) = request.first() else {
+        return Err(BAD_ARGUMENT);
+    };
+    let reply = match service {
+        0x19 => read_information(&config, state, request, room),
+        0x14 => clear_information(&config, state, request, room),
+        _ => Err(0x11),
+    };
+    Ok(reply.unwrap_or_else(|code| {
+        room[..3].copy_from_slice(&[0x7F, *service, code]);
+        3
+    }))
+}
+
+/// Service 19. `Err` is the code of a negative reply.
+fn read_information(
+    config: &Configuration,
+    state: &State,
+    request: &[u8],
+    room: &mut [u8],
+) -> Result<usize, u8> {
+    let &[_, second, ref rest @ ..] = request else {
+        return Err(0x13);
+    };
+    let sub_function = second & 0x7F;
+    let mask = match (sub_function, rest) {
+        (0x01 | 0x02, [mask]) => Some(*mask),
+        (0x0A, []) => None,
+        (0x01 | 0x02 | 0x0A, _) => return Err(0x13),
+        _ => return Err(0x12),
+    };
+    // "With the top bit set a positive reply has length 0 and the room stays untouched."
+    if second & 0x80 != 0 {
+        return Ok(0);
+    }
+    let statuses = state.records.iter().step_by(4);
+    let matching = statuses.filter(|status| matches(**status, mask)).count();
+    let counted = sub_function == 0x01;
+    let length = if counted { 6 } else { 3 + 4 * matching };
+    // "Otherwise one longer than the room: code 14."
+    let reply = room.get_mut(..length).ok_or(0x14)?;
+    reply[..3].copy_from_slice(&[0x59, sub_function, 0xFF]);
+    if counted {
+        reply[3..].copy_from_slice(&[0x01, (matching >> 8) as u8, matching as u8]);
+    } else {
+        list(config, state, mask, &mut reply[3..]);
+    }
+    Ok(length)
+}
+
+/// "An event matches if status and mask share a set bit." Without a mask all do.
+fn matches(status: u8, mask: Option<u8>) -> bool {
+    mask.is_none_or(|mask| status & mask != 0)
+}
+
+/// "Per matching event trouble code (3 bytes high first) and status, rising."
+fn list(config: &Configuration, state: &State, mask: Option<u8>, reply: &mut [u8]) {
+    let statuses = state.records.iter().step_by(4);
+    let matching = config
+        .rows()
+        .zip(statuses)
+        .filter(|(_, status)| matches(**status, mask));
+    for ((row, status), part) in matching.zip(reply.chunks_exact_mut(4)) {
+        let [_, high, middle, low] = row.trouble_code.to_be_bytes();
+        part.copy_from_slice(&[high, middle, low, *status]);
+    }
+}
+
+/// Service 14. `Err` is the code of a negative reply.
+fn clear_information(
+    config: &Configuration,
+    state: &mut State,
+    request: &[u8],
+    room: &mut [u8],
+) -> Result<usize, u8> {
+    let &[_, high, middle, low] = request else {
+        return Err(0x13);
+    };
+    if !clear_code(config, state, u32::from_be_bytes([0, high, middle, low])) {
+        return Err(0x31);
+    }
+    room[0] = 0x54;
+    Ok(1)
+}

@@ -1,0 +1,311 @@
+//! Random stories: a fresh state, then mostly sensible calls, so that events
+//! confirm, heal, age, displace one another and come back from images.
+
+use crate::call::{Call, Outcome};
+use crate::compare::{as_bytes, Comparison};
+use crate::happenings::Happenings;
+use crate::making;
+use crate::random::Random;
+use crate::reference::{
+    Board, Configuration, State, ALL_CODES, DONE, FAILED, KIND_INTERNAL, KIND_TIME, PASSED,
+    PRE_FAILED, PRE_PASSED,
+};
+use crate::tally::Tally;
+
+/// Stories fail when something they are about did not happen in so many calls.
+const ENOUGH: u64 = 100_000;
+
+pub fn run(rounds: u64, seed: u64) -> Tally {
+    let mut random = Random::new(seed);
+    let mut both = Comparison::new("stories");
+    let mut happenings = Happenings::default();
+    while both.tally.ran < rounds {
+        let numbers = making::configuration(&mut random);
+        let config = Configuration::judge(&numbers).expect("made to be right");
+        let mut story = Story {
+            mood: Mood::new(&mut random, &config),
+            state: making::junk(&mut random, &config),
+            random: &mut random,
+            both: &mut both,
+            happenings: &mut happenings,
+            before: State::default(),
+            numbers: &numbers,
+            config,
+            rounds,
+        };
+        story.tell();
+    }
+    if rounds >= ENOUGH {
+        for what in happenings.missing() {
+            both.tally.miss(what.to_string());
+        }
+    }
+    both.tally
+}
+
+/// What a story is like.
+struct Mood {
+    calls: usize,
+    /// Percent of steps that start or stop a cycle.
+    turning: usize,
+    /// Percent of reports that are failed or pre-failed.
+    failing: usize,
+    /// Percent of reports that are pre-results.
+    pre: usize,
+    /// Most reports go to this many events from `first` on.
+    first: usize,
+    events: usize,
+}
+
+impl Mood {
+    fn new(random: &mut Random, config: &Configuration) -> Mood {
+        let events = (config.places + 3).min(config.events);
+        Mood {
+            calls: random.pick(&[40, 150, 400]),
+            turning: random.pick(&[5, 15, 30, 60]),
+            failing: random.pick(&[20, 50, 50, 90]),
+            pre: random.pick(&[20, 60]),
+            first: random.below(config.events - events + 1),
+            events,
+        }
+    }
+}
+
+struct Story<'a> {
+    random: &'a mut Random,
+    both: &'a mut Comparison,
+    happenings: &'a mut Happenings,
+    numbers: &'a [i32],
+    config: Configuration<'a>,
+    mood: Mood,
+    state: State,
+    before: State,
+    rounds: u64,
+}
+
+impl Story<'_> {
+    /// None, here and below: all rounds have been made.
+    fn tell(&mut self) -> Option<()> {
+        self.call(Call::Fresh)?;
+        // Some stories go on from a state that would take hundreds of cycles to come to.
+        if self.random.one_in(3) {
+            self.take_over()?;
+        }
+        for _ in 0..self.mood.calls {
+            self.step()?;
+        }
+        Some(())
+    }
+
+    fn call(&mut self, call: Call) -> Option<Outcome> {
+        if self.both.tally.ran >= self.rounds {
+            return None;
+        }
+        self.before.clone_from(&self.state);
+        let board = as_bytes(&self.state.board);
+        let fill = self.random.byte();
+        let outcome = self
+            .both
+            .call(self.numbers, &mut self.state, board, &call, fill);
+        if outcome.number == DONE {
+            let room = self.both.room();
+            self.happenings
+                .observe(&self.config, &call, room, &self.before, &self.state);
+        }
+        Some(outcome)
+    }
+
+    /// Restores the image of a random well-formed state.
+    fn take_over(&mut self) -> Option<()> {
+        let board = Board {
+            running: [false; 4],
+            overflow: self.random.one_in(2),
+        };
+        let other = making::state(self.random, &self.config, board);
+        let image = making::image(&self.config, &other);
+        self.call(Call::Restore { image })?;
+        if self.state != other {
+            let text = "the state restored is not the state of the image";
+            self.both.tally.differ(text.to_string());
+        }
+        Some(())
+    }
+
+    fn step(&mut self) -> Option<()> {
+        if self.random.percent(self.mood.turning) {
+            return self.turn();
+        }
+        let event = self.random.below(self.config.events + 1);
+        match self.random.below(100) {
+            0..60 => return self.report(),
+            60..72 => return self.tick(),
+            72..84 => return self.request(),
+            84..90 => return self.save(),
+            90..92 => self.call(Call::ReadStatus { event }),
+            92..96 => self.call(Call::ReadFrame { event }),
+            96..99 => {
+                let code = self.trouble_code();
+                self.call(Call::Clear { code })
+            }
+            _ if self.random.one_in(4) => self.call(Call::Fresh),
+            _ => return self.take_over(),
+        }?;
+        Some(())
+    }
+
+    /// An event of those that this story is about.
+    fn event(&mut self) -> usize {
+        self.mood.first + self.random.below(self.mood.events)
+    }
+
+    /// Starts a stopped cycle or stops a running one; rarely the wrong way round.
+    fn turn(&mut self) -> Option<()> {
+        let event = self.event();
+        let mut cycle = self.config.row(event).cycle as u32;
+        if self.random.one_in(20) {
+            cycle = self.random.below(6) as u32;
+        }
+        let runs = cycle < 4 && self.state.board.running[cycle as usize];
+        let stop = runs != self.random.one_in(30);
+        self.call(match stop {
+            true => Call::Stop { cycle },
+            false => Call::Start { cycle },
+        })?;
+        Some(())
+    }
+
+    fn frame(&mut self) -> Vec<u8> {
+        let mut length = self.config.frame;
+        if self.random.one_in(60) {
+            length = self.random.below(34);
+        }
+        self.random.bytes(length)
+    }
+
+    fn report(&mut self) -> Option<()> {
+        let event = match self.random.one_in(40) {
+            true => self.random.below(self.config.events),
+            false => self.event(),
+        };
+        let row = self.config.row(event);
+        if !self.state.board.running[row.cycle as usize] && !self.random.one_in(5) {
+            let cycle = row.cycle as u32;
+            self.call(Call::Start { cycle })?;
+        }
+        let failing = self.random.percent(self.mood.failing);
+        let pre = self.random.percent(self.mood.pre)
+            && (row.kind != KIND_INTERNAL || self.random.one_in(20));
+        let code = match (failing, pre) {
+            (false, false) => PASSED,
+            (true, false) => FAILED,
+            (false, true) => PRE_PASSED,
+            (true, true) => PRE_FAILED,
+        };
+        let frame = self.frame();
+        self.call(Call::Report { event, code, frame })?;
+        Some(())
+    }
+
+    /// A tick of any length, or one that just brings an event to its top or bottom, or just not.
+    fn tick(&mut self) -> Option<()> {
+        let event = self.event();
+        let row = self.config.row(event);
+        let d = self.state.debounce[event];
+        let rest = if d > 0 {
+            row.top() - d
+        } else {
+            d - row.bottom()
+        };
+        let near = row.kind == KIND_TIME && d != 0 && self.random.one_in(2);
+        let ms = match near {
+            true => (rest - self.random.between(0, 1)).max(0) as u32,
+            false => self
+                .random
+                .pick(&[0, 1, 2, 5, 499, 500, 30_000, 60_000, 60_001]),
+        };
+        let frame = self.frame();
+        self.call(Call::Tick { ms, frame })?;
+        Some(())
+    }
+
+    /// A known trouble code mostly, sometimes all, sometimes none's.
+    fn trouble_code(&mut self) -> u32 {
+        let event = self.event();
+        let known = self.config.row(event).trouble_code as u32;
+        match self.random.below(10) {
+            0 => ALL_CODES,
+            1 => known + 1,
+            _ => known,
+        }
+    }
+
+    fn request(&mut self) -> Option<()> {
+        let mask = match self.random.one_in(2) {
+            true => self.random.byte(),
+            false => 1 << self.random.below(8),
+        };
+        let suppress = self.random.pick(&[0, 0, 0, 0, 0x80]);
+        let [_, high, middle, low] = self.trouble_code().to_be_bytes();
+        let mut request = match self.random.below(8) {
+            0 | 1 => vec![0x19, suppress | 0x01, mask],
+            2..5 => vec![0x19, suppress | 0x02, mask],
+            5 | 6 => vec![0x19, suppress | 0x0A],
+            _ => vec![0x14, high, middle, low],
+        };
+        match self.random.below(30) {
+            0 => request.push(mask),
+            1 => drop(request.pop()),
+            2 => request[1] = mask,
+            3 => request[0] = mask,
+            4 => request.truncate(self.random.below(2)),
+            _ => {}
+        }
+        let whole = 3 + 4 * self.config.events;
+        let some = 3 + 4 * self.random.below(self.config.events + 1);
+        let room = self
+            .random
+            .pick(&[whole, whole, whole + 9, some, some + 1, 6, 5, 3, 2]);
+        self.call(Call::Request { request, room })?;
+        Some(())
+    }
+
+    /// Stops what runs, mostly, and saves; then brings the image back elsewhere.
+    fn save(&mut self) -> Option<()> {
+        if !self.random.one_in(4) {
+            for cycle in 0..4 {
+                if self.state.board.running[cycle as usize] {
+                    self.call(Call::Stop { cycle })?;
+                }
+            }
+        }
+        let exact = making::image(&self.config, &self.state).len();
+        let room = self.random.pick(&[exact, exact, exact + 7, exact - 1]);
+        let saved = self.call(Call::Save { room })?;
+        if saved.number == DONE {
+            let image = self.both.room()[..exact].to_vec();
+            self.bring_back(image)?;
+        }
+        Some(())
+    }
+
+    /// The restored state is the saved state, and saved again gives the same
+    /// bytes; and the story goes on from there.
+    fn bring_back(&mut self, image: Vec<u8>) -> Option<()> {
+        let junk = making::junk(self.random, &self.config);
+        let saved = std::mem::replace(&mut self.state, junk);
+        let room = image.len();
+        self.call(Call::Restore {
+            image: image.clone(),
+        })?;
+        if self.state != saved {
+            let text = "the restored state is not the saved state";
+            self.both.tally.differ(text.to_string());
+        }
+        self.call(Call::Save { room })?;
+        if self.both.room() != image {
+            let text = "the image restored and saved again has other bytes";
+            self.both.tally.differ(text.to_string());
+        }
+        Some(())
+    }
+}
