@@ -1,4 +1,3 @@
-pub mod JudgedLaws
 pub mod ReportLaws
 pub mod TickLaws
 pub mod OneOutcomeOnly

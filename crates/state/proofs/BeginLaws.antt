@@ -1,6 +1,5 @@
 -- Laws of how a call begins: "Every call begins 2, 3."
 use mathlib.Core.Path.{_≡_, refl, sym, ap, _∙_}
-use mathlib.Core.Logic.{_≢_}
 use mathlib.Core.Bool.{Bool, true, false, _&&_, cond}
 use mathlib.Core.List.{List, []}
 use Prim.Native.Nat.{ℕ}
@@ -53,10 +52,6 @@ stops false b rules r e = sym e
 -- ---- a call's judge is the beginning, then its own tests
 
 module _ (cfg : Configuration) (s : State) where
-  -- the number of the beginning, where it is not 0, else that of the call's own tests
-  pub first-after-begin : (rules : List Rule) → firstThatApplies (begins cfg s rules) ≡ cond (eqb (firstThatApplies (begins cfg s [])) 0) (firstThatApplies rules) (firstThatApplies (begins cfg s []))
-  first-after-begin rules = first-of (configOk cfg) (wellFormed cfg s) rules
-
   -- what Go gives
   pub begun : firstThatApplies (begins cfg s []) ≡ 0 → (configOk cfg ≡ true) × (wellFormed cfg s ≡ true)
   begun e = both-hold (configOk cfg) (wellFormed cfg s) e
@@ -69,10 +64,6 @@ module _ (cfg : Configuration) (s : State) where
   after-stop rules r e = stops (configOk cfg) (wellFormed cfg s) rules r e
 
   -- the same for restore and for making a fresh state
-  pub first-after-lengths : (rules : List Rule)
-      → firstThatApplies (beginsWithLengths cfg s rules) ≡ cond (eqb (firstThatApplies (beginsWithLengths cfg s [])) 0) (firstThatApplies rules) (firstThatApplies (beginsWithLengths cfg s []))
-  first-after-lengths rules = first-of (configOk cfg) (lengthsFit cfg s) rules
-
   pub begun-with-lengths : firstThatApplies (beginsWithLengths cfg s []) ≡ 0 → (configOk cfg ≡ true) × (lengthsFit cfg s ≡ true)
   begun-with-lengths e = both-hold (configOk cfg) (lengthsFit cfg s) e
 

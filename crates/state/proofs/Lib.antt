@@ -1,2 +1,3 @@
 pub mod WellFormedLaws
 pub mod BeginLaws
+pub mod JudgedLaws

@@ -204,209 +204,82 @@ extern "C" {
     ) -> RequestAnswer;
 }
 
+/// Calls a function of the header: what is lent first, then the call's own arguments.
+macro_rules! call {
+    ($function:ident, $lent:expr $(, $argument:expr)*) => {{
+        let lent = $lent;
+        // SAFETY: each pointer and length come from one slice, and writable slices are exclusive.
+        unsafe {
+            $function(
+                lent.config.as_ptr(),
+                lent.config.len(),
+                lent.records.as_mut_ptr(),
+                lent.records.len(),
+                lent.debounce.as_mut_ptr(),
+                lent.debounce.len(),
+                lent.memory.as_mut_ptr(),
+                lent.memory.len(),
+                lent.board
+                $(, $argument)*
+            )
+        }
+    }};
+}
+
 pub fn fresh(lent: Lent) -> Answer {
-    // SAFETY: each pointer and length come from one slice, and writable slices are exclusive.
-    unsafe {
-        grelpicado_fresh(
-            lent.config.as_ptr(),
-            lent.config.len(),
-            lent.records.as_mut_ptr(),
-            lent.records.len(),
-            lent.debounce.as_mut_ptr(),
-            lent.debounce.len(),
-            lent.memory.as_mut_ptr(),
-            lent.memory.len(),
-            lent.board,
-        )
-    }
+    call!(grelpicado_fresh, lent)
 }
 
 pub fn report(lent: Lent, event: usize, code: u32, frame: &[u8]) -> ReportAnswer {
-    // SAFETY: each pointer and length come from one slice, and writable slices are exclusive.
-    unsafe {
-        grelpicado_report(
-            lent.config.as_ptr(),
-            lent.config.len(),
-            lent.records.as_mut_ptr(),
-            lent.records.len(),
-            lent.debounce.as_mut_ptr(),
-            lent.debounce.len(),
-            lent.memory.as_mut_ptr(),
-            lent.memory.len(),
-            lent.board,
-            event,
-            code,
-            frame.as_ptr(),
-            frame.len(),
-        )
-    }
+    call!(
+        grelpicado_report,
+        lent,
+        event,
+        code,
+        frame.as_ptr(),
+        frame.len()
+    )
 }
 
 pub fn tick(lent: Lent, ms: u32, frame: &[u8]) -> Answer {
-    // SAFETY: each pointer and length come from one slice, and writable slices are exclusive.
-    unsafe {
-        grelpicado_tick(
-            lent.config.as_ptr(),
-            lent.config.len(),
-            lent.records.as_mut_ptr(),
-            lent.records.len(),
-            lent.debounce.as_mut_ptr(),
-            lent.debounce.len(),
-            lent.memory.as_mut_ptr(),
-            lent.memory.len(),
-            lent.board,
-            ms,
-            frame.as_ptr(),
-            frame.len(),
-        )
-    }
+    call!(grelpicado_tick, lent, ms, frame.as_ptr(), frame.len())
 }
 
 pub fn start(lent: Lent, cycle: u32) -> Answer {
-    // SAFETY: each pointer and length come from one slice, and writable slices are exclusive.
-    unsafe {
-        grelpicado_start(
-            lent.config.as_ptr(),
-            lent.config.len(),
-            lent.records.as_mut_ptr(),
-            lent.records.len(),
-            lent.debounce.as_ptr(),
-            lent.debounce.len(),
-            lent.memory.as_ptr(),
-            lent.memory.len(),
-            lent.board,
-            cycle,
-        )
-    }
+    call!(grelpicado_start, lent, cycle)
 }
 
 pub fn stop(lent: Lent, cycle: u32) -> Answer {
-    // SAFETY: each pointer and length come from one slice, and writable slices are exclusive.
-    unsafe {
-        grelpicado_stop(
-            lent.config.as_ptr(),
-            lent.config.len(),
-            lent.records.as_mut_ptr(),
-            lent.records.len(),
-            lent.debounce.as_mut_ptr(),
-            lent.debounce.len(),
-            lent.memory.as_mut_ptr(),
-            lent.memory.len(),
-            lent.board,
-            cycle,
-        )
-    }
+    call!(grelpicado_stop, lent, cycle)
 }
 
 pub fn clear(lent: Lent, code: u32) -> Answer {
-    // SAFETY: each pointer and length come from one slice, and writable slices are exclusive.
-    unsafe {
-        grelpicado_clear(
-            lent.config.as_ptr(),
-            lent.config.len(),
-            lent.records.as_mut_ptr(),
-            lent.records.len(),
-            lent.debounce.as_mut_ptr(),
-            lent.debounce.len(),
-            lent.memory.as_mut_ptr(),
-            lent.memory.len(),
-            lent.board,
-            code,
-        )
-    }
+    call!(grelpicado_clear, lent, code)
 }
 
 pub fn read_status(lent: Lent, event: usize) -> StatusAnswer {
-    // SAFETY: each pointer and length come from one slice, and writable slices are exclusive.
-    unsafe {
-        grelpicado_read_status(
-            lent.config.as_ptr(),
-            lent.config.len(),
-            lent.records.as_ptr(),
-            lent.records.len(),
-            lent.debounce.as_ptr(),
-            lent.debounce.len(),
-            lent.memory.as_ptr(),
-            lent.memory.len(),
-            lent.board,
-            event,
-        )
-    }
+    call!(grelpicado_read_status, lent, event)
 }
 
 pub fn read_frame(lent: Lent, event: usize) -> FrameAnswer {
-    // SAFETY: each pointer and length come from one slice, and writable slices are exclusive.
-    unsafe {
-        grelpicado_read_frame(
-            lent.config.as_ptr(),
-            lent.config.len(),
-            lent.records.as_ptr(),
-            lent.records.len(),
-            lent.debounce.as_ptr(),
-            lent.debounce.len(),
-            lent.memory.as_ptr(),
-            lent.memory.len(),
-            lent.board,
-            event,
-        )
-    }
+    call!(grelpicado_read_frame, lent, event)
 }
 
 pub fn save(lent: Lent, room: &mut [u8]) -> LengthAnswer {
-    // SAFETY: each pointer and length come from one slice, and writable slices are exclusive.
-    unsafe {
-        grelpicado_save(
-            lent.config.as_ptr(),
-            lent.config.len(),
-            lent.records.as_ptr(),
-            lent.records.len(),
-            lent.debounce.as_ptr(),
-            lent.debounce.len(),
-            lent.memory.as_ptr(),
-            lent.memory.len(),
-            lent.board,
-            room.as_mut_ptr(),
-            room.len(),
-        )
-    }
+    call!(grelpicado_save, lent, room.as_mut_ptr(), room.len())
 }
 
 pub fn restore(lent: Lent, image: &[u8]) -> Answer {
-    // SAFETY: each pointer and length come from one slice, and writable slices are exclusive.
-    unsafe {
-        grelpicado_restore(
-            lent.config.as_ptr(),
-            lent.config.len(),
-            lent.records.as_mut_ptr(),
-            lent.records.len(),
-            lent.debounce.as_mut_ptr(),
-            lent.debounce.len(),
-            lent.memory.as_mut_ptr(),
-            lent.memory.len(),
-            lent.board,
-            image.as_ptr(),
-            image.len(),
-        )
-    }
+    call!(grelpicado_restore, lent, image.as_ptr(), image.len())
 }
 
 pub fn request(lent: Lent, request: &[u8], room: &mut [u8]) -> RequestAnswer {
-    // SAFETY: each pointer and length come from one slice, and writable slices are exclusive.
-    unsafe {
-        grelpicado_request(
-            lent.config.as_ptr(),
-            lent.config.len(),
-            lent.records.as_mut_ptr(),
-            lent.records.len(),
-            lent.debounce.as_mut_ptr(),
-            lent.debounce.len(),
-            lent.memory.as_mut_ptr(),
-            lent.memory.len(),
-            lent.board,
-            request.as_ptr(),
-            request.len(),
-            room.as_mut_ptr(),
-            room.len(),
-        )
-    }
+    call!(
+        grelpicado_request,
+        lent,
+        request.as_ptr(),
+        request.len(),
+        room.as_mut_ptr(),
+        room.len()
+    )
 }

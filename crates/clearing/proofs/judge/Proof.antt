@@ -1,7 +1,5 @@
-use mathlib.Core.Path.{sym, ap, _∙_}
 use Rattle.manual.specs.Calls.{clearRules}
-use Rattle.state.specs.Checks.{checkNumber}
-use Rattle.state.proofs.BeginLaws.{begun, after-go, after-stop}
+use Rattle.state.proofs.JudgedLaws.{begun-by, judged-by, stopped-by}
 use borrow.Author.Needs.{needs}
 use Rattle.clearing.proofs.judge.Statement.{statement}
 use Rattle.clearing.proofs.judge.Tie as tie
@@ -13,18 +11,18 @@ enum-told : tie.Need-enum-told
 enum-told c = search needs
 
 judge-code-requires : tie.Need-judge-code-requires
-judge-code-requires c κs = begun _ _ (sym (c .before .before .begin .ensures) ∙ ap checkNumber (c .enum-told .given .1)) .0
+judge-code-requires c κs = begun-by _ _ (c .before .before .begin .ensures) (c .enum-told .given .1)
 
 enum-known-refusal : tie.Need-enum-known-refusal
 enum-known-refusal c = search needs
 
 returns : tie.Need-returns
 unfolding clearRules
-returns c = c .judge-code .ensures ∙ sym (after-go _ _ _ (sym (c .before .before .before .begin .ensures) ∙ ap checkNumber (c .before .enum-told .given .1)))
+returns c = judged-by _ _ (c .before .before .before .begin .ensures) _ (c .before .enum-told .given .1) (c .judge-code .ensures)
 
 returns-2 : tie.Need-returns-2
 unfolding clearRules
-returns-2 c = sym (after-stop _ _ _ (c .before .refusal .given .0 .0) (sym (ap checkNumber (c .before .refusal .given .1)) ∙ c .before .before .before .begin .ensures))
+returns-2 c = stopped-by _ _ (c .before .before .before .begin .ensures) _ _ (c .before .refusal .given .1)
 
 pub judge-spec : {M : Type 1} → statement M
 judge-spec =

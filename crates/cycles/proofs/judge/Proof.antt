@@ -1,11 +1,5 @@
 -- `judge` meets its contract.
-use mathlib.Core.Path.{sym, ap, _∙_}
-use denote.Ref.{now}
-use lib.Dec.{ltb}
-use Rattle.manual.specs.State.{lent}
-use Rattle.state.specs.Checks.{checkNumber}
-use Rattle.state.proofs.BeginLaws.{after-go, after-stop}
-use Rattle.cycles.specs.Cycles.{fourFive}
+use Rattle.state.proofs.JudgedLaws.{judged-by, stopped-by}
 use borrow.Author.Needs.{needs}
 use Rattle.cycles.proofs.judge.Statement.{statement}
 use Rattle.cycles.proofs.judge.Tie as tie
@@ -23,18 +17,10 @@ enum-known-refusal : tie.Need-enum-known-refusal
 enum-known-refusal c = search needs
 
 returns : tie.Need-returns
-returns c =
-    let a = c .before .before .before .before .before .before .args in
-    let s = lent (now (a .records)) (now (a .debounce)) (now (a .memory)) (a .board) in
-    c .four-five .ensures
-    ∙ sym (after-go (now (a .cfg)) s (fourFive (ltb 3 (a .cycle)) (a .wrong)) (sym (c .before .before .before .begin .ensures) ∙ ap checkNumber (c .before .enum-told .given .1)))
+returns c = judged-by _ _ (c .before .before .before .begin .ensures) _ (c .before .enum-told .given .1) (c .four-five .ensures)
 
 returns-2 : tie.Need-returns-2
-returns-2 c =
-    let a = c .before .before .before .before .before .before .args in
-    let s = lent (now (a .records)) (now (a .debounce)) (now (a .memory)) (a .board) in
-    sym (after-stop (now (a .cfg)) s (fourFive (ltb 3 (a .cycle)) (a .wrong)) (c .before .refusal .given .0 .0)
-    (ap checkNumber (sym (c .before .refusal .given .1)) ∙ c .before .before .before .begin .ensures))
+returns-2 c = stopped-by _ _ (c .before .before .before .begin .ensures) _ _ (c .before .refusal .given .1)
 
 pub judge-spec : {M : Type 1} → statement M
 judge-spec =

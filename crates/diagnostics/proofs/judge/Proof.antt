@@ -1,7 +1,5 @@
-use mathlib.Core.Path.{sym, ap, _∙_}
 use Rattle.manual.specs.Diagnostics.{requestRules}
-use Rattle.state.specs.Checks.{checkNumber}
-use Rattle.state.proofs.BeginLaws.{after-go, after-stop}
+use Rattle.state.proofs.JudgedLaws.{judged-by, stopped-by}
 use borrow.Author.Needs.{needs}
 use Rattle.diagnostics.proofs.judge.Statement.{statement}
 use Rattle.diagnostics.proofs.judge.Tie as tie
@@ -20,11 +18,11 @@ enum-known-refusal c = search needs
 
 returns : tie.Need-returns
 unfolding requestRules
-returns c = c .judge-sizes .ensures ∙ sym (after-go _ _ _ (sym (c .before .before .before .begin .ensures) ∙ ap checkNumber (c .before .enum-told .given .1)))
+returns c = judged-by _ _ (c .before .before .before .begin .ensures) _ (c .before .enum-told .given .1) (c .judge-sizes .ensures)
 
 returns-2 : tie.Need-returns-2
 unfolding requestRules
-returns-2 c = sym (after-stop _ _ _ (c .before .refusal .given .0 .0) (sym (ap checkNumber (c .before .refusal .given .1)) ∙ c .before .before .before .begin .ensures))
+returns-2 c = stopped-by _ _ (c .before .before .before .begin .ensures) _ _ (c .before .refusal .given .1)
 
 pub judge-spec : {M : Type 1} → statement M
 judge-spec =
