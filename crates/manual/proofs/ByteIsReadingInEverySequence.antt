@@ -22,7 +22,7 @@ use Rattle.manual.specs.Calls.{freshRules, fresh, freshState, reportRule
 use Rattle.manual.specs.Image.{save, restore, saveRules, restoreRules}
 use Rattle.manual.specs.Diagnostics.{requestRules}
 use Rattle.manual.specs.Debouncing.{reported, ticked}
-use Rattle.manual.specs.Sequences.{rulesOf, Call, Fresh, Report, Tick, Start, Stop, Clear, ReadStatus, ReadFrame, Save, Restore, Request, outcome, written, tokensAt, goesOn, Reached, begun, called, restored}
+use Rattle.manual.specs.Sequences.{rulesOf, Call, Fresh, Report, Tick, Start, Stop, Clear, ReadStatus, ReadFrame, Save, Restore, Request, outcome, savedImage, tokensAt, goesOn, Reached, begun, called, restored}
 use Rattle.manual.proofs.AnswersLaws.{none-applies, accepted, lacks, never-given}
 use Rattle.manual.proofs.ConfigurationLaws.{config-tells}
 use Rattle.manual.proofs.WellFormedLaws.{state-tells, well-formed-lengths}
@@ -99,7 +99,7 @@ module _ (cfg : Configuration) where
     follows = call-follows cfg c s H g (w .follows);
   }
 
-  whole-restored : (s s′ : State) (H H′ : Histories) (room : List ℕ) → save cfg room s .answer ≡ 0 → Whole s H → Whole s′ H′ → Whole (restore cfg (written (save cfg room s)) s′ .state) H
+  whole-restored : (s s′ : State) (H H′ : Histories) (room : List ℕ) → save cfg room s .answer ≡ 0 → Whole s H → Whole s′ H′ → Whole (restore cfg (savedImage (save cfg room s)) s′ .state) H
   whole-restored s s′ H H′ room z w w′ =
       subst (λ (o : Outcome). Whole (o .state) H) (sym (restore-after-save cfg (w .config) s s′ (w .four) (well-formed-lengths cfg s′ (w′ .formed)) room z)) w
 

@@ -12,7 +12,7 @@ use Rattle.manual.specs.State.{State}
 use Rattle.manual.specs.Answers.{done, firstThatApplies, _if_}
 use Rattle.manual.specs.WellFormed.{lengthsFit, wellFormed}
 use Rattle.manual.specs.Image.{Still, imageOf, stateOf, acceptable, saveRules, save, restoreRules, restore}
-use Rattle.manual.specs.Sequences.{written}
+use Rattle.manual.specs.Sequences.{savedImage}
 use Rattle.manual.proofs.AnswersLaws.{none-applies, accepted, goes-through}
 use Rattle.manual.proofs.ImageLaws.{state-of-own-image, own-image-acceptable}
 
@@ -29,12 +29,12 @@ module _ (cfg : Configuration) where
       record { formed = not-false (wellFormed cfg s) (none 1); four = four; stopped = none 2 }
 
   -- save wrote the image
-  pub written-image : (room : List ℕ) (s : State) → save cfg room s .answer ≡ 0 → written (save cfg room s) ≡ imageOf cfg s
+  pub written-image : (room : List ℕ) (s : State) → save cfg room s .answer ≡ 0 → savedImage (save cfg room s) ≡ imageOf cfg s
   unfolding save
-  written-image room s z = ap written (accepted _ room s _ z .1) ∙ take-at (imageOf cfg s) _ (length (imageOf cfg s)) refl
+  written-image room s z = ap savedImage (accepted _ room s _ z .1) ∙ take-at (imageOf cfg s) _ (length (imageOf cfg s)) refl
 
   pub restore-after-save : configOk cfg ≡ true → (s s′ : State) → length (s .board .running) ≡ 4 → lengthsFit cfg s′ ≡ true → (room : List ℕ) → save cfg room s .answer ≡ 0
-      → restore cfg (written (save cfg room s)) s′ ≡ done s
+      → restore cfg (savedImage (save cfg room s)) s′ ≡ done s
   unfolding restore restoreRules
   restore-after-save c s s′ four fits room z =
       let still = saved-still room s four z in

@@ -88,17 +88,17 @@ jumping = oneEvent 1 (negsuc 3) (pos 4) 2 1 1
 abbrev pub timed : Configuration
 timed = oneEvent 2 (negsuc 499) (pos 500) 0 0 0
 
-abbrev pub passes : Call
-passes = Report 0 0 []
+abbrev pub reportPassed : Call
+reportPassed = Report 0 0 []
 
-abbrev pub fails : Call
-fails = Report 0 1 []
+abbrev pub reportFailed : Call
+reportFailed = Report 0 1 []
 
-abbrev pub prePasses : Call
-prePasses = Report 0 2 []
+abbrev pub reportPrePassed : Call
+reportPrePassed = Report 0 2 []
 
-abbrev pub preFails : Call
-preFails = Report 0 3 []
+abbrev pub reportPreFailed : Call
+reportPreFailed = Report 0 3 []
 
 unfoldable pub table : List Story
 table =
@@ -106,35 +106,35 @@ table =
       config = marked;
       rows =
           ((Start 0 ∷ []) shows seen 0x50 (pos 0) 0 noEntry)
-          ∷ ((preFails ∷ []) shows seen 0x50 (pos 2) 0 noEntry)
-          ∷ ((preFails ∷ []) shows seen 0x27 (pos 4) 0 oneEntry)
+          ∷ ((reportPreFailed ∷ []) shows seen 0x50 (pos 2) 0 noEntry)
+          ∷ ((reportPreFailed ∷ []) shows seen 0x27 (pos 4) 0 oneEntry)
           ∷ ((Stop 0 ∷ []) shows seen 0x27 (pos 0) 0 oneEntry)
           ∷ ((Start 0 ∷ []) shows seen 0x65 (pos 0) 0 oneEntry)
-          ∷ ((fails ∷ []) shows seen 0xAF (pos 4) 0 oneEntry)
-          ∷ ((passes ∷ []) shows seen 0xAE (negsuc 3) 0 oneEntry)
+          ∷ ((reportFailed ∷ []) shows seen 0xAF (pos 4) 0 oneEntry)
+          ∷ ((reportPassed ∷ []) shows seen 0xAE (negsuc 3) 0 oneEntry)
           ∷ ((Stop 0 ∷ Start 0 ∷ []) shows seen 0xEC (pos 0) 0 oneEntry)
-          ∷ ((passes ∷ Stop 0 ∷ []) shows seen 0x28 (pos 0) 1 oneEntry)
+          ∷ ((reportPassed ∷ Stop 0 ∷ []) shows seen 0x28 (pos 0) 1 oneEntry)
           ∷ ((Start 0 ∷ Stop 0 ∷ Start 0 ∷ Stop 0 ∷ []) shows seen 0x60 (pos 0) 0 noEntry)
           ∷ [];
     }
     ∷ record {
       config = marked;
       rows =
-          ((Start 0 ∷ prePasses ∷ prePasses ∷ prePasses ∷ []) shows seen 0x50 (negsuc 2) 0 noEntry)
-          ∷ ((preFails ∷ []) shows seen 0x50 (negsuc 0) 0 noEntry)
+          ((Start 0 ∷ reportPrePassed ∷ reportPrePassed ∷ reportPrePassed ∷ []) shows seen 0x50 (negsuc 2) 0 noEntry)
+          ∷ ((reportPreFailed ∷ []) shows seen 0x50 (negsuc 0) 0 noEntry)
           ∷ [];
     }
     ∷ record {
       config = jumping;
       rows =
-          ((Start 0 ∷ prePasses ∷ prePasses ∷ prePasses ∷ []) shows seen 0x50 (negsuc 2) 0 noEntry)
-          ∷ ((preFails ∷ []) shows seen 0x50 (pos 2) 0 noEntry)
+          ((Start 0 ∷ reportPrePassed ∷ reportPrePassed ∷ reportPrePassed ∷ []) shows seen 0x50 (negsuc 2) 0 noEntry)
+          ∷ ((reportPreFailed ∷ []) shows seen 0x50 (pos 2) 0 noEntry)
           ∷ [];
     }
     ∷ record {
       config = timed;
       rows =
-          ((Start 0 ∷ preFails ∷ []) shows seen 0x50 (pos 1) 0 noEntry)
+          ((Start 0 ∷ reportPreFailed ∷ []) shows seen 0x50 (pos 1) 0 noEntry)
           ∷ ((Tick 499 [] ∷ []) shows seen 0x50 (pos 500) 0 noEntry)
           ∷ ((Tick 1 [] ∷ []) shows seen 0x27 (pos 501) 0 oneEntry)
           ∷ [];

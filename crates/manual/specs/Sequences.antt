@@ -38,8 +38,8 @@ abbrev pub onlyIf : Bool → List Token → List Token
 onlyIf test tokens = cond test tokens []
 
 -- the image that a save wrote
-abbrev pub written : Outcome → List ℕ
-written o = take (o .value) (o .room)
+abbrev pub savedImage : Outcome → List ℕ
+savedImage o = take (o .value) (o .room)
 
 -- the room that was lent to a call
 abbrev pub roomOf : Call → List ℕ
@@ -134,4 +134,4 @@ module _ (cfg : Configuration) where
     -- any call with any arguments, accepted or refused, "without a restore or a second fresh state"
     called : {s : State} {H : ℕ → History} → Reached s H → (c : Call) → goesOn c s ≡ true → Reached (outcome c s .state) (λ e. tokensAt c s e ++ H e)
     -- "After restoring an image saved in that sequence, the history is the one up to that save, then what follows."
-    restored : {s s′ : State} {H H′ : ℕ → History} → Reached s H → Reached s′ H′ → (room : List ℕ) → save cfg room s .answer ≡ 0 → Reached (restore cfg (written (save cfg room s)) s′ .state) H
+    restored : {s s′ : State} {H H′ : ℕ → History} → Reached s H → Reached s′ H′ → (room : List ℕ) → save cfg room s .answer ≡ 0 → Reached (restore cfg (savedImage (save cfg room s)) s′ .state) H

@@ -29,8 +29,8 @@ pub record Left : Type 0 where
   pub block : List ℕ
   pub answer : StoreAnswer
 
-abbrev pub leaves : List ℕ → StoreAnswer → Left
-leaves m r = record { block = m; answer = r }
+abbrev pub leftWith : List ℕ → StoreAnswer → Left
+leftWith m r = record { block = m; answer = r }
 
 -- the answer names the event of the entry that rule 3 takes out
 abbrev pub displacing : Option Entry → StoreAnswer
@@ -58,7 +58,7 @@ module _ (M F : ℕ) (priority : ℕ → ℕ) (quiet : ℕ → Bool) (e : ℕ) (
 
   -- what rules 2 to 4 leave, and what all four leave
   unfoldable pub admits : List Entry → Left
-  admits xs = leaves (memoryOf M F (admitted M priority quiet e frame xs .entries)) (admittedAnswer xs)
+  admits xs = leftWith (memoryOf M F (admitted M priority quiet e frame xs .entries)) (admittedAnswer xs)
 
   unfoldable pub stores : List Entry → Left
-  stores xs = leaves (memoryOf M F (store M priority quiet e frame xs .entries)) (storeAnswer xs)
+  stores xs = leftWith (memoryOf M F (store M priority quiet e frame xs .entries)) (storeAnswer xs)

@@ -18,7 +18,7 @@ ghost use Rattle.memory.specs.Fits.{EntriesFit, PlaceFits, RoomAt, Event
 ghost use Rattle.memory.specs.InOrder.{InOrder};
 ghost use Rattle.memory.specs.declared.StoreAnswer.the-variants.{Displaced};
 ghost use Rattle.memory.specs.Judgement.{Small, soundNumbers, soundEntry, usedOk, zeros, blockOk};
-ghost use Rattle.memory.specs.Store.{MayStore, quietIn, leaves, admits, stores};
+ghost use Rattle.memory.specs.Store.{MayStore, quietIn, leftWith, admits, stores};
 ghost use Rattle.memory.specs.Block.{gapClosed, entered, removed, added, replaced};
 
 // Where an entry was found.
@@ -264,7 +264,7 @@ fn renew(memory: &mut [u8], place: Place, event: EventNumber, frame: &[u8])
 // Rule 3: "The victim is taken out, e appended with count 1."
 fn displace(memory: &mut [u8], place: Place, event: EventNumber, frame: &[u8]) -> StoreAnswer
     requires { ⌜ (PlaceFits (length (now frame)) (now memory) (place .0)) × (event .0 < 65536) ⌝ }
-    ensures { λ r. ⌜ leaves (now (memory .exit)) r ≡ leaves (replaced (place .0) (event .0) 1 (now (frame .entry)) (now (memory .entry))) (Displaced (record { 0 = eventOf (atPlace (place .0) (entriesOf (length (now (frame .entry))) (now (memory .entry)))) })) ⌝ }
+    ensures { λ r. ⌜ leftWith (now (memory .exit)) r ≡ leftWith (replaced (place .0) (event .0) 1 (now (frame .entry)) (now (memory .entry))) (Displaced (record { 0 = eventOf (atPlace (place .0) (entriesOf (length (now (frame .entry))) (now (memory .entry)))) })) ⌝ }
 {
     let out = event_at(memory, frame.len(), place);
     replace(memory, place, event, 1, frame);
@@ -280,7 +280,7 @@ fn admit(
     frame: &[u8],
 ) -> StoreAnswer
     requires { ⌜ MayStore (now cfg) (now memory) (event .0) (now frame) ⌝ }
-    ensures { λ r. ⌜ leaves (now (memory .exit)) r ≡ admits (places (now (cfg .entry))) (frameBytes (now (cfg .entry))) (priorityOf (now (cfg .entry))) (quietIn (now (records .entry))) (event .0) (now (frame .entry)) (entriesOf (frameBytes (now (cfg .entry))) (now (memory .entry))) ⌝ }
+    ensures { λ r. ⌜ leftWith (now (memory .exit)) r ≡ admits (places (now (cfg .entry))) (frameBytes (now (cfg .entry))) (priorityOf (now (cfg .entry))) (quietIn (now (records .entry))) (event .0) (now (frame .entry)) (entriesOf (frameBytes (now (cfg .entry))) (now (memory .entry))) ⌝ }
 {
     if entry_count(memory) < config::places(cfg) {
         append(memory, event, 1, frame);
@@ -302,7 +302,7 @@ pub fn store(
     frame: &[u8],
 ) -> StoreAnswer
     requires { ⌜ MayStore (now cfg) (now memory) (event .0) (now frame) ⌝ }
-    ensures { λ r. ⌜ leaves (now (memory .exit)) r ≡ stores (places (now (cfg .entry))) (frameBytes (now (cfg .entry))) (priorityOf (now (cfg .entry))) (quietIn (now (records .entry))) (event .0) (now (frame .entry)) (entriesOf (frameBytes (now (cfg .entry))) (now (memory .entry))) ⌝ }
+    ensures { λ r. ⌜ leftWith (now (memory .exit)) r ≡ stores (places (now (cfg .entry))) (frameBytes (now (cfg .entry))) (priorityOf (now (cfg .entry))) (quietIn (now (records .entry))) (event .0) (now (frame .entry)) (entriesOf (frameBytes (now (cfg .entry))) (now (memory .entry))) ⌝ }
 {
     let own = place_of(memory, frame.len(), event);
     match own {

@@ -20,11 +20,11 @@ use Rattle.manual.specs.State.{State}
 use Rattle.manual.specs.Answers.{Answered, ofAnswer, ofReport, ofStatus, ofFrame, ofLength, leaves}
 use Rattle.reading.specs.Reading.{startIn, lengthIn, says}
 use Rattle.panel.specs.declared.PanelBoard.{PanelBoard}
-use Rattle.panel.specs.Panel.{yes, byteOf, boardOf, bytesOf, verdictNumber, Crossing, crosses, crossesWithoutBoard, crossesWithFrame, made}
+use Rattle.panel.specs.Panel.{yes, flagByte, boardOf, bytesOf, verdictNumber, Crossing, crosses, crossesWithoutBoard, crossesWithFrame, made}
 
 -- ---- the board in bytes
 
-flag-back : (flag : Bool) → yes (byteOf flag) ≡ flag
+flag-back : (flag : Bool) → yes (flagByte flag) ≡ flag
 flag-back true = refl
 flag-back false = refl
 

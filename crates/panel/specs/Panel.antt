@@ -26,8 +26,8 @@ abbrev pub yes : ℕ → Bool
 yes byte = not (eqb byte 0)
 
 -- a flag that is handed back: 1 yes, 0 no
-abbrev pub byteOf : Bool → ℕ
-byteOf flag = cond flag 1 0
+abbrev pub flagByte : Bool → ℕ
+flagByte flag = cond flag 1 0
 
 -- the board that these bytes stand for
 abbrev pub boardOf : PanelBoard → Board
@@ -39,8 +39,8 @@ boardOf b = record {
 -- the bytes of a board
 abbrev pub bytesOf : Board → PanelBoard
 bytesOf b = record {
-  running = byteOf (runs b 0) ∷ byteOf (runs b 1) ∷ byteOf (runs b 2) ∷ byteOf (runs b 3) ∷ [];
-  overflow = byteOf (b .overflow);
+  running = flagByte (runs b 0) ∷ flagByte (runs b 1) ∷ flagByte (runs b 2) ∷ flagByte (runs b 3) ∷ [];
+  overflow = flagByte (b .overflow);
 }
 
 -- ---- what crosses

@@ -21,7 +21,7 @@ ghost use Rattle.manual.specs.Calls.{fresh, report, tick, startCycle, stopCycle
 ghost use Rattle.manual.specs.Image.{save, restore};
 ghost use Rattle.manual.specs.Diagnostics.{requestReply};
 ghost use Rattle.reading.specs.Reading.{startIn, lengthIn, says, frameRead};
-ghost use Rattle.panel.specs.Panel.{yes, byteOf, boardOf, bytesOf, verdictNumber, crosses, crossesWithoutBoard, crossesWithFrame, withAnswer, withReport, withStatus, withFrame, withLength, withRequest};
+ghost use Rattle.panel.specs.Panel.{yes, flagByte, boardOf, bytesOf, verdictNumber, crosses, crossesWithoutBoard, crossesWithFrame, withAnswer, withReport, withStatus, withFrame, withLength, withRequest};
 
 // ---- what crosses by value
 
@@ -88,7 +88,7 @@ fn flag(byte: u8) -> bool
 
 // 1 yes, 0 no.
 fn byte_of(flag: bool) -> u8
-    ensures { λ r. ⌜ r ≡ byteOf flag ⌝ }
+    ensures { λ r. ⌜ r ≡ flagByte flag ⌝ }
 {
     if flag { 1 } else { 0 }
 }

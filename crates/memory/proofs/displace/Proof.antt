@@ -1,4 +1,4 @@
-use Rattle.memory.specs.Store.{leaves}
+use Rattle.memory.specs.Store.{leftWith}
 use Rattle.memory.specs.declared.StoreAnswer.the-variants.{Displaced}
 use borrow.Author.Needs.{needs}
 use Rattle.memory.proofs.displace.Statement.{statement}
@@ -14,7 +14,7 @@ same-length : tie.Need-same-length
 same-length c = search needs
 
 returns : tie.Need-returns
-returns c = λ i. leaves (c .before .before .replace .ensures i) (Displaced (record { 0 = c .before .before .before .before .event-at .ensures i }))
+returns c = λ i. leftWith (c .before .before .replace .ensures i) (Displaced (record { 0 = c .before .before .before .before .event-at .ensures i }))
 
 pub displace-spec : {M : Type 1} → statement M
 displace-spec = tie.close (tie.spec event-at-requires replace-requires same-length returns)
