@@ -14,8 +14,8 @@ use Rattle.manual.specs.OneEvent.{clears}
 use Rattle.manual.specs.Answers.{done, firstThatApplies, numberOf, ofAnswer, leaves}
 use Rattle.manual.specs.Calls.{covers, overflowCleared, cleared, clearRules, clearCode}
 use Rattle.manual.proofs.AnswersLaws.{none-applies, goes-through, stops-with}
-use Rattle.manual.proofs.OneEventLaws.{acts-clears}
-use Rattle.manual.proofs.MemoryStaysGood.{good-clears}
+use Rattle.manual.proofs.ConfigurationLaws.{config-tells}
+use Rattle.manual.proofs.StaysWellFormed.{clears-keep}
 use Rattle.one_event.specs.Ready.{EventFits}
 use Rattle.one_event.proofs.TurnsLaws.{turn, last-turn, ready-at-turn}
 
@@ -33,7 +33,8 @@ module _ (cfg : Configuration) (code : ℕ) where
     after-all e p q = q ∙ ap (overflowCleared cfg code) (last-turn (covers cfg code) (clears cfg) cfg _ s e p)
 
     pub fits-at : configOk cfg ≡ true → wellFormed cfg s ≡ true → (i : ℕ) → i < events cfg → {t : State} → t ≡ upTo i s → EventFits cfg (t .records) (t .debounce) (t .memory) i
-    fits-at ok formed i h p = ready-at-turn (covers cfg code) (clears cfg) cfg (acts-clears cfg) (good-clears cfg) s ok formed i h p .event
+    fits-at ok formed i h p =
+        ready-at-turn (covers cfg code) (clears cfg) cfg s (clears-keep cfg (config-tells cfg ok) code s) ok formed i h p .event
 
 -- ---- the call
 

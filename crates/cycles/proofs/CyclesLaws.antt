@@ -19,8 +19,7 @@ use Rattle.manual.specs.Calls.{begins, ofCycle, startRules, startCycle, stopRul
 use Rattle.manual.proofs.AnswersLaws.{none-applies, goes-through, stops-with}
 use Rattle.manual.proofs.ConfigurationLaws.{config-tells}
 use Rattle.manual.proofs.WellFormedLaws.{state-tells}
-use Rattle.manual.proofs.OneEventLaws.{acts-stops}
-use Rattle.manual.proofs.MemoryStaysGood.{good-stops}
+use Rattle.manual.proofs.StaysWellFormed.{stops-keep}
 use Rattle.state.specs.Fits.{RecordsFor}
 use Rattle.one_event.specs.Ready.{EventFits}
 use Rattle.cycles.specs.Cycles.{fourFive, MayStop}
@@ -45,7 +44,8 @@ record-within cfg records records′ e r l h = let most = config-tells cfg (r .a
 
 pub stop-fits : (cfg : Configuration) (s : State) (c : ℕ) → MayStop cfg s c → (i : ℕ) {t : State} → i < events cfg → t ≡ forBelow i (turn (ofCycle cfg c) (stops cfg)) s
     → EventFits cfg (t .records) (t .debounce) (t .memory) i
-stop-fits cfg s c m i h q = ready-at-turn (ofCycle cfg c) (stops cfg) cfg (acts-stops cfg) (good-stops cfg) s (m .configured) (m .formed) i h q .event
+stop-fits cfg s c m i h q =
+    ready-at-turn (ofCycle cfg c) (stops cfg) cfg s (stops-keep cfg (config-tells cfg (m .configured)) c s) (m .configured) (m .formed) i h q .event
 
 -- ---- the calls
 

@@ -21,12 +21,11 @@ use Rattle.manual.specs.WellFormed.{entries, wellFormed}
 use Rattle.manual.specs.Calls.{freshRules, fresh, freshState, reportRules, tickRules, startRules, stopRules, clearRules, readStatusRules, readFrameRules, cleared}
 use Rattle.manual.specs.Image.{save, restore, saveRules, restoreRules}
 use Rattle.manual.specs.Diagnostics.{requestRules}
-use Rattle.manual.specs.Debouncing.{reported, ticked}
 use Rattle.manual.specs.Sequences.{rulesOf, Call, Fresh, Report, Tick, Start, Stop, Clear, ReadStatus, ReadFrame, Save, Restore, Request, outcome, savedImage, tokensAt, goesOn, Reached, begun, called, restored}
 use Rattle.manual.proofs.AnswersLaws.{none-applies, accepted, lacks, never-given}
 use Rattle.manual.proofs.ConfigurationLaws.{config-tells}
 use Rattle.manual.proofs.WellFormedLaws.{state-tells, well-formed-lengths}
-use Rattle.manual.proofs.OneEventLaws.{those-running, acts-happens, acts-stops, acts-clears, acts-applied}
+use Rattle.manual.proofs.OneEventLaws.{those-running, acts-happens, acts-stops, acts-clears, applied-running, ticks-running}
 use Rattle.manual.proofs.SequencesLaws.{Histories, KeptWhenAccepted, call-keeps}
 use Rattle.manual.proofs.RecordsFollowHistories.{Follows, call-follows, fresh-follows}
 use Rattle.manual.proofs.RestoreAfterSave.{restore-after-save}
@@ -64,8 +63,8 @@ module _ (cfg : Configuration) where
   cycles-kept : (s : State) (n : ℕ) → cycles s ≡ n → KeptWhenAccepted cfg (λ t H. cycles t ≡ n) s (λ e. [])
   unfolding cleared
   cycles-kept s n e = record {
-    report = λ k code frame z. ap length (acts-applied cfg frame (λ e d. reported cfg e code d) .running k s) ∙ e;
-    tick = λ ms frame z. ap length (those-running (acts-applied cfg frame (λ e d. ticked cfg e ms d)) _ s) ∙ e;
+    report = λ k code frame z. ap length (applied-running cfg frame k _ s) ∙ e;
+    tick = λ ms frame z. ap length (ticks-running cfg ms frame _ s) ∙ e;
     start = λ c z. simp length-set (ap length (those-running (acts-happens cfg _) _ s) ∙ e);
     stop = λ c z. simp length-set (ap length (those-running (acts-stops cfg) _ s) ∙ e);
     clear = λ code z. ap length (those-running (acts-clears cfg) _ s) ∙ e;

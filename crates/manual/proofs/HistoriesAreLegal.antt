@@ -24,7 +24,7 @@ use Rattle.manual.specs.Calls.{freshState, fresh, cycleRuns, reportRules
 use Rattle.manual.specs.Sequences.{result, onlyIf, Report, Tick, Reached, begun, called, restored}
 use Rattle.manual.proofs.AnswersLaws.{none-applies, accepted}
 use Rattle.manual.proofs.WellFormedLaws.{well-formed-lengths}
-use Rattle.manual.proofs.OneEventLaws.{those-running, acts-happens, acts-stops, acts-clears, acts-applied}
+use Rattle.manual.proofs.OneEventLaws.{those-running, acts-happens, acts-stops, acts-clears, applied-running, ticks-running}
 use Rattle.manual.proofs.SequencesLaws.{Histories, given, KeptWhenAccepted, call-keeps}
 use Rattle.manual.proofs.RestoreAfterSave.{restore-after-save}
 use Rattle.manual.proofs.ByteIsReadingInEverySequence.{config-accepted, well-formed, four-cycles}
@@ -110,8 +110,8 @@ module _ (cfg : Configuration) where
     orderly-accepted : KeptWhenAccepted cfg Orderly s H
     unfolding startRules stopRules cleared
     orderly-accepted = record {
-      report = λ k code frame z. same-cycles _ (acts-applied cfg frame (λ e d. reported cfg e code d) .running k s) _ (report-orderly k code frame z);
-      tick = λ ms frame z. same-cycles _ (those-running (acts-applied cfg frame (λ e d. ticked cfg e ms d)) (timeRuns cfg (s .board)) s) _ (tick-orderly ms frame);
+      report = λ k code frame z. same-cycles _ (applied-running cfg frame k _ s) _ (report-orderly k code frame z);
+      tick = λ ms frame z. same-cycles _ (ticks-running cfg ms frame (timeRuns cfg (s .board)) s) _ (tick-orderly ms frame);
       start = λ c z. record {
         four = simp length-set (ap length (those-running (acts-happens cfg start) (ofCycle cfg c) s) ∙ o .four);
         each = turned c true start _ (those-running (acts-happens cfg start) (ofCycle cfg c) s) (let b = ltb-false 3 c (none-applies _ z refl 2) in omega arith)

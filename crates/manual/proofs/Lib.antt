@@ -16,6 +16,7 @@ pub mod SignedLaws
 pub mod ConfigurationLaws
 pub mod DebouncingLaws
 pub mod SequencesLaws
+pub mod FreshLaws
 pub mod RecordsFollowHistories
 pub mod StaysWellFormed
 pub mod Service14IsClear

@@ -51,7 +51,7 @@ module _ (cfg : Configuration) where
 
   -- ---- bit 5 after something happened to event k
 
-  bit-own : (t : Token) (k : ℕ) (s : State) → Sized cfg s → k < events cfg → hasFailedBit (happens cfg t k s) k ≡ step (limitsOf cfg k) t (recordOf s k) .status testFailedSinceLastClear
+  pub bit-own : (t : Token) (k : ℕ) (s : State) → Sized cfg s → k < events cfg → hasFailedBit (happens cfg t k s) k ≡ step (limitsOf cfg k) t (recordOf s k) .status testFailedSinceLastClear
   bit-own t k s z h =
       ap (λ (v : View). opened (v .stored) .status testFailedSinceLastClear) (acts-happens cfg t .own k s z h)
       ∙ ap (λ (r : EventRecord). r .status testFailedSinceLastClear) (opened-stored (step (limitsOf cfg k) t (recordOf s k)))
@@ -60,10 +60,10 @@ module _ (cfg : Configuration) where
   bit-other t k e s d = ap (λ (v : View). opened (v .stored) .status testFailedSinceLastClear) (acts-happens cfg t .other k e s d)
 
   -- what happens to an event leaves bit 5 set, but for a clear
-  abbrev Keeps5 : Token → Type 0
+  abbrev pub Keeps5 : Token → Type 0
   Keeps5 t = (n : Limits) (r : EventRecord) → r .status testFailedSinceLastClear ≡ true → step n t r .status testFailedSinceLastClear ≡ true
 
-  good-happens : (t : Token) → Keeps5 t → (k : ℕ) (s : State) → k < events cfg → MemoryGood s → MemoryGood (happens cfg t k s)
+  pub good-happens : (t : Token) → Keeps5 t → (k : ℕ) (s : State) → k < events cfg → MemoryGood s → MemoryGood (happens cfg t k s)
   unfolding happens
   good-happens t keep k s h m = record {
     sized = acts-happens cfg t .sized k s (m .sized);
@@ -77,7 +77,7 @@ module _ (cfg : Configuration) where
           (λ u. bit-own t k s (m .sized) h ∙ keep (limitsOf cfg k) (recordOf s k) u) q
       still e q false w = bit-other t k e s (eqb-false e k w) ∙ q
 
-  good-D : (k : ℕ) (d : ℤ) (s : State) → MemoryGood s → MemoryGood (withD k d s)
+  pub good-D : (k : ℕ) (d : ℤ) (s : State) → MemoryGood s → MemoryGood (withD k d s)
   good-D k d s m = record { sized = acts-D cfg d .sized k s (m .sized); block = m .block; good = m .good }
 
   -- ---- its entry leaves
@@ -108,32 +108,9 @@ module _ (cfg : Configuration) where
 
   -- ---- a verdict
 
-  good-told : (frame : List ℕ) (k : ℕ) (s : State) → length frame ≡ frameBytes cfg → k < events cfg → hasFailedBit s k ≡ true → MemoryGood s → MemoryGood (memoryTold cfg frame k s)
+  pub good-told : (frame : List ℕ) (k : ℕ) (s : State) → length frame ≡ frameBytes cfg → k < events cfg → hasFailedBit s k ≡ true → MemoryGood s → MemoryGood (memoryTold cfg frame k s)
   unfolding memoryTold keeps
   good-told frame k s f h five m =
       let made = made-good s (store (places cfg) (priorityOf cfg) (isQuiet cfg s) k frame (entries cfg s) .entries) (m .sized)
       (good-store (events cfg) (places cfg) (frameBytes cfg) (hasFailedBit s) (priorityOf cfg) (isQuiet cfg s) k frame h five f (entries cfg s) (m .good)) in
       record { sized = record { records = made .sized .records; debounce = made .sized .debounce }; block = made .block; good = made .good }
-
-  good-fails : (frame : List ℕ) (k : ℕ) (s : State) → length frame ≡ frameBytes cfg → k < events cfg → MemoryGood s → MemoryGood (fails cfg frame k s)
-  unfolding fails
-  good-fails frame k s f h m =
-      let m′ = good-happens failed (λ n r e. refl) k s h m in
-      by (freshFailure (recordOf s k)) MemoryGood (λ q. good-told frame k (happens cfg failed k s) f h (bit-own failed k s (m .sized) h) m′) (λ q. m′)
-
-  good-qualifies : (frame : List ℕ) (k : ℕ) (v : Verdict) (s : State) → length frame ≡ frameBytes cfg → k < events cfg → MemoryGood s → MemoryGood (qualifies cfg frame k v s)
-  good-qualifies frame k None s f h m = m
-  good-qualifies frame k Passed s f h m = good-happens passed (λ n r e. e) k s h m
-  good-qualifies frame k Failed s f h m = good-fails frame k s f h m
-
-  pub good-applied : (frame : List ℕ) (k : ℕ) (d : Debounced) (s : State) → length frame ≡ frameBytes cfg → k < events cfg → MemoryGood s → MemoryGood (applied cfg frame k d s)
-  unfolding applied
-  good-applied frame k d s f h m = good-qualifies frame k (d .verdict) (withD k (d .number) s) f h (good-D k (d .number) s m)
-
-  -- ---- for all events of a call
-
-  pub good-those : (p : ℕ → Bool) (one : ℕ → State → State) → ((k : ℕ) (s : State) → k < events cfg → MemoryGood s → MemoryGood (one k s)) → (s : State) → MemoryGood s → MemoryGood (forThose cfg p one s)
-  unfolding forThose
-  good-those p one keep s m =
-      for-below-keeps MemoryGood (λ e s. cond (p e) (one e s) s) (events cfg) (events cfg) (le-refl (events cfg))
-      (λ k s h m. by (p k) MemoryGood (λ q. keep k s h m) (λ q. m)) s m

@@ -7,21 +7,21 @@ use Prim.Native.Nat.{ℕ, zero, suc, _*_, _≤_, _<_}
 use native.Mathlib.Nat.{eq-or-lt-of-le, le-of-suc-le-suc, not-suc-le-zero, le-refl}
 use native.Mathlib.Omega.{arith}
 use lib.Dec.{eqb}
-use lib.ListN.{length, length-set}
+use lib.ListN.{length, getD, length-set}
 use lib.Seq.{getD-set-same, getD-set-other}
 use lib.IntN.{ℤ, pos}
 use borrow.Author.Tests.{eqb-true, eqb-false}
 use Rattle.history.specs.StatusByte.{freshFailure, agesAtStop}
-use Rattle.history.specs.History.{Token, passed, failed, stop, clear, step}
+use Rattle.history.specs.History.{Token, stop, clear, step}
 use Rattle.manual.specs.declared.Verdict.{Verdict}
 use Rattle.manual.specs.declared.Verdict.the-variants.{None, Passed, Failed}
 use Rattle.manual.specs.Words.{forBelow}
 use Rattle.manual.specs.Configuration.{Configuration, events, limitsOf}
-use Rattle.manual.specs.State.{State, recordWidth, Stored, opened, stored, storedAt, D, withD, withMemory, withOverflow}
+use Rattle.manual.specs.State.{State, recordWidth, Stored, opened, stored, storedAt, recordOf, D, withD, withMemory, withOverflow}
 use Rattle.manual.specs.Debouncing.{Debounced}
 use Rattle.manual.specs.OneEvent.{happens, entryLeaves, keeps, memoryTold, fails, qualifies, stops, clears, forThose}
-use Rattle.manual.specs.Calls.{applied}
-use Rattle.manual.proofs.WordsLaws.{for-below-keeps}
+use Rattle.manual.specs.Calls.{applied, ticks}
+use Rattle.manual.proofs.WordsLaws.{by, for-below-keeps}
 use Rattle.manual.proofs.StateLaws.{stored-length, stored-same, stored-other}
 
 -- what the blocks hold of one event
@@ -183,21 +183,6 @@ module _ (cfg : Configuration) where
   unfolding memoryTold keeps
   acts-memoryTold frame = acts-aside _ _
 
-  pub acts-fails : (frame : List ℕ) → Acts cfg (fails cfg frame) (tokenView failed)
-  unfolding fails
-  acts-fails frame = acts-either (λ k v. freshFailure (opened (v .stored))) (acts-then (acts-happens failed) (acts-memoryTold frame)) (acts-happens failed)
-
-  -- a verdict
-  abbrev pub verdictView : Verdict → ℕ → View → View
-  verdictView None k v = v
-  verdictView Passed k v = tokenView passed k v
-  verdictView Failed k v = tokenView failed k v
-
-  pub acts-qualifies : (frame : List ℕ) (w : Verdict) → Acts cfg (λ k s. qualifies cfg frame k w s) (verdictView w)
-  acts-qualifies frame None = acts-not
-  acts-qualifies frame Passed = acts-happens passed
-  acts-qualifies frame Failed = acts-fails frame
-
   pub acts-stops : Acts cfg (stops cfg) (λ k v. viewed (storedAfter stop k (v .stored)) (pos 0))
   unfolding stops
   acts-stops =
@@ -208,11 +193,36 @@ module _ (cfg : Configuration) where
   unfolding clears
   acts-clears = acts-then (acts-then (acts-happens clear) acts-entryLeaves) (acts-D (pos 0))
 
-  -- debouncing by any rule that goes by the event and its D alone
-  abbrev pub debouncedView : (ℕ → ℤ → Debounced) → ℕ → View → View
-  debouncedView rule k v = verdictView (rule k (v .number) .verdict) k (viewed (v .stored) (rule k (v .number) .number))
+-- ---- a verdict: every D stays, and no cycle starts or stops
 
-  pub acts-applied : (frame : List ℕ) (rule : ℕ → ℤ → Debounced) → Acts cfg (λ k s. applied cfg frame k (rule k (D s k)) s) (debouncedView rule)
+-- t has the D of each event and the running cycles of s
+pub record Beside (s t : State) : Type 0 where
+  pub debounce : t .debounce ≡ s .debounce
+  pub running : t .board .running ≡ s .board .running
+
+module _ (cfg : Configuration) (frame : List ℕ) (k : ℕ) where
+  beside-fails : (s : State) → Beside s (fails cfg frame k s)
+  unfolding fails happens memoryTold keeps
+  beside-fails s = by (freshFailure (recordOf s k)) (Beside s) (λ q. record { debounce = refl; running = refl }) (λ q. record { debounce = refl; running = refl })
+
+  beside-qualifies : (w : Verdict) (s : State) → Beside s (qualifies cfg frame k w s)
+  unfolding happens
+  beside-qualifies None s = record { debounce = refl; running = refl }
+  beside-qualifies Passed s = record { debounce = refl; running = refl }
+  beside-qualifies Failed s = beside-fails s
+
+  pub applied-running : (d : Debounced) (s : State) → applied cfg frame k d s .board .running ≡ s .board .running
   unfolding applied
-  acts-applied frame rule =
-      acts-given _ _ (λ j w. acts-then (acts-D (rule j (w .number) .number)) (acts-qualifies frame (rule j (w .number) .verdict)))
+  applied-running d s = beside-qualifies (d .verdict) (withD k (d .number) s) .running
+
+  pub applied-other-D : (d : Debounced) (s : State) (e : ℕ) → e ≢ k → D (applied cfg frame k d s) e ≡ D s e
+  unfolding applied
+  applied-other-D d s e h =
+      ap (λ (l : List ℤ). getD l e (pos 0)) (beside-qualifies (d .verdict) (withD k (d .number) s) .debounce)
+      ∙ getD-set-other (s .debounce) k e (d .number) (pos 0) h
+
+pub ticks-running : (cfg : Configuration) (ms : ℕ) (frame : List ℕ) (p : ℕ → Bool) (s : State) → forThose cfg p (ticks cfg ms frame) s .board .running ≡ s .board .running
+unfolding forThose
+ticks-running cfg ms frame p s =
+    for-below-keeps (λ (t : State). t .board .running ≡ s .board .running) (λ k t. cond (p k) (ticks cfg ms frame k t) t) (events cfg) (events cfg) (le-refl (events cfg))
+    (λ k t h q. by (p k) (λ (t : State). t .board .running ≡ s .board .running) (λ r. applied-running cfg frame k _ t ∙ q) (λ r. q)) s refl

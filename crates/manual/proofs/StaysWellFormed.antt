@@ -1,10 +1,10 @@
 -- Under an accepted configuration every call, with any arguments, accepted or refused, leaves any well-formed state well formed; and
 -- an accepted fresh or restore makes a well-formed state of any blocks.
 use mathlib.Core.Path.{_≡_, refl, sym, ap, subst, _∙_}
-use mathlib.Core.Bool.{Bool, true, false, _&&_}
+use mathlib.Core.Bool.{Bool, true, false, _&&_, cond}
 use mathlib.Core.List.{List, [], _∷_}
 use Prim.Native.Nat.{ℕ, suc, _-_, _*_, _≤_, _<_}
-use native.Mathlib.Nat.{mul-comm}
+use native.Mathlib.Nat.{mul-comm, le-refl}
 use native.Mathlib.Omega.{arith}
 use lib.Dec.{eqb}
 use lib.ListN.{length, getD, set, drop, replicate, length-drop, getD-replicate}
@@ -12,37 +12,37 @@ use lib.Seq.{getD-set-other}
 use lib.IntN.{ℤ, pos}
 use borrow.Author.Tests.{eqb-true, eqb-false, leb-true, le-leb, leb-false, ltb-true, lt-ltb, not-false}
 use Rattle.history.specs.Words.{allOf}
-use Rattle.history.specs.StatusByte.{EventRecord, freshRecord}
-use Rattle.history.specs.History.{Token, passed, failed, start, stop, clear, step, recordAfter}
+use Rattle.history.specs.StatusByte.{EventRecord, freshRecord, freshFailure}
+use Rattle.history.specs.History.{Token, passed, failed, start, stop, clear, step}
 use Rattle.history.proofs.WordsLaws.{and-left, and-right, part, parts}
 use Rattle.history.proofs.RecordStaysWellFormed.{fresh-well-formed, step-well-formed}
 use Rattle.manual.specs.declared.Board.{Board}
 use Rattle.manual.specs.declared.Verdict.{Verdict}
 use Rattle.manual.specs.declared.Verdict.the-variants.{None, Passed, Failed}
 use Rattle.manual.specs.Configuration.{Configuration, events, places, frameBytes, cycleOf, isTime, limitsOf, configOk}
-use Rattle.manual.specs.State.{State, Stored, opened, stored, storedAt, runs, D, withMemory, withBoard, withCycle}
+use Rattle.manual.specs.State.{State, Stored, opened, stored, storedAt, recordOf, runs, D, withD, withMemory, withBoard, withCycle}
 use Rattle.manual.specs.Debouncing.{Debounced, reported, ticked}
 use Rattle.manual.specs.Memory.{Entry, eventOf, entryWidth, memoryLength, entryCount, bytesInUse, entriesOf, entriesBytes, memoryOf, noTwice}
 use Rattle.manual.specs.WellFormed.{recordOk, DOk, entries, entryOk, wellFormed}
-use Rattle.manual.specs.OneEvent.{happens, stops, clears, forThose}
+use Rattle.manual.specs.OneEvent.{happens, memoryTold, fails, qualifies, stops, clears, forThose}
 use Rattle.manual.specs.Answers.{Outcome, firstThatApplies}
 use Rattle.manual.specs.Calls.{freshState, fresh, cycleRuns, reportRules, applied, tickRules, timeRuns, ticks, ofCycle, startRules, covers, overflowCleared, cleared}
 use Rattle.manual.specs.Image.{restore}
 use Rattle.manual.specs.Sequences.{Call, Fresh, Report, Tick, Start, Stop, Clear, ReadStatus, ReadFrame, Save, Restore, Request, beginsAnew, outcome, goesOn}
-use Rattle.manual.specs.Words.{All}
-use Rattle.manual.proofs.WordsLaws.{clash, by, all-both, all-of-test, test-of-all, zeros-pass}
+use Rattle.manual.specs.Words.{All, forBelow}
+use Rattle.manual.proofs.WordsLaws.{clash, by, for-below-keeps, all-both, all-of-test, test-of-all, zeros-pass}
 use Rattle.manual.proofs.AnswersLaws.{none-applies, accepted}
 use Rattle.manual.proofs.ConfigurationLaws.{ConfigTells, config-tells}
 use Rattle.manual.proofs.DebouncingLaws.{zero-ok, report-ok, tick-ok, stopped-zero, DOk-by-running}
 use Rattle.manual.proofs.StateLaws.{opened-stored}
 use Rattle.manual.proofs.MemoryLaws.{Framed, EntryGood, frames, entries-length, entries-framed, memory-count, memory-length, memory-tail, block-is}
-use Rattle.manual.proofs.OneEventLaws.{View, viewed, view, Sized, Acts, those-own, those-running, tokenView, acts-happens, acts-stops, acts-clears, verdictView, debouncedView, acts-applied}
-use Rattle.manual.proofs.MemoryStaysGood.{hasFailedBit, MemoryGood, made-good, good-starts, good-stops, good-clears, good-applied, good-those}
+use Rattle.manual.proofs.OneEventLaws.{View, viewed, view, Acts, those-own, tokenView, acts-happens, acts-D, acts-memoryTold, acts-stops, acts-clears, applied-running}
+use Rattle.manual.proofs.MemoryStaysGood.{hasFailedBit, MemoryGood, made-good, bit-own, Keeps5, good-happens, good-D, good-told, good-stops, good-clears}
 use Rattle.manual.proofs.WellFormedLaws.{StateTells, state-tells, state-told, used-fits, zeros-behind}
 use Rattle.manual.proofs.AcceptedImages.{accepted-state}
 use Rattle.manual.proofs.SaveAfterRestore.{restored-accepts, restored-state}
 use Rattle.manual.proofs.SequencesLaws.{KeptWhenAccepted, call-keeps}
-use Rattle.manual.proofs.RecordsFollowHistories.{fresh-follows}
+use Rattle.manual.proofs.FreshLaws.{fresh-sized, fresh-records}
 
 module _ (cfg : Configuration) where
   -- event e's record and D are as "well formed" asks, on this board
@@ -125,6 +125,46 @@ module _ (cfg : Configuration) where
   pub same-running : (b b′ : Board) → b′ .running ≡ b .running → (e : ℕ) (v : View) → EventGood b e v → EventGood b′ e v
   same-running b b′ r e v g = record { kept = g .kept; number = DOk-by-running cfg b b′ e (v .number) (ap (λ (l : List Bool). getD l (cycleOf cfg e) false) (sym r)) (g .number) }
 
+  runs-as : (b b′ : Board) (e : ℕ) → b′ .running ≡ b .running → cycleRuns cfg b′ e ≡ cycleRuns cfg b e
+  runs-as b b′ e r = ap (λ (l : List Bool). getD l (cycleOf cfg e) false) r
+
+  -- ---- from one event to all
+
+  -- what is done to event k alone, where it leaves the memory in order and event k good
+  acts-sound : {one : ℕ → State → State} {f : ℕ → View → View} → Acts cfg one f → (k : ℕ) (s : State) → k < events cfg → Sound s
+      → MemoryGood cfg (one k s) → EventGood (s .board) k (f k (view s k)) → Sound (one k s)
+  acts-sound {one} acts k s h o m g = record {
+    memory = m;
+    events-good = λ e l. same-running (s .board) (one k s .board) (acts .running k s) e (view (one k s) e) (each e l (eqb e k) refl);
+  }
+    where
+      each : (e : ℕ) → e < events cfg → (b : Bool) → eqb e k ≡ b → EventGood (s .board) e (view (one k s) e)
+      each e l true q =
+          subst (λ (j : ℕ). EventGood (s .board) j (view (one k s) j)) (sym (eqb-true e k q))
+          (subst (EventGood (s .board) k) (sym (acts .own k s (o .memory .sized) h)) g)
+      each e l false q = subst (EventGood (s .board) e) (sym (acts .other k e s (eqb-false e k q))) (o .events-good e l)
+
+  -- u is sound, and the same cycles run as in s
+  pub record Going (s u : State) : Type 0 where
+    pub sound : Sound u
+    pub running : u .board .running ≡ s .board .running
+
+  -- one part of a call, for the events that pass a test: a state on its way from s stays sound, and no cycle starts or stops
+  pub record Keeps (p : ℕ → Bool) (one : ℕ → State → State) (s : State) : Type 0 where
+    pub sound : (k : ℕ) (u : State) → k < events cfg → p k ≡ true → u .board .running ≡ s .board .running → Sound u → Sound (one k u)
+    pub running : (k : ℕ) (u : State) → one k u .board .running ≡ u .board .running
+
+  module _ {p : ℕ → Bool} {one : ℕ → State → State} {s : State} (keeps : Keeps p one s) (o : Sound s) where
+    pub below-going : (n : ℕ) → n ≤ events cfg → Going s (forBelow n (λ e u. cond (p e) (one e u) u) s)
+    below-going n h =
+        for-below-keeps (Going s) (λ e u. cond (p e) (one e u) u) (events cfg) n h
+        (λ k u l g. by (p k) (Going s) (λ q. record { sound = keeps .sound k u l q (g .running) (g .sound); running = keeps .running k u ∙ g .running }) (λ q. g))
+        s (record { sound = o; running = refl })
+
+    pub those-going : Going s (forThose cfg p one s)
+    unfolding forThose
+    those-going = below-going (events cfg) (le-refl (events cfg))
+
   module _ (t : ConfigTells cfg) where
     -- ---- what a step does to one event
 
@@ -140,87 +180,71 @@ module _ (cfg : Configuration) where
     reset-good : (k : Token) (b : Board) (e : ℕ) → e < events cfg → (v : View) → recordOk cfg e (opened (v .stored)) ≡ true → EventGood b e (viewed (tokenView cfg k e v .stored) (pos 0))
     reset-good k b e h v o = record { kept = record-kept k e h (v .stored) o; number = zero-good b e h }
 
-    verdict-good : (b : Board) (w : Verdict) (e : ℕ) → e < events cfg → (v : View) → EventGood b e v → EventGood b e (verdictView cfg w e v)
-    verdict-good b None e h v g = g
-    verdict-good b Passed e h v g = record { kept = record-kept passed e h (v .stored) (g .kept); number = g .number }
-    verdict-good b Failed e h v g = record { kept = record-kept failed e h (v .stored) (g .kept); number = g .number }
+    -- ---- one part of a call: what it does to one event of a sound state leaves a sound state
 
-    -- ---- what a call does for those events that pass a test
+    happens-sound : (k : Token) → Keeps5 cfg k → (e : ℕ) (s : State) → e < events cfg → Sound s → Sound (happens cfg k e s)
+    happens-sound k keep e s h o =
+        let g = o .events-good e h in
+        acts-sound (acts-happens cfg k) e s h o (good-happens cfg k keep e s h (o .memory)) (record { kept = record-kept k e h (storedAt e (s .records)) (g .kept); number = g .number })
 
-    those-good : {one : ℕ → State → State} {f : ℕ → View → View} → Acts cfg one f → (p : ℕ → Bool) (s : State) (b : Board) → Sized cfg s
-        → ((e : ℕ) → e < events cfg → p e ≡ true → EventGood b e (f e (view s e)))
-        → ((e : ℕ) → e < events cfg → p e ≡ false → EventGood b e (view s e))
-        → (e : ℕ) → e < events cfg → EventGood b e (view (forThose cfg p one s) e)
-    those-good acts p s b z passes fails e h = subst (EventGood b e) (sym (those-own acts p s z e h)) (by (p e) (EventGood b e) (passes e h) (fails e h))
+    number-sound : (e : ℕ) (d : ℤ) (s : State) → e < events cfg → DOk cfg (s .board) e d ≡ true → Sound s → Sound (withD e d s)
+    number-sound e d s h ok o = acts-sound (acts-D cfg d) e s h o (good-D cfg e d s (o .memory)) (record { kept = o .events-good e h .kept; number = ok })
+
+    pub starts-sound : (e : ℕ) (s : State) → e < events cfg → Sound s → Sound (happens cfg start e s)
+    starts-sound = happens-sound start (λ n r q. q)
+
+    pub stops-sound : (e : ℕ) (s : State) → e < events cfg → Sound s → Sound (stops cfg e s)
+    stops-sound e s h o = acts-sound (acts-stops cfg) e s h o (good-stops cfg e s h (o .memory)) (reset-good stop (s .board) e h (view s e) (o .events-good e h .kept))
+
+    pub clears-sound : (e : ℕ) (s : State) → e < events cfg → Sound s → Sound (clears cfg e s)
+    clears-sound e s h o = acts-sound (acts-clears cfg) e s h o (good-clears cfg e s h (o .memory)) (reset-good clear (s .board) e h (view s e) (o .events-good e h .kept))
+
+    module _ (frame : List ℕ) (framed : length frame ≡ frameBytes cfg) (e : ℕ) (h : e < events cfg) where
+      told-sound : (s : State) → hasFailedBit cfg s e ≡ true → Sound s → Sound (memoryTold cfg frame e s)
+      told-sound s five o = acts-sound (acts-memoryTold cfg frame) e s h o (good-told cfg frame e s framed h five (o .memory)) (o .events-good e h)
+
+      fails-sound : (s : State) → Sound s → Sound (fails cfg frame e s)
+      unfolding fails
+      fails-sound s o =
+          let o′ = happens-sound failed (λ n r q. refl) e s h o in
+          by (freshFailure (recordOf s e)) Sound (λ q. told-sound (happens cfg failed e s) (bit-own cfg failed e s (o .memory .sized) h) o′) (λ q. o′)
+
+      qualifies-sound : (w : Verdict) (s : State) → Sound s → Sound (qualifies cfg frame e w s)
+      qualifies-sound None s o = o
+      qualifies-sound Passed s o = happens-sound passed (λ n r q. q) e s h o
+      qualifies-sound Failed s o = fails-sound s o
+
+      applied-sound : (d : Debounced) (s : State) → DOk cfg (s .board) e (d .number) ≡ true → Sound s → Sound (applied cfg frame e d s)
+      unfolding applied
+      applied-sound d s ok o = qualifies-sound (d .verdict) (withD e (d .number) s) (number-sound e (d .number) s h ok o)
+
+      pub reports-sound : (code : ℕ) (s : State) → cycleRuns cfg (s .board) e ≡ true → Sound s → Sound (applied cfg frame e (reported cfg e code (D s e)) s)
+      reports-sound code s on o = applied-sound (reported cfg e code (D s e)) s (report-ok cfg (s .board) e (t .row e h .range) on code (D s e) (o .events-good e h .number)) o
+
+      pub ticks-sound : (ms : ℕ) (s : State) → timeRuns cfg (s .board) e ≡ true → Sound s → Sound (ticks cfg ms frame e s)
+      ticks-sound ms s on o =
+          let time = and-left (isTime cfg e) (cycleRuns cfg (s .board) e) on in
+          let runs = and-right (isTime cfg e) (cycleRuns cfg (s .board) e) on in
+          applied-sound (ticked cfg e ms (D s e)) s (tick-ok cfg (s .board) e (t .row e h .range) runs time ms (D s e) (o .events-good e h .number)) o
 
     -- ---- report
 
     report-sound : (k code : ℕ) (frame : List ℕ) (s : State) → Sound s → firstThatApplies (reportRules cfg k code frame s) ≡ 0 → Sound (applied cfg frame k (reported cfg k code (D s k)) s)
     unfolding reportRules
-    report-sound k code frame s o z = record {
-      memory = good-applied cfg frame k (reported cfg k code (D s k)) s frame-is below (o .memory);
-      events-good = λ e h. same-running (s .board) (s′ .board) (acts .running k s) e (view s′ e) (each e h (eqb e k) refl);
-    }
-      where
-        below : k < events cfg
-        below = leb-false (events cfg) k (none-applies _ z refl 2)
-
-        frame-is : length frame ≡ frameBytes cfg
-        frame-is = eqb-true (length frame) (frameBytes cfg) (not-false (eqb (length frame) (frameBytes cfg)) (none-applies _ z refl 5))
-
-        runs-now : cycleRuns cfg (s .board) k ≡ true
-        runs-now = not-false (cycleRuns cfg (s .board) k) (none-applies _ z refl 6)
-
-        rule : ℕ → ℤ → Debounced
-        rule e d = reported cfg e code d
-
-        acts : Acts cfg (λ k s. applied cfg frame k (rule k (D s k)) s) (debouncedView cfg rule)
-        acts = acts-applied cfg frame rule
-
-        s′ : State
-        s′ = applied cfg frame k (rule k (D s k)) s
-
-        own : EventGood (s .board) k (view s′ k)
-        own =
-            let g = o .events-good k below in
-            subst (EventGood (s .board) k) (sym (acts .own k s (o .memory .sized) below))
-            (verdict-good (s .board) (rule k (D s k) .verdict) k below (viewed (storedAt k (s .records)) (rule k (D s k) .number))
-            (record { kept = g .kept; number = report-ok cfg (s .board) k (t .row k below .range) runs-now code (D s k) (g .number) }))
-
-        each : (e : ℕ) → e < events cfg → (b : Bool) → eqb e k ≡ b → EventGood (s .board) e (view s′ e)
-        each e h true q = subst (λ (j : ℕ). EventGood (s .board) j (view s′ j)) (sym (eqb-true e k q)) own
-        each e h false q = subst (EventGood (s .board) e) (sym (acts .other k e s (eqb-false e k q))) (o .events-good e h)
+    report-sound k code frame s o z =
+        reports-sound frame (eqb-true _ _ (not-false _ (none-applies _ z refl 5))) k (leb-false _ _ (none-applies _ z refl 2)) code s (not-false _ (none-applies _ z refl 6)) o
 
     -- ---- tick
 
+    pub ticks-keep : (ms : ℕ) (frame : List ℕ) → length frame ≡ frameBytes cfg → (s : State) → Keeps (timeRuns cfg (s .board)) (ticks cfg ms frame) s
+    ticks-keep ms frame framed s = record {
+      sound = λ k u h q r o. ticks-sound frame framed k h ms u (subst (λ (b : Bool). isTime cfg k && b ≡ true) (runs-as (u .board) (s .board) k (sym r)) q) o;
+      running = λ k u. applied-running cfg frame k _ u;
+    }
+
     tick-sound : (ms : ℕ) (frame : List ℕ) (s : State) → Sound s → firstThatApplies (tickRules cfg ms frame s) ≡ 0 → Sound (forThose cfg (timeRuns cfg (s .board)) (ticks cfg ms frame) s)
     unfolding tickRules
-    tick-sound ms frame s o z = record {
-      memory = good-those cfg (timeRuns cfg (s .board)) (ticks cfg ms frame) (λ k s h m. good-applied cfg frame k _ s frame-is h m) s (o .memory);
-      events-good = λ e h. same-running (s .board) (s′ .board) (those-running acts (timeRuns cfg (s .board)) s) e (view s′ e)
-          (those-good acts (timeRuns cfg (s .board)) s (s .board) (o .memory .sized) ticked-good (λ e h q. o .events-good e h) e h);
-    }
-      where
-        frame-is : length frame ≡ frameBytes cfg
-        frame-is = eqb-true (length frame) (frameBytes cfg) (not-false (eqb (length frame) (frameBytes cfg)) (none-applies _ z refl 3))
-
-        rule : ℕ → ℤ → Debounced
-        rule e d = ticked cfg e ms d
-
-        acts : Acts cfg (ticks cfg ms frame) (debouncedView cfg rule)
-        acts = acts-applied cfg frame rule
-
-        s′ : State
-        s′ = forThose cfg (timeRuns cfg (s .board)) (ticks cfg ms frame) s
-
-        ticked-good : (e : ℕ) → e < events cfg → timeRuns cfg (s .board) e ≡ true → EventGood (s .board) e (debouncedView cfg rule e (view s e))
-        ticked-good e h q =
-            let g = o .events-good e h in
-            verdict-good (s .board) (rule e (D s e) .verdict) e h (viewed (storedAt e (s .records)) (rule e (D s e) .number))
-            (record {
-              kept = g .kept;
-              number = tick-ok cfg (s .board) e (t .row e h .range) (and-right (isTime cfg e) (cycleRuns cfg (s .board) e) q) (and-left (isTime cfg e) (cycleRuns cfg (s .board) e) q) ms (D s e) (g .number);
-            })
+    tick-sound ms frame s o z = those-going (ticks-keep ms frame (eqb-true _ _ (not-false _ (none-applies _ z refl 3))) s) o .sound
 
     -- ---- start and stop
 
@@ -228,70 +252,63 @@ module _ (cfg : Configuration) where
     abbrev turned : ℕ → Bool → State → Board
     turned c b s = record { running = set (s .board .running) c b; overflow = s .board .overflow }
 
-    other-cycle : (c : ℕ) (b : Bool) (s s′ : State) → s′ .board .running ≡ s .board .running → (e : ℕ) → ofCycle cfg c e ≡ false → (v : View) → EventGood (s .board) e v → EventGood (turned c b s′) e v
-    other-cycle c b s s′ r e q v g = record {
+    other-cycle : (c : ℕ) (b : Bool) (s : State) (e : ℕ) → ofCycle cfg c e ≡ false → (v : View) → EventGood (s .board) e v → EventGood (turned c b s) e v
+    other-cycle c b s e q v g = record {
       kept = g .kept;
-      number = DOk-by-running cfg (s .board) (turned c b s′) e (v .number)
-          (ap (λ (l : List Bool). getD l (cycleOf cfg e) false) (sym r) ∙ sym (getD-set-other (s′ .board .running) c (cycleOf cfg e) b false (eqb-false (cycleOf cfg e) c q)))
-          (g .number);
+      number = DOk-by-running cfg (s .board) (turned c b s) e (v .number) (sym (getD-set-other (s .board .running) c (cycleOf cfg e) b false (eqb-false (cycleOf cfg e) c q))) (g .number);
     }
+
+    -- cycle c turned, where its events have D 0, which is right on every board
+    turned-sound : (c : ℕ) (b : Bool) (s : State) → Sound s → ((e : ℕ) → e < events cfg → ofCycle cfg c e ≡ true → D s e ≡ pos 0) → Sound (withCycle c b s)
+    turned-sound c b s o zero = on-board (turned c b s) s (o .memory) (λ e h. each e h (ofCycle cfg c e) refl)
+      where
+        each : (e : ℕ) → e < events cfg → (r : Bool) → ofCycle cfg c e ≡ r → EventGood (turned c b s) e (view s e)
+        each e h true q = record { kept = o .events-good e h .kept; number = subst (λ (d : ℤ). DOk cfg (turned c b s) e d ≡ true) (sym (zero e h q)) (zero-good (turned c b s) e h) }
+        each e h false q = other-cycle c b s e q (view s e) (o .events-good e h)
+
+    pub starts-keep : (c : ℕ) (s : State) → Keeps (ofCycle cfg c) (happens cfg start) s
+    starts-keep c s = record { sound = λ k u h q r. starts-sound k u h; running = λ k u. acts-happens cfg start .running k u }
 
     start-sound : (c : ℕ) (s : State) → Sound s → firstThatApplies (startRules cfg c s) ≡ 0 → Sound (withCycle c true (forThose cfg (ofCycle cfg c) (happens cfg start) s))
     unfolding startRules
-    start-sound c s o z =
-        on-board (turned c true s′) s′ (good-those cfg (ofCycle cfg c) (happens cfg start) (good-starts cfg) s (o .memory))
-        (those-good (acts-happens cfg start) (ofCycle cfg c) s (turned c true s′) (o .memory .sized) started (λ e h q. other-cycle c true s s′ running e q (view s e) (o .events-good e h)))
+    start-sound c s o z = turned-sound c true s′ (g .sound) (λ e h q. stopped-zero cfg (s′ .board) e (D s′ e) (off e q) (g .sound .events-good e h .number))
       where
         s′ : State
         s′ = forThose cfg (ofCycle cfg c) (happens cfg start) s
 
-        running : s′ .board .running ≡ s .board .running
-        running = those-running (acts-happens cfg start) (ofCycle cfg c) s
+        g : Going s s′
+        g = those-going (starts-keep c s) o
 
-        -- a stopped cycle's D is 0, which is right on every board
-        started : (e : ℕ) → e < events cfg → ofCycle cfg c e ≡ true → EventGood (turned c true s′) e (tokenView cfg start e (view s e))
-        started e h q =
-            let g = o .events-good e h in
-            let off : runs (s .board) (cycleOf cfg e) ≡ false = subst (λ (j : ℕ). runs (s .board) j ≡ false) (sym (eqb-true (cycleOf cfg e) c q)) (none-applies _ z refl 3) in
-            record {
-              kept = record-kept start e h (storedAt e (s .records)) (g .kept);
-              number = subst (λ (d : ℤ). DOk cfg (turned c true s′) e d ≡ true) (sym (stopped-zero cfg (s .board) e (D s e) off (g .number))) (zero-good (turned c true s′) e h);
-            }
+        off : (e : ℕ) → ofCycle cfg c e ≡ true → cycleRuns cfg (s′ .board) e ≡ false
+        off e q = runs-as (s .board) (s′ .board) e (g .running) ∙ ap (runs (s .board)) (eqb-true (cycleOf cfg e) c q) ∙ none-applies _ z refl 3
+
+    pub stops-keep : (c : ℕ) (s : State) → Keeps (ofCycle cfg c) (stops cfg) s
+    stops-keep c s = record { sound = λ k u h q r. stops-sound k u h; running = λ k u. acts-stops cfg .running k u }
 
     stop-sound : (c : ℕ) (s : State) → Sound s → Sound (withCycle c false (forThose cfg (ofCycle cfg c) (stops cfg) s))
     stop-sound c s o =
-        on-board (turned c false s′) s′ (good-those cfg (ofCycle cfg c) (stops cfg) (good-stops cfg) s (o .memory))
-        (those-good (acts-stops cfg) (ofCycle cfg c) s (turned c false s′) (o .memory .sized) (λ e h q. reset-good stop (turned c false s′) e h (view s e) (o .events-good e h .kept))
-        (λ e h q. other-cycle c false s s′ (those-running (acts-stops cfg) (ofCycle cfg c) s) e q (view s e) (o .events-good e h)))
-      where
-        s′ : State
-        s′ = forThose cfg (ofCycle cfg c) (stops cfg) s
+        turned-sound c false _ (those-going (stops-keep c s) o .sound)
+        (λ e h q. ap (λ (v : View). v .number) (those-own (acts-stops cfg) (ofCycle cfg c) s (o .memory .sized) e h) ∙ rw q)
 
     -- ---- clear
 
+    pub clears-keep : (code : ℕ) (s : State) → Keeps (covers cfg code) (clears cfg) s
+    clears-keep code s = record { sound = λ k u h q r. clears-sound k u h; running = λ k u. acts-clears cfg .running k u }
+
     cleared-sound : (code : ℕ) (s : State) → Sound s → Sound (cleared cfg code s)
     unfolding cleared
-    cleared-sound code s o =
-        on-board b s′ (good-those cfg (covers cfg code) (clears cfg) (good-clears cfg) s (o .memory))
-        (those-good (acts-clears cfg) (covers cfg code) s b (o .memory .sized) (λ e h q. reset-good clear b e h (view s e) (o .events-good e h .kept))
-        (λ e h q. same-running (s .board) b (those-running (acts-clears cfg) (covers cfg code) s) e (view s e) (o .events-good e h)))
-      where
-        s′ : State
-        s′ = forThose cfg (covers cfg code) (clears cfg) s
-
-        b : Board
-        b = overflowCleared cfg code s′ .board
+    cleared-sound code s o = let o′ = those-going (clears-keep code s) o .sound in on-board _ _ (o′ .memory) (λ e h. same-running _ _ refl e _ (o′ .events-good e h))
 
     -- ---- fresh
 
     fresh-sound : Sound (freshState cfg)
-    unfolding freshState memoryOf entriesBytes noTwice recordAfter
+    unfolding freshState memoryOf entriesBytes noTwice
     fresh-sound = record {
       memory =
           subst (λ (m : List ℕ). MemoryGood cfg (withMemory m (freshState cfg))) (sym empty)
-          (made-good cfg (freshState cfg) [] (fresh-follows cfg .sized) (record { few = omega arith; each = tt; once = refl }));
+          (made-good cfg (freshState cfg) [] (fresh-sized cfg) (record { few = omega arith; each = tt; once = refl }));
       events-good = λ e h. record {
-        kept = subst (λ (r : Stored). recordOk cfg e (opened r) ≡ true) (sym (fresh-follows cfg .records e h))
+        kept = subst (λ (r : Stored). recordOk cfg e (opened r) ≡ true) (sym (fresh-records cfg e h))
             (subst (λ (r : EventRecord). recordOk cfg e r ≡ true) (sym (opened-stored freshRecord)) (fresh-well-formed (limitsOf cfg e) (t .row e h .limits)));
         number = subst (λ (d : ℤ). DOk cfg (freshState cfg .board) e d ≡ true) (sym (getD-replicate (events cfg) e (pos 0) (pos 0) h)) (zero-good (freshState cfg .board) e h);
       };

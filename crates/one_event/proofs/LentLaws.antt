@@ -29,7 +29,7 @@ use Rattle.status.specs.declared.AfterStop.{AfterStop}
 use Rattle.status.specs.Records.{storedIs, recordIs, limits, FailedIs, RoomToRise, StoppedIs}
 use Rattle.status.proofs.RecordsLaws.{step-written, has-room}
 use Rattle.memory.specs.declared.StoreAnswer.{StoreAnswer}
-use Rattle.memory.specs.Store.{MayStore, quietIn, Left, leaves, isLost, stores}
+use Rattle.memory.specs.Store.{MayStore, quietIn, Left, leftWith, isLost, stores}
 use Rattle.memory.proofs.StoreLaws.{answer-is-lost}
 use Rattle.one_event.specs.Ready.{accepts, BlocksFit, EventFits, Ready}
 
@@ -94,7 +94,7 @@ module _ (cfg : Configuration) (e : ℕ) (frame records memory : List ℕ) (boar
   abbrev told : Left
   told = stores (places cfg) (frameBytes cfg) (priorityOf cfg) (quietIn records) e frame (entriesOf (frameBytes cfg) memory)
 
-  pub told-is : {memory′ : List ℕ} (answer : StoreAnswer) {lost : Bool} → leaves memory′ answer ≡ told → lost ≡ isLost answer
+  pub told-is : {memory′ : List ℕ} (answer : StoreAnswer) {lost : Bool} → leftWith memory′ answer ≡ told → lost ≡ isLost answer
       → (d : List ℤ) → lent records d memory′ (record { running = board .running; overflow = board .overflow || lost }) ≡ memoryTold cfg frame e (lent records d memory board)
   unfolding memoryTold keeps stores storedAt
   told-is answer p q d =

@@ -8,8 +8,7 @@ use Rattle.manual.specs.Configuration.{Configuration, events, configOk}
 use Rattle.manual.specs.State.{State}
 use Rattle.manual.specs.WellFormed.{wellFormed}
 use Rattle.manual.specs.OneEvent.{forThose}
-use Rattle.manual.proofs.OneEventLaws.{View, Acts}
-use Rattle.manual.proofs.MemoryStaysGood.{MemoryGood}
+use Rattle.manual.proofs.StaysWellFormed.{Keeps}
 use Rattle.manual.proofs.EventLoops.{loop-ready}
 use Rattle.one_event.specs.Ready.{Ready}
 use Rattle.one_event.proofs.ReadyLaws.{ready-of}
@@ -32,7 +31,7 @@ module _ (p : ℕ → Bool) (one : ℕ → State → State) where
   last-turn cfg i s n h = h ∙ ap (λ (k : ℕ). forBelow k turn s) n
 
   -- what a step may count on at its turn
-  pub ready-at-turn : (cfg : Configuration) {f : ℕ → View → View} → Acts cfg one f → ((k : ℕ) (s : State) → k < events cfg → MemoryGood cfg s → MemoryGood cfg (one k s))
-      → (s : State) → configOk cfg ≡ true → wellFormed cfg s ≡ true → (i : ℕ) {t : State} → i < events cfg → t ≡ forBelow i turn s → Ready cfg t i
-  ready-at-turn cfg acts keeps s ok formed i h q =
-      subst (λ (t : State). Ready cfg t i) (sym q) (ready-of cfg _ ok i h (loop-ready cfg acts keeps p s formed i h))
+  pub ready-at-turn : (cfg : Configuration) (s : State) → Keeps cfg p one s → configOk cfg ≡ true → wellFormed cfg s ≡ true
+      → (i : ℕ) {t : State} → i < events cfg → t ≡ forBelow i turn s → Ready cfg t i
+  ready-at-turn cfg s keeps ok formed i h q =
+      subst (λ (t : State). Ready cfg t i) (sym q) (ready-of cfg _ ok i h (loop-ready cfg keeps formed i h))

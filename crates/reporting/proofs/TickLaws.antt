@@ -2,17 +2,15 @@
 use mathlib.Core.Path.{_≡_, refl}
 use mathlib.Core.List.{List}
 use Prim.Native.Nat.{ℕ, _<_}
-use lib.IntN.{ℤ}
 use borrow.Author.Tests.{eqb-true, ltb-false, not-false}
 use Rattle.manual.specs.Words.{forBelow}
 use Rattle.manual.specs.Configuration.{Configuration, events}
 use Rattle.manual.specs.State.{State}
-use Rattle.manual.specs.Debouncing.{ticked}
 use Rattle.manual.specs.Answers.{firstThatApplies}
 use Rattle.manual.specs.Calls.{tickRules, timeRuns, ticks}
 use Rattle.manual.proofs.AnswersLaws.{none-applies}
-use Rattle.manual.proofs.OneEventLaws.{acts-applied}
-use Rattle.manual.proofs.MemoryStaysGood.{good-applied}
+use Rattle.manual.proofs.ConfigurationLaws.{config-tells}
+use Rattle.manual.proofs.StaysWellFormed.{ticks-keep}
 use Rattle.one_event.specs.Ready.{Ready}
 use Rattle.one_event.proofs.TurnsLaws.{turn, ready-at-turn}
 use Rattle.reporting.specs.Accepted.{MayTick}
@@ -33,5 +31,5 @@ module _ (cfg : Configuration) (s : State) (ms : ℕ) (frame : List ℕ) where
 
   pub turn-ready : MayTick cfg s ms frame → (i : ℕ) → i < events cfg → {t : State} → t ≡ tickedBelow i → Ready cfg t i
   turn-ready m i h p =
-      ready-at-turn (timeRuns cfg (s .board)) (ticks cfg ms frame) cfg (acts-applied cfg frame (λ e (d : ℤ). ticked cfg e ms d))
-      (λ k t l g. good-applied cfg frame k _ t (m .frame-fits) l g) s (m .configured) (m .formed) i h p
+      ready-at-turn (timeRuns cfg (s .board)) (ticks cfg ms frame) cfg s
+      (ticks-keep cfg (config-tells cfg (m .configured)) ms frame (m .frame-fits) s) (m .configured) (m .formed) i h p
