@@ -85,7 +85,7 @@ module _ (cfg : Configuration) where
       let is : fresh cfg s .state ≡ freshState cfg = ap (λ (o : Outcome). o .state) (a .1) in
       record {
         config = config;
-        formed = fresh-makes-well-formed cfg config s z;
+        formed = fresh-makes-well-formed cfg s z;
         four = ap cycles is;
         follows = subst (λ (t : State). Follows cfg t (λ e. [])) (sym is) (fresh-follows cfg);
       }
@@ -93,7 +93,7 @@ module _ (cfg : Configuration) where
   whole-called : (s : State) (H : Histories) (c : Call) → goesOn cfg c s ≡ true → Whole s H → Whole (outcome cfg c s .state) (λ e. tokensAt cfg c s e ++ H e)
   whole-called s H c g w = record {
     config = w .config;
-    formed = stays-well-formed cfg (w .config) c s (w .formed);
+    formed = stays-well-formed cfg c s (w .formed);
     four = call-keeps cfg (λ t H. cycles t ≡ 4) s (λ e. []) (w .four) (cycles-kept s 4 (w .four)) c g;
     follows = call-follows cfg c s H g (w .follows);
   }

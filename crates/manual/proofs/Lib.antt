@@ -25,4 +25,6 @@ pub mod HistoriesAreLegal
 pub mod NoCallLeftOut
 pub mod ExamplesAreASequence
 pub mod OnlyTheNamedEntryLeaves
+pub mod EntriesInACallLaws
+pub mod OnlyTheNamedEntryLeavesInEveryCall
 pub mod EventLoops

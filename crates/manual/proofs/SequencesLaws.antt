@@ -1,12 +1,14 @@
--- Laws of specs/Sequences.antt: what every call keeps of a relation between a state and the events' histories.
-use mathlib.Core.Path.{_≡_, refl}
+-- Laws of specs/Sequences.antt: what a call does, and what every call keeps of a relation between a state and the events' histories.
+use mathlib.Core.Path.{_≡_, refl, sym, ap, subst}
+use mathlib.Core.Logic.{_≢_, _⊎_, inl, inr}
 use mathlib.Core.Bool.{Bool, true, false, not, _&&_, cond}
 use mathlib.Core.List.{List, [], _∷_, _++_}
 use Prim.Native.Nat.{ℕ}
 use lib.Dec.{eqb}
 use lib.ListN.{length, getD}
-use borrow.Author.Tests.{eqb-true, not-true}
+use borrow.Author.Tests.{eqb-true, eqb-false, ne-eqb, not-true}
 use Rattle.history.specs.History.{start, stop, clear, History}
+use Rattle.history.proofs.WordsLaws.{and-right}
 use Rattle.manual.specs.Words.{threeAt}
 use Rattle.manual.specs.Configuration.{Configuration}
 use Rattle.manual.specs.State.{State, D, withCycle}
@@ -15,7 +17,7 @@ use Rattle.manual.specs.OneEvent.{happens, stops, forThose}
 use Rattle.manual.specs.Calls.{fresh, reportRules, applied, debouncedBy, report, tickRules, timeRuns, ticks, tick, ofCycle, startRules, startCycle, stopRules, stopCycle, covers, unknownCode, cleared, clearRules, clearCode, readStatus, readFrame}
 use Rattle.manual.specs.Image.{save, restore}
 use Rattle.manual.specs.Diagnostics.{positive, negative, Served, served, service14, servedBy, sent, requestRules, requestReply}
-use Rattle.manual.specs.Sequences.{Call, Fresh, Report, Tick, Start, Stop, Clear, ReadStatus, ReadFrame, Save, Restore, Request, onlyIf, outcome, gives, tokens, tokensAt, goesOn}
+use Rattle.manual.specs.Sequences.{Call, Fresh, Report, Tick, Start, Stop, Clear, ReadStatus, ReadFrame, Save, Restore, Request, onlyIf, outcome, asksClear, gives, tokens, tokensAt, goesOn}
 use Rattle.manual.proofs.WordsLaws.{clash, by}
 use Rattle.manual.proofs.AnswersLaws.{none-applies, goes-through}
 
@@ -23,50 +25,115 @@ use Rattle.manual.proofs.AnswersLaws.{none-applies, goes-through}
 abbrev pub Histories : Type 0
 Histories = ℕ → History
 
--- ---- what every call keeps, of a relation between state and histories
+-- ---- what a call does
 
--- "Refused calls … count for nothing."
-pub judged-gives : (Q : State → Histories → Type 0) (rules : List Rule) (room : List ℕ) (s : State) (o : Outcome) (g H : Histories) → o .answer ≡ 0 → Q s H
-    → (firstThatApplies rules ≡ 0 → Q (o .state) (λ e. g e ++ H e))
-    → Q (judged rules room s o .state) (λ e. onlyIf (eqb (judged rules room s o .answer) 0) (g e) ++ H e)
+-- refused, with the state as it was, or done, with P of the state that it leaves
+abbrev pub Either : (State → Type 0) → State → Outcome → Type 0
+Either P s o = ((o .answer ≢ 0) × (o .state ≡ s)) ⊎ ((o .answer ≡ 0) × P (o .state))
+
+judged-either : (P : State → Type 0) (rules : List Rule) (room : List ℕ) (s : State) (o : Outcome) → o .answer ≡ 0
+    → (firstThatApplies rules ≡ 0 → P (o .state)) → Either P s (judged rules room s o)
 unfolding judged
-judged-gives Q rules room s o g H z q f = go (eqb (firstThatApplies rules) 0) refl
+judged-either P rules room s o z f = go (eqb (firstThatApplies rules) 0) refl
   where
-    go : (b : Bool) → eqb (firstThatApplies rules) 0 ≡ b
-        → Q (cond b o (refused (firstThatApplies rules) room s) .state) (λ e. onlyIf (eqb (cond b o (refused (firstThatApplies rules) room s) .answer) 0) (g e) ++ H e)
-    go true e = rw z (f (eqb-true (firstThatApplies rules) 0 e))
-    go false e = rw e q
+    go : (b : Bool) → eqb (firstThatApplies rules) 0 ≡ b → Either P s (cond b o (refused (firstThatApplies rules) room s))
+    go true e = inr (z, f (eqb-true (firstThatApplies rules) 0 e))
+    go false e = inl (eqb-false (firstThatApplies rules) 0 e, refl)
 
 -- a fresh or a restore that goes on was refused
-not-accepted : {A : Type 0} (rules : List Rule) (s : State) (o : Outcome) → o .answer ≡ 0 → not (eqb (judged rules [] s o .answer) 0) ≡ true → firstThatApplies rules ≡ 0 → A
+not-accepted : {A : Type 0} (rules : List Rule) (s : State) (o : Outcome) → o .answer ≡ 0
+    → not (eqb (judged rules [] s o .answer) 0) ≡ true → firstThatApplies rules ≡ 0 → A
 not-accepted rules s o n g z = clash (eqb (judged rules [] s o .answer) 0) (rw (goes-through rules [] s o z, n)) (not-true _ g)
 
 module _ (cfg : Configuration) where
-  -- the histories after what call c gives on state s
-  abbrev pub given : Call → State → Histories → Histories
-  given c s H e = gives cfg c (s .board) e (D s e) ++ H e
+  -- a call that changes no block and not the board, where it is accepted
+  abbrev pub onlyReads : Call → Bool
+  onlyReads Fresh = false
+  onlyReads (Report k code frame) = false
+  onlyReads (Tick ms frame) = false
+  onlyReads (Start c) = false
+  onlyReads (Stop c) = false
+  onlyReads (Clear code) = false
+  onlyReads (ReadStatus k) = true
+  onlyReads (ReadFrame k) = true
+  onlyReads (Save room) = true
+  onlyReads (Restore image) = false
+  onlyReads (Request bytes room) = not (asksClear cfg bytes)
+
+  -- what an accepted call makes of state s; a fresh and a restore begin anew and have no place here
+  pub data Does (s : State) : Call → State → Type 0 where
+    a-report : (k code : ℕ) (frame : List ℕ) → firstThatApplies (reportRules cfg k code frame s) ≡ 0
+        → Does s (Report k code frame) (applied cfg frame k (debouncedBy cfg k code s) s)
+    a-tick : (ms : ℕ) (frame : List ℕ) → firstThatApplies (tickRules cfg ms frame s) ≡ 0
+        → Does s (Tick ms frame) (forThose cfg (timeRuns cfg (s .board)) (ticks cfg ms frame) s)
+    a-start : (c : ℕ) → firstThatApplies (startRules cfg c s) ≡ 0
+        → Does s (Start c) (withCycle c true (forThose cfg (ofCycle cfg c) (happens cfg start) s))
+    a-stop : (c : ℕ) → firstThatApplies (stopRules cfg c s) ≡ 0
+        → Does s (Stop c) (withCycle c false (forThose cfg (ofCycle cfg c) (stops cfg) s))
+    a-clear : (code : ℕ) → firstThatApplies (clearRules cfg code s) ≡ 0 → Does s (Clear code) (cleared cfg code s)
+    -- service 14 with a known code does what the clear does
+    a-request : (bytes room : List ℕ) → asksClear cfg bytes ≡ true → firstThatApplies (clearRules cfg (threeAt 1 bytes) s) ≡ 0
+        → Does s (Request bytes room) (cleared cfg (threeAt 1 bytes) s)
+    a-reading : (c : Call) → onlyReads c ≡ true → Does s c s
 
   -- service 14 clears a known code, and nothing else changes the state
-  pub reply-keeps : (Q : State → Histories → Type 0) (bytes room : List ℕ) (s : State) (H : Histories) → Q s H
-      → ((code : ℕ) → unknownCode cfg code ≡ false → Q (cleared cfg code s) (given (Clear code) s H))
-      → Q (servedBy cfg bytes (length room) s .state) (given (Request bytes room) s H)
+  served-state : (bytes : List ℕ) (room : ℕ) (s : State)
+      → servedBy cfg bytes room s .state ≡ cond (asksClear cfg bytes) (cleared cfg (threeAt 1 bytes) s) s
   unfolding servedBy service14
-  reply-keeps Q bytes room s H q f = go (eqb (getD bytes 0 0) 0x14) refl
+  served-state bytes room s = go (eqb (getD bytes 0 0) 0x14) refl
     where
       code : ℕ
       code = threeAt 1 bytes
 
-      is14 : (fits unknown : Bool) → unknownCode cfg code ≡ unknown
-          → Q (cond (not fits) (served (negative 0x13) s) (cond unknown (served (negative 0x31) s) (served (positive (0x54 ∷ [])) (cleared cfg code s))) .state)
-          (λ e. onlyIf ((fits && not unknown) && covers cfg code e) (clear ∷ []) ++ H e)
-      is14 true true e = q
-      is14 true false e = f code e
-      is14 false unknown e = q
+      is14 : (fits unknown : Bool)
+          → cond (not fits) (served (negative 0x13) s) (cond unknown (served (negative 0x31) s) (served (positive (0x54 ∷ [])) (cleared cfg code s))) .state
+          ≡ cond (fits && not unknown) (cleared cfg code s) s
+      is14 true true = refl
+      is14 true false = refl
+      is14 false unknown = refl
 
       go : (b : Bool) → eqb (getD bytes 0 0) 0x14 ≡ b
-          → Q (servedBy cfg bytes (length room) s .state) (λ e. onlyIf ((b && eqb (length bytes) 4 && not (unknownCode cfg code)) && covers cfg code e) (clear ∷ []) ++ H e)
-      go true e = rw (eqb-true (getD bytes 0 0) 0x14 e) (is14 (eqb (length bytes) 4) (unknownCode cfg code) refl)
-      go false e = rw e (by (eqb (getD bytes 0 0) 0x19) (λ (r : Served). Q (r .state) H) (λ x. q) (λ x. q))
+          → servedBy cfg bytes room s .state ≡ cond (b && eqb (length bytes) 4 && not (unknownCode cfg code)) (cleared cfg code s) s
+      go true e = rw (eqb-true (getD bytes 0 0) 0x14 e) (is14 (eqb (length bytes) 4) (unknownCode cfg code))
+      go false e = rw e (by (eqb (getD bytes 0 0) 0x19) (λ (r : Served). r .state ≡ s) (λ x. refl) (λ x. refl))
+
+  -- where a request is accepted, so is a clear of a known code
+  request-clears : (bytes room : List ℕ) (s : State) → firstThatApplies (requestRules cfg bytes room s) ≡ 0 → asksClear cfg bytes ≡ true
+      → firstThatApplies (clearRules cfg (threeAt 1 bytes) s) ≡ 0
+  unfolding firstThatApplies requestRules clearRules
+  request-clears bytes room s z a =
+      rw (none-applies (requestRules cfg bytes room s) z refl 0, none-applies (requestRules cfg bytes room s) z refl 1, known)
+    where
+      known : unknownCode cfg (threeAt 1 bytes) ≡ false
+      known = not-true _ (and-right (eqb (getD bytes 0 0) 0x14 && eqb (length bytes) 4) (not (unknownCode cfg (threeAt 1 bytes))) a)
+
+  request-does : (bytes room : List ℕ) (s : State) → firstThatApplies (requestRules cfg bytes room s) ≡ 0
+      → Does s (Request bytes room) (servedBy cfg bytes (length room) s .state)
+  request-does bytes room s z =
+      subst (Does s (Request bytes room)) (sym (served-state bytes (length room) s))
+      (by (asksClear cfg bytes) (Does s (Request bytes room))
+      (λ a. a-request bytes room a (request-clears bytes room s z a))
+      (λ n. a-reading (Request bytes room) (ap not n)))
+
+  pub call-does : (c : Call) (s : State) → goesOn cfg c s ≡ true → Either (Does s c) s (outcome cfg c s)
+  unfolding fresh report tick startCycle stopCycle clearCode readStatus readFrame save restore requestReply sent
+  call-does Fresh s g = judged-either (Does s Fresh) _ [] s _ refl (λ z. not-accepted _ s _ refl g z)
+  call-does (Report k code frame) s g = judged-either (Does s (Report k code frame)) _ [] s _ refl (a-report k code frame)
+  call-does (Tick ms frame) s g = judged-either (Does s (Tick ms frame)) _ [] s _ refl (a-tick ms frame)
+  call-does (Start c) s g = judged-either (Does s (Start c)) _ [] s _ refl (a-start c)
+  call-does (Stop c) s g = judged-either (Does s (Stop c)) _ [] s _ refl (a-stop c)
+  call-does (Clear code) s g = judged-either (Does s (Clear code)) _ [] s _ refl (a-clear code)
+  call-does (ReadStatus k) s g = judged-either (Does s (ReadStatus k)) _ [] s _ refl (λ z. a-reading (ReadStatus k) refl)
+  call-does (ReadFrame k) s g = judged-either (Does s (ReadFrame k)) _ [] s _ refl (λ z. a-reading (ReadFrame k) refl)
+  call-does (Save room) s g = judged-either (Does s (Save room)) _ room s _ refl (λ z. a-reading (Save room) refl)
+  call-does (Restore image) s g = judged-either (Does s (Restore image)) _ [] s _ refl (λ z. not-accepted _ s _ refl g z)
+  call-does (Request bytes room) s g = judged-either (Does s (Request bytes room)) _ room s _ refl (request-does bytes room s)
+
+  -- ---- what every call keeps, of a relation between state and histories
+
+  -- the histories after what call c gives on state s
+  abbrev pub given : Call → State → Histories → Histories
+  given c s H e = gives cfg c (s .board) e (D s e) ++ H e
 
   -- What a relation must keep for every call to keep it: the five that change the state, where they are accepted.
   pub record KeptWhenAccepted (Q : State → Histories → Type 0) (s : State) (H : Histories) : Type 0 where
@@ -81,24 +148,39 @@ module _ (cfg : Configuration) where
     pub clear : (code : ℕ) → firstThatApplies (clearRules cfg code s) ≡ 0
         → Q (cleared cfg code s) (given (Clear code) s H)
 
-  -- where a request is accepted, so is a clear of a known code
-  request-clears : (bytes room : List ℕ) (s : State) (code : ℕ) → firstThatApplies (requestRules cfg bytes room s) ≡ 0 → unknownCode cfg code ≡ false
-      → firstThatApplies (clearRules cfg code s) ≡ 0
-  unfolding firstThatApplies requestRules clearRules
-  request-clears bytes room s code z u = rw (none-applies (requestRules cfg bytes room s) z refl 0, none-applies (requestRules cfg bytes room s) z refl 1, u)
-
   module _ (Q : State → Histories → Type 0) (s : State) (H : Histories) (q : Q s H) (k : KeptWhenAccepted Q s H) where
+    -- a request's tokens are those of the clear that it asks for
+    asked : (b : Bool) (bytes : List ℕ) (t : State) → asksClear cfg bytes ≡ b → Q t (λ e. onlyIf (b && covers cfg (threeAt 1 bytes) e) (clear ∷ []) ++ H e)
+        → Q t (λ e. onlyIf (asksClear cfg bytes && covers cfg (threeAt 1 bytes) e) (clear ∷ []) ++ H e)
+    asked b bytes t a = subst (λ (b : Bool). Q t (λ e. onlyIf (b && covers cfg (threeAt 1 bytes) e) (clear ∷ []) ++ H e)) (sym a)
+
+    reading-keeps : (c : Call) → onlyReads c ≡ true → Q s (given c s H)
+    reading-keeps Fresh r = q
+    reading-keeps (Report e code frame) r = clash true refl (sym r)
+    reading-keeps (Tick ms frame) r = clash true refl (sym r)
+    reading-keeps (Start c) r = clash true refl (sym r)
+    reading-keeps (Stop c) r = clash true refl (sym r)
+    reading-keeps (Clear code) r = clash true refl (sym r)
+    reading-keeps (ReadStatus e) r = q
+    reading-keeps (ReadFrame e) r = q
+    reading-keeps (Save room) r = q
+    reading-keeps (Restore image) r = q
+    reading-keeps (Request bytes room) r = asked false bytes s (not-true _ r) q
+
+    does-keeps : (c : Call) (t : State) → Does s c t → Q t (given c s H)
+    does-keeps _ _ (a-report e code frame z) = k .report e code frame z
+    does-keeps _ _ (a-tick ms frame z) = k .tick ms frame z
+    does-keeps _ _ (a-start c z) = k .start c z
+    does-keeps _ _ (a-stop c z) = k .stop c z
+    does-keeps _ _ (a-clear code z) = k .clear code z
+    does-keeps _ _ (a-request bytes room a z) = asked true bytes _ a (k .clear (threeAt 1 bytes) z)
+    does-keeps _ _ (a-reading c r) = reading-keeps c r
+
+    -- "Refused calls … count for nothing."
     pub call-keeps : (c : Call) → goesOn cfg c s ≡ true → Q (outcome cfg c s .state) (λ e. tokensAt cfg c s e ++ H e)
-    unfolding tokens fresh report tick startCycle stopCycle clearCode readStatus readFrame save restore requestReply sent
-    call-keeps Fresh g = judged-gives Q _ [] s _ _ H refl q (λ z. not-accepted _ s _ refl g z)
-    call-keeps (Report e code frame) g = judged-gives Q _ [] s _ _ H refl q (k .report e code frame)
-    call-keeps (Tick ms frame) g = judged-gives Q _ [] s _ _ H refl q (k .tick ms frame)
-    call-keeps (Start c) g = judged-gives Q _ [] s _ _ H refl q (k .start c)
-    call-keeps (Stop c) g = judged-gives Q _ [] s _ _ H refl q (k .stop c)
-    call-keeps (Clear code) g = judged-gives Q _ [] s _ _ H refl q (k .clear code)
-    call-keeps (ReadStatus e) g = judged-gives Q _ [] s _ _ H refl q (λ z. q)
-    call-keeps (ReadFrame e) g = judged-gives Q _ [] s _ _ H refl q (λ z. q)
-    call-keeps (Save room) g = judged-gives Q _ room s _ _ H refl q (λ z. q)
-    call-keeps (Restore image) g = judged-gives Q _ [] s _ _ H refl q (λ z. not-accepted _ s _ refl g z)
-    call-keeps (Request bytes room) g =
-        judged-gives Q _ room s _ _ H refl q (λ z. reply-keeps Q bytes room s H q (λ code u. k .clear code (request-clears bytes room s code z u)))
+    unfolding tokens
+    call-keeps c g = go (outcome cfg c s) (call-does c s g)
+      where
+        go : (o : Outcome) → Either (Does s c) s o → Q (o .state) (λ e. tokens cfg (o .answer) c (s .board) e (D s e) ++ H e)
+        go o (inl (n, p)) = rw (p, ne-eqb (o .answer) 0 n) q
+        go o (inr (z, d)) = rw z (does-keeps c (o .state) d)

@@ -1,7 +1,8 @@
--- Under an accepted configuration every call, with any arguments, accepted or refused, leaves any well-formed state well formed; and
--- an accepted fresh or restore makes a well-formed state of any blocks.
+-- Every call, with any configuration and any arguments, accepted or refused, leaves any well-formed state well formed; and an accepted
+-- fresh or restore makes a well-formed state of any blocks.
 use mathlib.Core.Path.{_≡_, refl, sym, ap, subst, _∙_}
-use mathlib.Core.Bool.{Bool, true, false, _&&_, cond}
+use mathlib.Core.Logic.{inl, inr}
+use mathlib.Core.Bool.{Bool, true, false, not, _&&_, cond}
 use mathlib.Core.List.{List, [], _∷_}
 use Prim.Native.Nat.{ℕ, suc, _-_, _*_, _≤_, _<_}
 use native.Mathlib.Nat.{mul-comm, le-refl}
@@ -25,13 +26,13 @@ use Rattle.manual.specs.Debouncing.{Debounced, reported, ticked}
 use Rattle.manual.specs.Memory.{Entry, eventOf, entryWidth, memoryLength, entryCount, bytesInUse, entriesOf, entriesBytes, memoryOf, noTwice}
 use Rattle.manual.specs.WellFormed.{recordOk, DOk, entries, entryOk, wellFormed}
 use Rattle.manual.specs.OneEvent.{happens, memoryTold, fails, qualifies, stops, clears, forThose}
-use Rattle.manual.specs.Answers.{Outcome, firstThatApplies}
-use Rattle.manual.specs.Calls.{freshState, fresh, cycleRuns, reportRules, applied, tickRules, timeRuns, ticks, ofCycle, startRules, covers, overflowCleared, cleared}
+use Rattle.manual.specs.Answers.{Outcome, Rule, _if_, firstThatApplies}
+use Rattle.manual.specs.Calls.{freshState, freshRules, fresh, cycleRuns, reportRules, applied, tickRules, timeRuns, ticks, ofCycle, startRules, stopRules, covers, overflowCleared, cleared, clearRules}
 use Rattle.manual.specs.Image.{restore}
 use Rattle.manual.specs.Sequences.{Call, Fresh, Report, Tick, Start, Stop, Clear, ReadStatus, ReadFrame, Save, Restore, Request, beginsAnew, outcome, goesOn}
-use Rattle.manual.specs.Words.{All, forBelow}
+use Rattle.manual.specs.Words.{All, forBelow, threeAt}
 use Rattle.manual.proofs.WordsLaws.{clash, by, for-below-keeps, all-both, all-of-test, test-of-all, zeros-pass}
-use Rattle.manual.proofs.AnswersLaws.{none-applies, accepted}
+use Rattle.manual.proofs.AnswersLaws.{numbered, none-applies, accepted}
 use Rattle.manual.proofs.ConfigurationLaws.{ConfigTells, config-tells}
 use Rattle.manual.proofs.DebouncingLaws.{zero-ok, report-ok, tick-ok, stopped-zero, DOk-by-running}
 use Rattle.manual.proofs.StateLaws.{opened-stored}
@@ -41,7 +42,7 @@ use Rattle.manual.proofs.MemoryStaysGood.{hasFailedBit, MemoryGood, mad
 use Rattle.manual.proofs.WellFormedLaws.{StateTells, state-tells, state-told, used-fits, zeros-behind}
 use Rattle.manual.proofs.AcceptedImages.{accepted-state}
 use Rattle.manual.proofs.SaveAfterRestore.{restored-accepts, restored-state}
-use Rattle.manual.proofs.SequencesLaws.{KeptWhenAccepted, call-keeps}
+use Rattle.manual.proofs.SequencesLaws.{Does, a-report, a-tick, a-start, a-stop, a-clear, a-request, a-reading, Either, call-does}
 use Rattle.manual.proofs.FreshLaws.{fresh-sized, fresh-records}
 
 module _ (cfg : Configuration) where
@@ -321,50 +322,64 @@ module _ (cfg : Configuration) where
             ap (λ (k : ℕ). replicate k 0) whole
             ∙ ap (λ (k : ℕ). 0 ∷ replicate k 0) (mul-comm (places cfg) (entryWidth (frameBytes cfg)) ∙ ap (λ (k : ℕ). entryWidth (frameBytes cfg) * k) (sym none))
 
-    fresh-begun : (s : State) → fresh cfg s .answer ≡ 0 → Sound (fresh cfg s .state)
-    unfolding fresh
-    fresh-begun s z = subst (λ (o : Outcome). Sound (o .state)) (sym (accepted _ [] s _ z .1)) fresh-sound
+  -- ---- an accepted call
 
-    -- ---- restore
+  -- the configuration that an accepted call judged
+  judged-config : (applies : Bool) (rules : List Rule) → firstThatApplies ((2 if not (configOk cfg)) ∷ (3 if applies) ∷ rules) ≡ 0
+      → numbered rules ≡ true → ConfigTells cfg
+  judged-config applies rules z n = config-tells cfg (not-false _ (none-applies ((2 if not (configOk cfg)) ∷ (3 if applies) ∷ rules) z n 0))
 
-    restore-begun : (image : List ℕ) (s : State) → restore cfg image s .answer ≡ 0 → Sound (restore cfg image s .state)
-    restore-begun image s z = sound (restore cfg image s .state) (subst (λ (r : State). wellFormed cfg r ≡ true) (sym (restored-state cfg image s z)) (accepted-state cfg image (restored-accepts cfg image s z) .formed))
+  does-sound : (c : Call) (s t : State) → Does cfg s c t → Sound s → Sound t
+  unfolding reportRules tickRules startRules stopRules clearRules
+  does-sound _ s _ (a-report k code frame z) o = report-sound (judged-config _ _ z refl) k code frame s o z
+  does-sound _ s _ (a-tick ms frame z) o = tick-sound (judged-config _ _ z refl) ms frame s o z
+  does-sound _ s _ (a-start c z) o = start-sound (judged-config _ _ z refl) c s o z
+  does-sound _ s _ (a-stop c z) o = stop-sound (judged-config _ _ z refl) c s o
+  does-sound _ s _ (a-clear code z) o = cleared-sound (judged-config _ _ z refl) code s o
+  does-sound _ s _ (a-request bytes room a z) o = cleared-sound (judged-config _ _ z refl) (threeAt 1 bytes) s o
+  does-sound _ s _ (a-reading c r) o = o
 
-    -- ---- every call
+  fresh-begun : (s : State) → fresh cfg s .answer ≡ 0 → Sound (fresh cfg s .state)
+  unfolding fresh freshRules
+  fresh-begun s z =
+      let a = accepted _ [] s _ z in
+      subst (λ (o : Outcome). Sound (o .state)) (sym (a .1)) (fresh-sound (judged-config _ _ (a .0) refl))
 
-    sound-accepted : (s : State) → Sound s → KeptWhenAccepted cfg (λ s H. Sound s) s (λ e. [])
-    sound-accepted s o = record {
-      report = λ k code frame z. report-sound k code frame s o z;
-      tick = λ ms frame z. tick-sound ms frame s o z;
-      start = λ c z. start-sound c s o z;
-      stop = λ c z. stop-sound c s o;
-      clear = λ code z. cleared-sound code s o;
-    }
+  restore-begun : (image : List ℕ) (s : State) → restore cfg image s .answer ≡ 0 → Sound (restore cfg image s .state)
+  restore-begun image s z =
+      sound (restore cfg image s .state)
+      (subst (λ (r : State). wellFormed cfg r ≡ true) (sym (restored-state cfg image s z)) (accepted-state cfg image (restored-accepts cfg image s z) .formed))
 
-    -- a fresh or a restore that was accepted begins anew; any other call goes on
-    call-sound : (c : Call) (s : State) → Sound s → (b : Bool) → goesOn cfg c s ≡ b → Sound (outcome cfg c s .state)
-    call-sound c s o true g = call-keeps cfg (λ s H. Sound s) s (λ e. []) o (sound-accepted s o) c g
-    call-sound c s o false g = begun c (not-false (beginsAnew c && eqb (outcome cfg c s .answer) 0) g)
-      where
-        begun : (c : Call) → beginsAnew c && eqb (outcome cfg c s .answer) 0 ≡ true → Sound (outcome cfg c s .state)
-        begun Fresh e = fresh-begun s (eqb-true _ 0 e)
-        begun (Report k code frame) e = clash true refl (sym e)
-        begun (Tick ms frame) e = clash true refl (sym e)
-        begun (Start c) e = clash true refl (sym e)
-        begun (Stop c) e = clash true refl (sym e)
-        begun (Clear code) e = clash true refl (sym e)
-        begun (ReadStatus k) e = clash true refl (sym e)
-        begun (ReadFrame k) e = clash true refl (sym e)
-        begun (Save room) e = clash true refl (sym e)
-        begun (Restore image) e = restore-begun image s (eqb-true _ 0 e)
-        begun (Request bytes room) e = clash true refl (sym e)
+  -- ---- every call
 
-  pub stays-well-formed : configOk cfg ≡ true → (c : Call) (s : State) → wellFormed cfg s ≡ true → wellFormed cfg (outcome cfg c s .state) ≡ true
-  stays-well-formed k c s w = sound-formed (outcome cfg c s .state) (call-sound (config-tells cfg k) c s (sound s w) (goesOn cfg c s) refl)
+  -- a fresh or a restore that was accepted begins anew; any other call goes on
+  call-sound : (c : Call) (s : State) → Sound s → (b : Bool) → goesOn cfg c s ≡ b → Sound (outcome cfg c s .state)
+  call-sound c s o true g = go (call-does cfg c s g)
+    where
+      go : Either (Does cfg s c) s (outcome cfg c s) → Sound (outcome cfg c s .state)
+      go (inl (n, p)) = subst Sound (sym p) o
+      go (inr (z, d)) = does-sound c s _ d o
+  call-sound c s o false g = begun c (not-false (beginsAnew c && eqb (outcome cfg c s .answer) 0) g)
+    where
+      begun : (c : Call) → beginsAnew c && eqb (outcome cfg c s .answer) 0 ≡ true → Sound (outcome cfg c s .state)
+      begun Fresh e = fresh-begun s (eqb-true _ 0 e)
+      begun (Report k code frame) e = clash true refl (sym e)
+      begun (Tick ms frame) e = clash true refl (sym e)
+      begun (Start c) e = clash true refl (sym e)
+      begun (Stop c) e = clash true refl (sym e)
+      begun (Clear code) e = clash true refl (sym e)
+      begun (ReadStatus k) e = clash true refl (sym e)
+      begun (ReadFrame k) e = clash true refl (sym e)
+      begun (Save room) e = clash true refl (sym e)
+      begun (Restore image) e = restore-begun image s (eqb-true _ 0 e)
+      begun (Request bytes room) e = clash true refl (sym e)
+
+  pub stays-well-formed : (c : Call) (s : State) → wellFormed cfg s ≡ true → wellFormed cfg (outcome cfg c s .state) ≡ true
+  stays-well-formed c s w = sound-formed (outcome cfg c s .state) (call-sound c s (sound s w) (goesOn cfg c s) refl)
 
   -- from any blocks, well formed or not
-  pub fresh-makes-well-formed : configOk cfg ≡ true → (s : State) → fresh cfg s .answer ≡ 0 → wellFormed cfg (fresh cfg s .state) ≡ true
-  fresh-makes-well-formed k s z = sound-formed (fresh cfg s .state) (fresh-begun (config-tells cfg k) s z)
+  pub fresh-makes-well-formed : (s : State) → fresh cfg s .answer ≡ 0 → wellFormed cfg (fresh cfg s .state) ≡ true
+  fresh-makes-well-formed s z = sound-formed (fresh cfg s .state) (fresh-begun s z)
 
-  pub restore-makes-well-formed : configOk cfg ≡ true → (image : List ℕ) (s : State) → restore cfg image s .answer ≡ 0 → wellFormed cfg (restore cfg image s .state) ≡ true
-  restore-makes-well-formed k image s z = sound-formed (restore cfg image s .state) (restore-begun (config-tells cfg k) image s z)
+  pub restore-makes-well-formed : (image : List ℕ) (s : State) → restore cfg image s .answer ≡ 0 → wellFormed cfg (restore cfg image s .state) ≡ true
+  restore-makes-well-formed image s z = sound-formed (restore cfg image s .state) (restore-begun image s z)

@@ -11,4 +11,5 @@ pub mod Calls
 pub mod Diagnostics
 pub mod Image
 pub mod Sequences
+pub mod EntriesInACall
 pub mod MarkedExamples
