@@ -1,138 +1,28 @@
--- In every state that calls lead to, with restores of images saved on the way: the configuration is accepted and the state well
--- formed, so no call is refused with 2 or 3; memory lists no event twice; and for every event e below n the byte at 4e of the records
+-- In every state that calls lead to, with restores of images saved on the way, for every event e below n the byte at 4e of the records
 -- is the byte read off that event's history, all eight bits.
-use mathlib.Core.Path.{_≡_, refl, sym, ap, subst, _∙_}
-use mathlib.Core.Logic.{_≢_}
-use mathlib.Core.Bool.{Bool, true, not}
-use mathlib.Core.List.{List, [], _∷_, _++_}
+use mathlib.Core.Path.{_≡_, ap, _∙_}
 use Prim.Native.Nat.{ℕ, _*_, _<_}
-use native.Mathlib.Omega.{arith}
-use lib.ListN.{length, getD, length-set}
-use borrow.Author.Tests.{not-false}
+use lib.ListN.{getD}
 use Rattle.history.specs.StatusByte.{Bit, statusOf, byteOf}
 use Rattle.history.specs.History.{reading}
 use Rattle.history.proofs.StatusByteLaws.{status-of-byte}
 use Rattle.history.proofs.ByteIsReading.{byte-is-reading}
-use Rattle.manual.specs.Configuration.{Configuration, events, limitsOf, configOk}
+use Rattle.manual.specs.Configuration.{Configuration, events, limitsOf}
 use Rattle.manual.specs.State.{State, Stored, recordWidth, storedAt}
-use Rattle.manual.specs.Answers.{Outcome, Rule, _if_, firstThatApplies}
-use Rattle.manual.specs.Memory.{noTwice}
-use Rattle.manual.specs.WellFormed.{entries, wellFormed}
-use Rattle.manual.specs.Calls.{freshRules, fresh, freshState, reportRules, tickRules, startRules, stopRules, clearRules, readStatusRules, readFrameRules, cleared}
-use Rattle.manual.specs.Image.{save, restore, saveRules, restoreRules}
-use Rattle.manual.specs.Diagnostics.{requestRules}
-use Rattle.manual.specs.Sequences.{rulesOf, Call, Fresh, Report, Tick, Start, Stop, Clear, ReadStatus, ReadFrame, Save, Restore, Request, outcome, savedImage, tokensAt, goesOn, Reached, begun, called, restored}
-use Rattle.manual.proofs.AnswersLaws.{none-applies, accepted, lacks, never-given}
+use Rattle.manual.specs.Sequences.{Reached}
 use Rattle.manual.proofs.ConfigurationLaws.{config-tells}
-use Rattle.manual.proofs.WellFormedLaws.{state-tells, well-formed-lengths}
-use Rattle.manual.proofs.OneEventLaws.{those-running, acts-happens, acts-stops, acts-clears, applied-running, ticks-running}
-use Rattle.manual.proofs.SequencesLaws.{Histories, KeptWhenAccepted, call-keeps}
-use Rattle.manual.proofs.RecordsFollowHistories.{Follows, call-follows, fresh-follows}
-use Rattle.manual.proofs.RestoreAfterSave.{restore-after-save}
-use Rattle.manual.proofs.StaysWellFormed.{stays-well-formed, fresh-makes-well-formed}
-use Rattle.manual.proofs.AnswerIsFirstThatApplies.{answer-is}
+use Rattle.manual.proofs.SequencesLaws.{Histories}
+use Rattle.manual.proofs.WellFormedInEverySequence.{config-accepted, record-follows}
 
--- ---- where the configuration and the state are in order, 2 and 3 are not given
+module _ (cfg : Configuration) {s : State} {H : Histories} (reached : Reached cfg s H) where
+  -- the byte at 4e of the records
+  pub byte-is-reading-in-sequence : (e : ℕ) → e < events cfg → getD (s .records) (recordWidth * e) 0 ≡ byteOf (reading (limitsOf cfg e) (H e))
+  unfolding storedAt
+  byte-is-reading-in-sequence e h =
+      ap (λ (r : Stored). r .status) (record-follows cfg reached e h)
+      ∙ byte-is-reading (limitsOf cfg e) (config-tells cfg (config-accepted cfg reached) .row e h .limits) (H e)
 
-Unrefused : List Rule → Type 0
-Unrefused rules = (firstThatApplies rules ≢ 2) × (firstThatApplies rules ≢ 3)
-
-past-both : (a b : Bool) (rules : List Rule) → a ≡ true → b ≡ true → lacks 2 rules ≡ true → lacks 3 rules ≡ true → Unrefused ((2 if not a) ∷ (3 if not b) ∷ rules)
-unfolding firstThatApplies Unrefused
-past-both a b rules p q l m = rw (p, q) (never-given 2 (λ z. omega arith) rules l, never-given 3 (λ z. omega arith) rules m)
-
-module _ (cfg : Configuration) where
-  not-2-or-3 : (c : Call) (s : State) → configOk cfg ≡ true → wellFormed cfg s ≡ true → (firstThatApplies (rulesOf cfg c s) ≢ 2) × (firstThatApplies (rulesOf cfg c s) ≢ 3)
-  unfolding Unrefused freshRules reportRules tickRules startRules stopRules clearRules readStatusRules readFrameRules saveRules restoreRules requestRules
-  not-2-or-3 Fresh s k w = past-both _ _ _ k (well-formed-lengths cfg s w) refl refl
-  not-2-or-3 (Report e code frame) s k w = past-both _ _ _ k w refl refl
-  not-2-or-3 (Tick ms frame) s k w = past-both _ _ _ k w refl refl
-  not-2-or-3 (Start c) s k w = past-both _ _ _ k w refl refl
-  not-2-or-3 (Stop c) s k w = past-both _ _ _ k w refl refl
-  not-2-or-3 (Clear code) s k w = past-both _ _ _ k w refl refl
-  not-2-or-3 (ReadStatus e) s k w = past-both _ _ _ k w refl refl
-  not-2-or-3 (ReadFrame e) s k w = past-both _ _ _ k w refl refl
-  not-2-or-3 (Save room) s k w = past-both _ _ _ k w refl refl
-  not-2-or-3 (Restore image) s k w = past-both _ _ _ k (well-formed-lengths cfg s w) refl refl
-  not-2-or-3 (Request bytes room) s k w = past-both _ _ _ k w refl refl
-
-  -- no call changes how many cycles the board has
-  abbrev cycles : State → ℕ
-  cycles s = length (s .board .running)
-
-  cycles-kept : (s : State) (n : ℕ) → cycles s ≡ n → KeptWhenAccepted cfg (λ t H. cycles t ≡ n) s (λ e. [])
-  unfolding cleared
-  cycles-kept s n e = record {
-    report = λ k code frame z. ap length (applied-running cfg frame k _ s) ∙ e;
-    tick = λ ms frame z. ap length (ticks-running cfg ms frame _ s) ∙ e;
-    start = λ c z. simp length-set (ap length (those-running (acts-happens cfg _) _ s) ∙ e);
-    stop = λ c z. simp length-set (ap length (those-running (acts-stops cfg) _ s) ∙ e);
-    clear = λ code z. ap length (those-running (acts-clears cfg) _ s) ∙ e;
-  }
-
-  -- what holds of every state that calls lead to
-  record Whole (s : State) (H : Histories) : Type 0 where
-    config : configOk cfg ≡ true
-    formed : wellFormed cfg s ≡ true
-    four : cycles s ≡ 4
-    follows : Follows cfg s H
-
-  whole-begun : (s : State) → fresh cfg s .answer ≡ 0 → Whole (fresh cfg s .state) (λ e. [])
-  unfolding fresh freshRules freshState
-  whole-begun s z =
-      let a = accepted _ [] s _ z in
-      let config : configOk cfg ≡ true = not-false (configOk cfg) (none-applies _ (a .0) refl 0) in
-      let is : fresh cfg s .state ≡ freshState cfg = ap (λ (o : Outcome). o .state) (a .1) in
-      record {
-        config = config;
-        formed = fresh-makes-well-formed cfg s z;
-        four = ap cycles is;
-        follows = subst (λ (t : State). Follows cfg t (λ e. [])) (sym is) (fresh-follows cfg);
-      }
-
-  whole-called : (s : State) (H : Histories) (c : Call) → goesOn cfg c s ≡ true → Whole s H → Whole (outcome cfg c s .state) (λ e. tokensAt cfg c s e ++ H e)
-  whole-called s H c g w = record {
-    config = w .config;
-    formed = stays-well-formed cfg c s (w .formed);
-    four = call-keeps cfg (λ t H. cycles t ≡ 4) s (λ e. []) (w .four) (cycles-kept s 4 (w .four)) c g;
-    follows = call-follows cfg c s H g (w .follows);
-  }
-
-  whole-restored : (s s′ : State) (H H′ : Histories) (room : List ℕ) → save cfg room s .answer ≡ 0 → Whole s H → Whole s′ H′ → Whole (restore cfg (savedImage (save cfg room s)) s′ .state) H
-  whole-restored s s′ H H′ room z w w′ =
-      subst (λ (o : Outcome). Whole (o .state) H) (sym (restore-after-save cfg (w .config) s s′ (w .four) (well-formed-lengths cfg s′ (w′ .formed)) room z)) w
-
-  whole : {s : State} {H : Histories} → Reached cfg s H → Whole s H
-  whole (begun s z) = whole-begun s z
-  whole (called {s} {H} r c g) = whole-called s H c g (whole r)
-  whole (restored {s} {s′} {H} {H′} r r′ room z) = whole-restored s s′ H H′ room z (whole r) (whole r′)
-
-  module _ {s : State} {H : Histories} (reached : Reached cfg s H) where
-    pub config-accepted : configOk cfg ≡ true
-    config-accepted = whole reached .config
-
-    pub well-formed : wellFormed cfg s ≡ true
-    well-formed = whole reached .formed
-
-    pub four-cycles : length (s .board .running) ≡ 4
-    four-cycles = whole reached .four
-
-    -- "Memory never lists an event twice"
-    pub no-event-twice : noTwice (entries cfg s) ≡ true
-    no-event-twice = state-tells cfg s well-formed .once
-
-    -- the byte at 4e of the records
-    pub byte-is-reading-in-sequence : (e : ℕ) → e < events cfg → getD (s .records) (recordWidth * e) 0 ≡ byteOf (reading (limitsOf cfg e) (H e))
-    unfolding storedAt
-    byte-is-reading-in-sequence e h =
-        ap (λ (r : Stored). r .status) (whole reached .follows .records e h)
-        ∙ byte-is-reading (limitsOf cfg e) (config-tells cfg config-accepted .row e h .limits) (H e)
-
-    -- the same, bit by bit
-    pub bit-is-reading-in-sequence : (e : ℕ) → e < events cfg → (b : Bit) → statusOf (getD (s .records) (recordWidth * e) 0) b ≡ reading (limitsOf cfg e) (H e) b
-    bit-is-reading-in-sequence e h b =
-        ap (λ (byte : ℕ). statusOf byte b) (byte-is-reading-in-sequence e h) ∙ status-of-byte (reading (limitsOf cfg e) (H e)) b
-
-    -- no call of a sequence is refused with 2 or 3
-    pub never-refused-with-2-or-3 : (c : Call) → (outcome cfg c s .answer ≢ 2) × (outcome cfg c s .answer ≢ 3)
-    never-refused-with-2-or-3 c = let n = not-2-or-3 c s config-accepted well-formed in (λ q. n .0 (sym (answer-is cfg c s) ∙ q), λ q. n .1 (sym (answer-is cfg c s) ∙ q))
+  -- the same, bit by bit
+  pub bit-is-reading-in-sequence : (e : ℕ) → e < events cfg → (b : Bit) → statusOf (getD (s .records) (recordWidth * e) 0) b ≡ reading (limitsOf cfg e) (H e) b
+  bit-is-reading-in-sequence e h b =
+      ap (λ (byte : ℕ). statusOf byte b) (byte-is-reading-in-sequence e h) ∙ status-of-byte (reading (limitsOf cfg e) (H e)) b

@@ -27,7 +27,7 @@ use Rattle.manual.proofs.WellFormedLaws.{well-formed-lengths}
 use Rattle.manual.proofs.OneEventLaws.{those-running, acts-happens, acts-stops, acts-clears, applied-running, ticks-running}
 use Rattle.manual.proofs.SequencesLaws.{Histories, given, KeptWhenAccepted, call-keeps}
 use Rattle.manual.proofs.RestoreAfterSave.{restore-after-save}
-use Rattle.manual.proofs.ByteIsReadingInEverySequence.{config-accepted, well-formed, four-cycles}
+use Rattle.manual.proofs.WellFormedInEverySequence.{config-accepted, well-formed, four-cycles}
 
 -- the history is legal, and r says whether its run goes on
 pub record Lawful (l : History) (r : Bool) : Type 0 where

@@ -20,8 +20,9 @@ pub mod FreshLaws
 pub mod RecordsFollowHistories
 pub mod StaysWellFormed
 pub mod Service14IsClear
-pub mod ByteIsReadingInEverySequence
+pub mod WellFormedInEverySequence
 pub mod HistoriesAreLegal
+pub mod ByteIsReadingInEverySequence
 pub mod NoCallLeftOut
 pub mod ExamplesAreASequence
 pub mod OnlyTheNamedEntryLeaves
