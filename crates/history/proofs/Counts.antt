@@ -1,16 +1,17 @@
--- Bits 3 and 7 of the record are those of the reading; g and h count what the newest stretch counts, where the bit is set.
+-- After a legal history bits 3 and 7 of the record are those of the reading; g and h count what the newest stretch counts, where the bit is set.
 use mathlib.Core.Path.{_≡_, refl, sym, ap, _∙_}
 use mathlib.Core.Bool.{Bool, true, false, not, _&&_, _||_, cond, true≢false}
 use mathlib.Core.List.{List, [], _∷_}
 use Prim.Native.Nat.{ℕ, suc, min, _≤_}
 use native.Mathlib.Omega.{arith}
-use lib.Dec.{leb, eqb}
+use lib.Dec.{T, leb, eqb}
 use borrow.Author.Tests.{leb-true, leb-false, le-leb, lt-leb, eq-eqb, ne-eqb, not-true}
 use Rattle.history.specs.Words.{countOf}
 use Rattle.history.specs.StatusByte.{confirmedDTC, warningIndicatorRequested, Limits, confirms}
 use Rattle.history.specs.History.{passed, failed, start, stop, clear, History, recordAfter, Moment, moments, sinceL, failureFree, clean, sinceCleanStop, confirming, countedForAgeing, countedForHealing, notAged, notHealed, standing, reading, Allowed}
+use Rattle.history.specs.Legal.{legal}
 use Rattle.history.proofs.WordsLaws.{and-true, and-false, and-assoc}
-use Rattle.history.proofs.Runs.{moment, healing-is, ageing-is, failedRunsNow, K-is}
+use Rattle.history.proofs.Runs.{moment, healing-is, ageing-is, failedRunsNow, legal-before, K-is}
 use Rattle.history.proofs.Standing.{newest, standing-newest, standing-failed, standing-stop, standing-passed, standing-start}
 
 -- ---- counts and limits
@@ -178,9 +179,9 @@ module _ (n : Limits) (a : Allowed n) where
   confirmingNow l = confirming (n .C) (moment failed l)
 
   -- the rules confirm exactly at a confirming result
-  confirms-is : (l : History) → confirms n (recordAfter n l) ≡ confirmingNow l
+  confirms-is : (l : History) → T (legal (failed ∷ l)) → confirms n (recordAfter n l) ≡ confirmingNow l
   unfolding confirmingNow confirming recordAfter failedRunsNow sinceCleanStop moments clean failureFree
-  confirms-is l = rw (K-is n (failed ∷ l)) (leb-cap (n .C) (failedRunsNow (failed ∷ l)) (a .C-most))
+  confirms-is l t = rw (K-is n (failed ∷ l) t) (leb-cap (n .C) (failedRunsNow (failed ∷ l)) (a .C-most))
 
   -- ---- bit 3 of the reading, one thing after the other
 
@@ -276,12 +277,12 @@ module _ (n : Limits) (a : Allowed n) where
   unfolding recordAfter agedBy healedBy sinceL moments clean failureFree
   known-start l k = record { at3 = rw (r3-start l) (k .at3); atg = rw (r3-start l) (k .atg); at7 = rw (r7-start l) (k .at7); ath = rw (r7-start l) (k .ath); only = rw (r7-start l, r3-start l) (k .only) }
 
-  known-failed : (l : History) → Known l → Known (failed ∷ l)
+  known-failed : (l : History) → T (legal (failed ∷ l)) → Known l → Known (failed ∷ l)
   unfolding recordAfter agedBy healedBy sinceL moments
-  known-failed l k = record {
-    at3 = rw (r3-failed l, k .at3, confirms-is l);
+  known-failed l t k = record {
+    at3 = rw (r3-failed l, k .at3, confirms-is l t);
     atg = sym (either (r3 (failed ∷ l)) 0);
-    at7 = rw (r7-failed l, k .at7, confirms-is l);
+    at7 = rw (r7-failed l, k .at7, confirms-is l t);
     ath = sym (either (r7 (failed ∷ l)) 0);
     only = rw (r7-failed l, r3-failed l) (table (n .indicator) (confirmingNow l) (r7 l) (r3 l) (k .only));
   }
@@ -326,16 +327,16 @@ module _ (n : Limits) (a : Allowed n) where
       table true false u v e = cc
       table false r u v e = refl
 
-  known : (l : History) → Known l
-  known [] = known-none
-  known (passed ∷ l) = known-passed l (known l)
-  known (failed ∷ l) = known-failed l (known l)
-  known (start ∷ l) = known-start l (known l)
-  known (stop ∷ l) = known-stop l (known l)
-  known (clear ∷ l) = known-clear l
+  known : (l : History) → T (legal l) → Known l
+  known [] t = known-none
+  known (passed ∷ l) t = known-passed l (known l (legal-before passed l t))
+  known (failed ∷ l) t = known-failed l t (known l (legal-before failed l t))
+  known (start ∷ l) t = known-start l (known l (legal-before start l t))
+  known (stop ∷ l) t = known-stop l (known l (legal-before stop l t))
+  known (clear ∷ l) t = known-clear l
 
-  pub bit3 : (l : History) → recordAfter n l .status confirmedDTC ≡ reading n l confirmedDTC
-  bit3 l = known l .at3
+  pub bit3 : (l : History) → T (legal l) → recordAfter n l .status confirmedDTC ≡ reading n l confirmedDTC
+  bit3 l t = known l t .at3
 
-  pub bit7 : (l : History) → recordAfter n l .status warningIndicatorRequested ≡ reading n l warningIndicatorRequested
-  bit7 l = known l .at7
+  pub bit7 : (l : History) → T (legal l) → recordAfter n l .status warningIndicatorRequested ≡ reading n l warningIndicatorRequested
+  bit7 l t = known l t .at7

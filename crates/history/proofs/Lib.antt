@@ -8,5 +8,4 @@ pub mod Standing
 pub mod Counts
 pub mod ByteIsReading
 pub mod WordsMean
-pub mod RunsHoweverCut
 pub mod RecordStaysWellFormed

@@ -79,14 +79,18 @@ clean m = failureFree m && anyOf isPassed (sinceW (m .before))
 unfoldable pub sinceCleanStop : History → List Moment
 sinceCleanStop l = since (λ m. is clear m || clean m) (moments l)
 
--- "A run goes from a start to its stop.": the parts between the starts, as no result lies between a stop and the next start.
--- "A run begun before L counts only by its failed results after L": the oldest part is what is left of such a run.
-abbrev pub runs : List Moment → List (List Moment)
-runs = cutAt (is start)
+-- "A run goes from a start to its stop."
+abbrev pub edge : Moment → Bool
+edge m = is start m || is stop m
+
+-- the parts between these: the runs, and between a stop and the next start what lies in no run, which in a legal history holds no
+-- result (specs/Legal.antt). "A run begun before L counts only by its failed results after L": of such a run the oldest part is left.
+abbrev pub runsIn : List Moment → List (List Moment)
+runsIn = cutAt edge
 
 -- "the number of runs holding failed results"
 abbrev pub failedRuns : List Moment → ℕ
-failedRuns ms = countOf (anyOf isFailed) (runs ms)
+failedRuns ms = countOf (anyOf isFailed) (runsIn ms)
 
 -- what confirms: "A failed result is confirming if the number of runs holding failed results that lie after the later of L
 -- and the last clean stop before it, and no later than it, its own run included, is at least C."

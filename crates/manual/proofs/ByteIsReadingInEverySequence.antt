@@ -13,6 +13,7 @@ use Rattle.manual.specs.Sequences.{Reached}
 use Rattle.manual.proofs.ConfigurationLaws.{config-tells}
 use Rattle.manual.proofs.SequencesLaws.{Histories}
 use Rattle.manual.proofs.WellFormedInEverySequence.{config-accepted, record-follows}
+use Rattle.manual.proofs.HistoriesAreLegal.{history-is-legal}
 
 module _ (cfg : Configuration) {s : State} {H : Histories} (reached : Reached cfg s H) where
   -- the byte at 4e of the records
@@ -20,7 +21,7 @@ module _ (cfg : Configuration) {s : State} {H : Histories} (reached : Reached cf
   unfolding storedAt
   byte-is-reading-in-sequence e h =
       ap (λ (r : Stored). r .status) (record-follows cfg reached e h)
-      ∙ byte-is-reading (limitsOf cfg e) (config-tells cfg (config-accepted cfg reached) .row e h .limits) (H e)
+      ∙ byte-is-reading (limitsOf cfg e) (config-tells cfg (config-accepted cfg reached) .row e h .limits) (H e) (history-is-legal cfg reached e h)
 
   -- the same, bit by bit
   pub bit-is-reading-in-sequence : (e : ℕ) → e < events cfg → (b : Bit) → statusOf (getD (s .records) (recordWidth * e) 0) b ≡ reading (limitsOf cfg e) (H e) b

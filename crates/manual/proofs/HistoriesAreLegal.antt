@@ -1,6 +1,5 @@
 -- In every state that calls lead to, each event's history is legal: results and stops lie in a run of its cycle, starts between runs;
--- and the run goes on exactly where the board says that the cycle runs. So "a run goes from a start to its stop" and the reading's
--- runs count the same.
+-- and the run goes on exactly where the board says that the cycle runs.
 use mathlib.Core.Path.{_≡_, refl, sym, ap, subst, _∙_}
 use mathlib.Core.Bool.{Bool, true, false, not, _&&_}
 use mathlib.Core.List.{List, [], _∷_, _++_}
@@ -10,9 +9,8 @@ use lib.Dec.{T, eqb}
 use lib.ListN.{length, getD, set, length-set}
 use lib.Seq.{getD-set-same, getD-set-other}
 use borrow.Author.Tests.{eqb-true, eqb-false, ltb-false, not-false}
-use Rattle.history.specs.History.{Token, start, stop, clear, History, sinceCleanStop, failedRuns}
+use Rattle.history.specs.History.{Token, start, stop, clear, History}
 use Rattle.history.specs.Legal.{running, legal}
-use Rattle.history.proofs.RunsHoweverCut.{failedRunsByEdges, runs-however-cut}
 use Rattle.history.proofs.WordsLaws.{and-right}
 use Rattle.manual.specs.declared.Verdict.{Verdict}
 use Rattle.manual.specs.declared.Verdict.the-variants.{None, Passed, Failed}
@@ -148,7 +146,3 @@ module _ (cfg : Configuration) where
 
     pub run-goes-on : running (H e) ≡ cycleRuns cfg (s .board) e
     run-goes-on = orderly reached .each e below .goes-on
-
-    -- "A run goes from a start to its stop."
-    pub runs-as-worded : failedRunsByEdges (sinceCleanStop (H e)) ≡ failedRuns (sinceCleanStop (H e))
-    runs-as-worded = runs-however-cut (H e) history-is-legal
