@@ -21,11 +21,10 @@ use Rattle.manual.specs.Debouncing.{reported, ticked}
 use Rattle.manual.specs.Calls.{freshState, fresh, cycleRuns, reportRules, timeRuns, ofCycle, startRules, stopRules, covers, cleared}
 use Rattle.manual.specs.Sequences.{result, onlyIf, Report, Tick, Reached, begun, called, restored}
 use Rattle.manual.proofs.AnswersLaws.{none-applies, accepted}
-use Rattle.manual.proofs.WellFormedLaws.{well-formed-lengths}
-use Rattle.manual.proofs.OneEventLaws.{those-running, acts-happens, acts-stops, acts-clears, applied-running, ticks-running}
+use Rattle.manual.proofs.OneEventLaws.{those-running, acts-happens, acts-stops, acts-clears, acts-applied}
 use Rattle.manual.proofs.SequencesLaws.{Histories, given, KeptWhenAccepted, call-keeps}
 use Rattle.manual.proofs.RestoreAfterSave.{restore-after-save}
-use Rattle.manual.proofs.WellFormedInEverySequence.{config-accepted, well-formed, four-cycles}
+use Rattle.manual.proofs.WellFormedInEverySequence.{config-accepted, four-cycles}
 
 -- the history is legal, and r says whether its run goes on
 pub record Lawful (l : History) (r : Bool) : Type 0 where
@@ -137,8 +136,8 @@ module _ (cfg : Configuration) where
   orderly : {s : State} {H : Histories} → Reached cfg s H → Orderly s H
   orderly (begun s z) = orderly-begun s z
   orderly (called {s} {H} r c g) = call-keeps cfg Orderly s H (orderly r) (orderly-accepted s H (orderly r)) c g
-  orderly (restored {s} {s′} {H} {H′} r r′ room z) =
-      subst (λ (o : Outcome). Orderly (o .state) H) (sym (restore-after-save cfg (config-accepted cfg r) s s′ (four-cycles cfg r) (well-formed-lengths cfg s′ (well-formed cfg r′)) room z)) (orderly r)
+  orderly (restored {s} {H} r room z s′ fits) =
+      subst (λ (o : Outcome). Orderly (o .state) H) (sym (restore-after-save cfg (config-accepted cfg r) s s′ (four-cycles cfg r) fits room z)) (orderly r)
 
   module _ {s : State} {H : Histories} (reached : Reached cfg s H) (e : ℕ) (below : e < events cfg) where
     pub history-is-legal : T (legal (H e))

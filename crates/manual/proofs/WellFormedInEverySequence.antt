@@ -14,7 +14,7 @@ use Rattle.manual.specs.Configuration.{Configuration, events, limitsOf, 
 use Rattle.manual.specs.State.{State, stored, storedAt}
 use Rattle.manual.specs.Answers.{Outcome, Rule, _if_, firstThatApplies}
 use Rattle.manual.specs.Memory.{noTwice}
-use Rattle.manual.specs.WellFormed.{entries, wellFormed}
+use Rattle.manual.specs.WellFormed.{lengthsFit, entries, wellFormed}
 use Rattle.manual.specs.Calls.{freshRules, fresh, freshState, reportRules, tickRules, startRules, stopRules, clearRules, readStatusRules, readFrameRules, cleared}
 use Rattle.manual.specs.Image.{save, restore, saveRules, restoreRules}
 use Rattle.manual.specs.Diagnostics.{requestRules}
@@ -95,14 +95,15 @@ module _ (cfg : Configuration) where
     follows = call-follows cfg c s H g (w .follows);
   }
 
-  whole-restored : (s s′ : State) (H H′ : Histories) (room : List ℕ) → save cfg room s .answer ≡ 0 → Whole s H → Whole s′ H′ → Whole (restore cfg (savedImage (save cfg room s)) s′ .state) H
-  whole-restored s s′ H H′ room z w w′ =
-      subst (λ (o : Outcome). Whole (o .state) H) (sym (restore-after-save cfg (w .config) s s′ (w .four) (well-formed-lengths cfg s′ (w′ .formed)) room z)) w
+  whole-restored : (s : State) (H : Histories) (room : List ℕ) → save cfg room s .answer ≡ 0 → (s′ : State) → lengthsFit cfg s′ ≡ true → Whole s H
+      → Whole (restore cfg (savedImage (save cfg room s)) s′ .state) H
+  whole-restored s H room z s′ fits w =
+      subst (λ (o : Outcome). Whole (o .state) H) (sym (restore-after-save cfg (w .config) s s′ (w .four) fits room z)) w
 
   whole : {s : State} {H : Histories} → Reached cfg s H → Whole s H
   whole (begun s z) = whole-begun s z
   whole (called {s} {H} r c g) = whole-called s H c g (whole r)
-  whole (restored {s} {s′} {H} {H′} r r′ room z) = whole-restored s s′ H H′ room z (whole r) (whole r′)
+  whole (restored {s} {H} r room z s′ fits) = whole-restored s H room z s′ fits (whole r)
 
   module _ {s : State} {H : Histories} (reached : Reached cfg s H) where
     pub config-accepted : configOk cfg ≡ true

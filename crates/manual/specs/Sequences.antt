@@ -13,6 +13,7 @@ use Rattle.manual.specs.declared.Verdict.the-variants.{None, Passed, Fai
 use Rattle.manual.specs.Words.{threeAt}
 use Rattle.manual.specs.Configuration.{Configuration}
 use Rattle.manual.specs.State.{State, D}
+use Rattle.manual.specs.WellFormed.{lengthsFit}
 use Rattle.manual.specs.Answers.{Outcome, Rule}
 use Rattle.manual.specs.Debouncing.{reported, ticked}
 use Rattle.manual.specs.Calls.{freshRules, reportRules, tickRules, startRules, stopRules, clearRules, readStatusRules, readFrameRules, fresh, report, tick, startCycle, stopCycle, clearCode, readStatus, readFrame, timeRuns, ofCycle, covers, unknownCode}
@@ -133,5 +134,7 @@ module _ (cfg : Configuration) where
     begun : (s : State) → fresh cfg s .answer ≡ 0 → Reached (fresh cfg s .state) (λ e. [])
     -- any call with any arguments, accepted or refused, "without a restore or a second fresh state"
     called : {s : State} {H : ℕ → History} → Reached s H → (c : Call) → goesOn c s ≡ true → Reached (outcome c s .state) (λ e. tokensAt c s e ++ H e)
-    -- "After restoring an image saved in that sequence, the history is the one up to that save, then what follows."
-    restored : {s s′ : State} {H H′ : ℕ → History} → Reached s H → Reached s′ H′ → (room : List ℕ) → save cfg room s .answer ≡ 0 → Reached (restore cfg (savedImage (save cfg room s)) s′ .state) H
+    -- "After restoring an image saved in that sequence, the history is the one up to that save, then what follows.": restored into any
+    -- state of the lengths that restore asks for, as after a power cut blocks and board may hold anything
+    restored : {s : State} {H : ℕ → History} → Reached s H → (room : List ℕ) → save cfg room s .answer ≡ 0
+        → (s′ : State) → lengthsFit cfg s′ ≡ true → Reached (restore cfg (savedImage (save cfg room s)) s′ .state) H
