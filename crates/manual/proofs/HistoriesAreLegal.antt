@@ -24,7 +24,7 @@ use Rattle.manual.proofs.AnswersLaws.{none-applies, accepted}
 use Rattle.manual.proofs.OneEventLaws.{those-running, acts-happens, acts-stops, acts-clears, acts-applied}
 use Rattle.manual.proofs.SequencesLaws.{Histories, given, KeptWhenAccepted, call-keeps}
 use Rattle.manual.proofs.RestoreAfterSave.{restore-after-save}
-use Rattle.manual.proofs.WellFormedInEverySequence.{config-accepted, four-cycles}
+use Rattle.manual.proofs.WellFormedInEverySequence.{four-cycles}
 
 -- the history is legal, and r says whether its run goes on
 pub record Lawful (l : History) (r : Bool) : Type 0 where
@@ -137,7 +137,7 @@ module _ (cfg : Configuration) where
   orderly (begun s z) = orderly-begun s z
   orderly (called {s} {H} r c g) = call-keeps cfg Orderly s H (orderly r) (orderly-accepted s H (orderly r)) c g
   orderly (restored {s} {H} r room z s′ fits) =
-      subst (λ (o : Outcome). Orderly (o .state) H) (sym (restore-after-save cfg (config-accepted cfg r) s s′ (four-cycles cfg r) fits room z)) (orderly r)
+      subst (λ (o : Outcome). Orderly (o .state) H) (sym (restore-after-save cfg s s′ (four-cycles cfg r) fits room z)) (orderly r)
 
   module _ {s : State} {H : Histories} (reached : Reached cfg s H) (e : ℕ) (below : e < events cfg) where
     pub history-is-legal : T (legal (H e))

@@ -28,16 +28,22 @@ module _ (cfg : Configuration) where
       let none = none-applies _ (accepted _ room s _ z .0) refl in
       record { formed = not-false (wellFormed cfg s) (none 1); four = four; stopped = none 2 }
 
+  -- and of the configuration
+  saved-configured : (room : List ℕ) (s : State) → save cfg room s .answer ≡ 0 → configOk cfg ≡ true
+  unfolding save saveRules
+  saved-configured room s z = not-false (configOk cfg) (none-applies _ (accepted _ room s _ z .0) refl 0)
+
   -- save wrote the image
   pub written-image : (room : List ℕ) (s : State) → save cfg room s .answer ≡ 0 → savedImage (save cfg room s) ≡ imageOf cfg s
   unfolding save
   written-image room s z = ap savedImage (accepted _ room s _ z .1) ∙ take-at (imageOf cfg s) _ (length (imageOf cfg s)) refl
 
-  pub restore-after-save : configOk cfg ≡ true → (s s′ : State) → length (s .board .running) ≡ 4 → lengthsFit cfg s′ ≡ true → (room : List ℕ) → save cfg room s .answer ≡ 0
-      → restore cfg (savedImage (save cfg room s)) s′ ≡ done s
+  pub restore-after-save : (s s′ : State) → length (s .board .running) ≡ 4 → lengthsFit cfg s′ ≡ true → (room : List ℕ)
+      → save cfg room s .answer ≡ 0 → restore cfg (savedImage (save cfg room s)) s′ ≡ done s
   unfolding restore restoreRules
-  restore-after-save c s s′ four fits room z =
+  restore-after-save s s′ four fits room z =
       let still = saved-still room s four z in
       ap (λ (l : List ℕ). restore cfg l s′) (written-image room s z)
-      ∙ goes-through _ [] s′ (done (stateOf cfg (imageOf cfg s))) (three-pass (configOk cfg) (lengthsFit cfg s′) (acceptable cfg (imageOf cfg s)) c fits (own-image-acceptable cfg s still))
+      ∙ goes-through _ [] s′ (done (stateOf cfg (imageOf cfg s)))
+      (three-pass (configOk cfg) (lengthsFit cfg s′) (acceptable cfg (imageOf cfg s)) (saved-configured room s z) fits (own-image-acceptable cfg s still))
       ∙ ap done (state-of-own-image cfg s still)

@@ -98,7 +98,7 @@ module _ (cfg : Configuration) where
   whole-restored : (s : State) (H : Histories) (room : List ℕ) → save cfg room s .answer ≡ 0 → (s′ : State) → lengthsFit cfg s′ ≡ true → Whole s H
       → Whole (restore cfg (savedImage (save cfg room s)) s′ .state) H
   whole-restored s H room z s′ fits w =
-      subst (λ (o : Outcome). Whole (o .state) H) (sym (restore-after-save cfg (w .config) s s′ (w .four) fits room z)) w
+      subst (λ (o : Outcome). Whole (o .state) H) (sym (restore-after-save cfg s s′ (w .four) fits room z)) w
 
   whole : {s : State} {H : Histories} → Reached cfg s H → Whole s H
   whole (begun s z) = whole-begun s z
