@@ -1,5 +1,5 @@
 -- In every state that calls lead to, each event's history is legal: results and stops lie in a run of its cycle, starts between runs;
--- and the run goes on exactly where the board says that the cycle runs.
+-- and the run goes on exactly where the board, which always has four cycles, says that the cycle runs.
 use mathlib.Core.Path.{_≡_, refl, sym, ap, subst, _∙_}
 use mathlib.Core.Bool.{Bool, true, false, not, _&&_}
 use mathlib.Core.List.{List, [], _∷_, _++_}
@@ -24,7 +24,6 @@ use Rattle.manual.proofs.AnswersLaws.{none-applies, accepted}
 use Rattle.manual.proofs.OneEventLaws.{those-running, acts-happens, acts-stops, acts-clears, acts-applied}
 use Rattle.manual.proofs.SequencesLaws.{Histories, given, KeptWhenAccepted, call-keeps}
 use Rattle.manual.proofs.RestoreAfterSave.{restore-after-save}
-use Rattle.manual.proofs.WellFormedInEverySequence.{four-cycles}
 
 -- the history is legal, and r says whether its run goes on
 pub record Lawful (l : History) (r : Bool) : Type 0 where
@@ -137,7 +136,11 @@ module _ (cfg : Configuration) where
   orderly (begun s z) = orderly-begun s z
   orderly (called {s} {H} r c g) = call-keeps cfg Orderly s H (orderly r) (orderly-accepted s H (orderly r)) c g
   orderly (restored {s} {H} r room z s′ fits) =
-      subst (λ (o : Outcome). Orderly (o .state) H) (sym (restore-after-save cfg s s′ (four-cycles cfg r) fits room z)) (orderly r)
+      subst (λ (o : Outcome). Orderly (o .state) H) (sym (restore-after-save cfg s s′ (orderly r .four) fits room z)) (orderly r)
+
+  -- "which of the four cycles run"
+  pub four-cycles : {s : State} {H : Histories} → Reached cfg s H → length (s .board .running) ≡ 4
+  four-cycles r = orderly r .four
 
   module _ {s : State} {H : Histories} (reached : Reached cfg s H) (e : ℕ) (below : e < events cfg) where
     pub history-is-legal : T (legal (H e))

@@ -20,8 +20,8 @@ pub mod FreshLaws
 pub mod RecordsFollowHistories
 pub mod StaysWellFormed
 pub mod Service14IsClear
-pub mod WellFormedInEverySequence
 pub mod HistoriesAreLegal
+pub mod WellFormedInEverySequence
 pub mod ByteIsReadingInEverySequence
 pub mod NoCallLeftOut
 pub mod ExamplesAreASequence

@@ -1,32 +1,30 @@
 -- In every state that calls lead to, with restores of images saved on the way: the configuration is accepted and the state well
--- formed, so no call is refused with 2 or 3; memory lists no event twice; the board has four cycles; and the stored record of each event
--- is the record that its history makes.
+-- formed, so no call is refused with 2 or 3; memory lists no event twice; and the stored record of each event is the record that its
+-- history makes.
 use mathlib.Core.Path.{_≡_, refl, sym, ap, subst, _∙_}
 use mathlib.Core.Logic.{_≢_}
 use mathlib.Core.Bool.{Bool, true, not}
 use mathlib.Core.List.{List, [], _∷_, _++_}
 use Prim.Native.Nat.{ℕ, _<_}
 use native.Mathlib.Omega.{arith}
-use lib.ListN.{length, length-set}
 use borrow.Author.Tests.{not-false}
 use Rattle.history.specs.History.{recordAfter}
 use Rattle.manual.specs.Configuration.{Configuration, events, limitsOf, configOk}
 use Rattle.manual.specs.State.{State, stored, storedAt}
 use Rattle.manual.specs.Answers.{Outcome, Rule, _if_, firstThatApplies}
 use Rattle.manual.specs.Memory.{noTwice}
-use Rattle.manual.specs.WellFormed.{lengthsFit, entries, wellFormed}
-use Rattle.manual.specs.Calls.{freshRules, fresh, freshState, reportRules, tickRules, startRules, stopRules, clearRules, readStatusRules, readFrameRules, cleared}
-use Rattle.manual.specs.Image.{save, restore, saveRules, restoreRules}
+use Rattle.manual.specs.WellFormed.{entries, wellFormed}
+use Rattle.manual.specs.Calls.{freshRules, fresh, freshState, reportRules, tickRules, startRules, stopRules, clearRules, readStatusRules, readFrameRules}
+use Rattle.manual.specs.Image.{saveRules, restoreRules}
 use Rattle.manual.specs.Diagnostics.{requestRules}
-use Rattle.manual.specs.Debouncing.{reported, ticked}
-use Rattle.manual.specs.Sequences.{rulesOf, Call, Fresh, Report, Tick, Start, Stop, Clear, ReadStatus, ReadFrame, Save, Restore, Request, outcome, savedImage, tokensAt, goesOn, Reached, begun, called, restored}
+use Rattle.manual.specs.Sequences.{rulesOf, Call, Fresh, Report, Tick, Start, Stop, Clear, ReadStatus, ReadFrame, Save, Restore, Request, outcome, tokensAt, goesOn, Reached, begun, called, restored}
 use Rattle.manual.proofs.AnswersLaws.{none-applies, accepted, lacks, never-given}
 use Rattle.manual.proofs.WellFormedLaws.{state-tells, well-formed-lengths}
-use Rattle.manual.proofs.OneEventLaws.{those-running, acts-happens, acts-stops, acts-clears, acts-applied}
-use Rattle.manual.proofs.SequencesLaws.{Histories, KeptWhenAccepted, call-keeps}
+use Rattle.manual.proofs.SequencesLaws.{Histories}
 use Rattle.manual.proofs.RecordsFollowHistories.{Follows, call-follows, fresh-follows}
 use Rattle.manual.proofs.RestoreAfterSave.{restore-after-save}
 use Rattle.manual.proofs.StaysWellFormed.{stays-well-formed, fresh-makes-well-formed}
+use Rattle.manual.proofs.HistoriesAreLegal.{four-cycles}
 use Rattle.manual.proofs.AnswerIsFirstThatApplies.{answer-is}
 
 -- ---- where the configuration and the state are in order, 2 and 3 are not given
@@ -53,25 +51,10 @@ module _ (cfg : Configuration) where
   not-2-or-3 (Restore image) s k w = past-both _ _ _ k (well-formed-lengths cfg s w) refl refl
   not-2-or-3 (Request bytes room) s k w = past-both _ _ _ k w refl refl
 
-  -- no call changes how many cycles the board has
-  abbrev cycles : State → ℕ
-  cycles s = length (s .board .running)
-
-  cycles-kept : (s : State) (n : ℕ) → cycles s ≡ n → KeptWhenAccepted cfg (λ t H. cycles t ≡ n) s (λ e. [])
-  unfolding cleared
-  cycles-kept s n e = record {
-    report = λ k code frame z. ap length (acts-applied cfg frame (λ e d. reported cfg e code d) .running k s) ∙ e;
-    tick = λ ms frame z. ap length (those-running (acts-applied cfg frame (λ e d. ticked cfg e ms d)) _ s) ∙ e;
-    start = λ c z. simp length-set (ap length (those-running (acts-happens cfg _) _ s) ∙ e);
-    stop = λ c z. simp length-set (ap length (those-running (acts-stops cfg) _ s) ∙ e);
-    clear = λ code z. ap length (those-running (acts-clears cfg) _ s) ∙ e;
-  }
-
   -- what holds of every state that calls lead to
   record Whole (s : State) (H : Histories) : Type 0 where
     config : configOk cfg ≡ true
     formed : wellFormed cfg s ≡ true
-    four : cycles s ≡ 4
     follows : Follows cfg s H
 
   whole-begun : (s : State) → fresh cfg s .answer ≡ 0 → Whole (fresh cfg s .state) (λ e. [])
@@ -83,7 +66,6 @@ module _ (cfg : Configuration) where
       record {
         config = config;
         formed = fresh-makes-well-formed cfg config s z;
-        four = ap cycles is;
         follows = subst (λ (t : State). Follows cfg t (λ e. [])) (sym is) (fresh-follows cfg);
       }
 
@@ -91,19 +73,14 @@ module _ (cfg : Configuration) where
   whole-called s H c g w = record {
     config = w .config;
     formed = stays-well-formed cfg (w .config) c s (w .formed);
-    four = call-keeps cfg (λ t H. cycles t ≡ 4) s (λ e. []) (w .four) (cycles-kept s 4 (w .four)) c g;
     follows = call-follows cfg c s H g (w .follows);
   }
-
-  whole-restored : (s : State) (H : Histories) (room : List ℕ) → save cfg room s .answer ≡ 0 → (s′ : State) → lengthsFit cfg s′ ≡ true → Whole s H
-      → Whole (restore cfg (savedImage (save cfg room s)) s′ .state) H
-  whole-restored s H room z s′ fits w =
-      subst (λ (o : Outcome). Whole (o .state) H) (sym (restore-after-save cfg s s′ (w .four) fits room z)) w
 
   whole : {s : State} {H : Histories} → Reached cfg s H → Whole s H
   whole (begun s z) = whole-begun s z
   whole (called {s} {H} r c g) = whole-called s H c g (whole r)
-  whole (restored {s} {H} r room z s′ fits) = whole-restored s H room z s′ fits (whole r)
+  whole (restored {s} {H} r room z s′ fits) =
+      subst (λ (o : Outcome). Whole (o .state) H) (sym (restore-after-save cfg s s′ (four-cycles cfg r) fits room z)) (whole r)
 
   module _ {s : State} {H : Histories} (reached : Reached cfg s H) where
     pub config-accepted : configOk cfg ≡ true
@@ -111,9 +88,6 @@ module _ (cfg : Configuration) where
 
     pub well-formed : wellFormed cfg s ≡ true
     well-formed = whole reached .formed
-
-    pub four-cycles : length (s .board .running) ≡ 4
-    four-cycles = whole reached .four
 
     -- "Memory never lists an event twice"
     pub no-event-twice : noTwice (entries cfg s) ≡ true
