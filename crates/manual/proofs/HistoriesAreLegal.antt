@@ -21,7 +21,7 @@ use Rattle.manual.specs.Debouncing.{reported, ticked}
 use Rattle.manual.specs.Calls.{freshState, fresh, cycleRuns, reportRules, timeRuns, ofCycle, startRules, stopRules, covers, cleared}
 use Rattle.manual.specs.Sequences.{result, onlyIf, Report, Tick, Reached, begun, called, restored}
 use Rattle.manual.proofs.AnswersLaws.{none-applies, accepted}
-use Rattle.manual.proofs.OneEventLaws.{those-running, acts-happens, acts-stops, acts-clears, acts-applied}
+use Rattle.manual.proofs.OneEventLaws.{those-running, acts-happens, acts-stops, acts-clears, applied-running, ticks-running}
 use Rattle.manual.proofs.SequencesLaws.{Histories, given, KeptWhenAccepted, call-keeps}
 use Rattle.manual.proofs.RestoreAfterSave.{restore-after-save}
 

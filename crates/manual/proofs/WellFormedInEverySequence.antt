@@ -65,14 +65,14 @@ module _ (cfg : Configuration) where
       let is : fresh cfg s .state ≡ freshState cfg = ap (λ (o : Outcome). o .state) (a .1) in
       record {
         config = config;
-        formed = fresh-makes-well-formed cfg config s z;
+        formed = fresh-makes-well-formed cfg s z;
         follows = subst (λ (t : State). Follows cfg t (λ e. [])) (sym is) (fresh-follows cfg);
       }
 
   whole-called : (s : State) (H : Histories) (c : Call) → goesOn cfg c s ≡ true → Whole s H → Whole (outcome cfg c s .state) (λ e. tokensAt cfg c s e ++ H e)
   whole-called s H c g w = record {
     config = w .config;
-    formed = stays-well-formed cfg (w .config) c s (w .formed);
+    formed = stays-well-formed cfg c s (w .formed);
     follows = call-follows cfg c s H g (w .follows);
   }
 
