@@ -1,5 +1,4 @@
--- Document 01's examples E1 to E10 and the history of docs/HISTORY.md: the bytes that the rules make and the bytes that are read
--- are the ones written down.
+-- The history of docs/HISTORY.md: the bytes that the rules make and the bytes that are read are the ones written down.
 use mathlib.Core.Path.{_≡_, refl}
 use mathlib.Core.Bool.{Bool, true, _&&_}
 use mathlib.Core.List.{List, [], _∷_}
@@ -8,23 +7,19 @@ use lib.Dec.{eqb}
 use Rattle.history.specs.StatusByte.{byteOf, Limits}
 use Rattle.history.specs.History.{Token, passed, failed, start, stop, clear, History, recordAfter, moments, sinceL, sinceW, failureFree, clean, sinceCleanStop, confirming, confirmingWith, standing, reading}
 
--- what happens, the oldest first, and the byte after it
+-- what happens, and the byte after it
 record Row : Type 0 where
-  happens : List Token
+  happens : Token
   byte : ℕ
 
-abbrev _gives_ : List Token → ℕ → Row
+abbrev _gives_ : Token → ℕ → Row
 happens gives byte = record { happens = happens; byte = byte }
 
 infix 20 _gives_
-abbrev later : List Token → History → History
-later [] l = l
-later (t ∷ ts) l = later ts (t ∷ l)
-
--- every row's byte is the one that f gives the history up to it
+-- rows, the oldest first, after this history: each one's byte is the one that f gives the history up to it
 abbrev agrees : (History → ℕ) → History → List Row → Bool
 agrees f l [] = true
-agrees f l (r ∷ rs) = eqb (f (later (r .happens) l)) (r .byte) && agrees f (later (r .happens) l) rs
+agrees f l (r ∷ rs) = eqb (f (r .happens ∷ l)) (r .byte) && agrees f (r .happens ∷ l) rs
 
 -- "C 2, H 1, A 3, indicator 1"
 abbrev marked : Limits
@@ -36,52 +31,33 @@ byRules l = byteOf (recordAfter marked l .status)
 abbrev byReading : History → ℕ
 byReading l = byteOf (reading marked l)
 
--- E1 to E10, of which E2 gives no qualified result
-abbrev examples : List Row
-examples =
-    ((start ∷ []) gives 0x50)
-    ∷ ((failed ∷ []) gives 0x27)
-    ∷ ((stop ∷ []) gives 0x27)
-    ∷ ((start ∷ []) gives 0x65)
-    ∷ ((failed ∷ []) gives 0xAF)
-    ∷ ((passed ∷ []) gives 0xAE)
-    ∷ ((stop ∷ start ∷ []) gives 0xEC)
-    ∷ ((passed ∷ stop ∷ []) gives 0x28)
-    ∷ ((start ∷ stop ∷ start ∷ stop ∷ []) gives 0x60)
-    ∷ []
-
 -- docs/HISTORY.md, row by row
 abbrev worked : List Row
 worked =
-    ((start ∷ []) gives 0x50)
-    ∷ ((passed ∷ []) gives 0x00)
-    ∷ ((failed ∷ []) gives 0x27)
-    ∷ ((stop ∷ []) gives 0x27)
-    ∷ ((start ∷ []) gives 0x65)
-    ∷ ((stop ∷ []) gives 0x65)
-    ∷ ((start ∷ []) gives 0x65)
-    ∷ ((failed ∷ []) gives 0xAF)
-    ∷ ((passed ∷ []) gives 0xAE)
-    ∷ ((stop ∷ []) gives 0xAE)
-    ∷ ((start ∷ []) gives 0xEC)
-    ∷ ((passed ∷ []) gives 0xAC)
-    ∷ ((stop ∷ []) gives 0x28)
-    ∷ ((start ∷ []) gives 0x68)
-    ∷ ((stop ∷ []) gives 0x68)
-    ∷ ((start ∷ []) gives 0x68)
-    ∷ ((stop ∷ []) gives 0x60)
-    ∷ ((clear ∷ []) gives 0x50)
+    (start gives 0x50)
+    ∷ (passed gives 0x00)
+    ∷ (failed gives 0x27)
+    ∷ (stop gives 0x27)
+    ∷ (start gives 0x65)
+    ∷ (stop gives 0x65)
+    ∷ (start gives 0x65)
+    ∷ (failed gives 0xAF)
+    ∷ (passed gives 0xAE)
+    ∷ (stop gives 0xAE)
+    ∷ (start gives 0xEC)
+    ∷ (passed gives 0xAC)
+    ∷ (stop gives 0x28)
+    ∷ (start gives 0x68)
+    ∷ (stop gives 0x68)
+    ∷ (start gives 0x68)
+    ∷ (stop gives 0x60)
+    ∷ (clear gives 0x50)
     ∷ []
 
-the-rules-make-them : agrees byRules [] examples && agrees byRules [] worked ≡ true
+the-rules-make-them : agrees byRules [] worked ≡ true
 unfolding recordAfter
 the-rules-make-them = refl
 
-the-reading-has-them : agrees byReading [] examples && agrees byReading [] worked ≡ true
+the-reading-has-them : agrees byReading [] worked ≡ true
 unfolding moments sinceL sinceW failureFree clean sinceCleanStop confirming confirmingWith standing reading
 the-reading-has-them = refl
-
--- E9: "28h, g 1"
-g-of-E9 : recordAfter marked (later (start ∷ failed ∷ stop ∷ start ∷ failed ∷ passed ∷ stop ∷ start ∷ passed ∷ stop ∷ []) []) .g ≡ 1
-unfolding recordAfter
-g-of-E9 = refl
