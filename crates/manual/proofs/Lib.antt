@@ -20,6 +20,9 @@ pub mod FreshLaws
 pub mod RecordsFollowHistories
 pub mod StaysWellFormed
 pub mod Service14IsClear
+pub mod RepliesLaws
+pub mod RepliesFollowTheSentences
+pub mod ByteIsReadingInEverySequence
 pub mod HistoriesAreLegal
 pub mod WellFormedInEverySequence
 pub mod ByteIsReadingInEverySequence

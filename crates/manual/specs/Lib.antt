@@ -9,6 +9,7 @@ pub mod Memory
 pub mod Displacement
 pub mod Calls
 pub mod Diagnostics
+pub mod Replies
 pub mod Image
 pub mod Sequences
 pub mod EntriesInACall

@@ -1,0 +1,124 @@
+-- Document 01, "Diagnostic requests", a case for each sentence: what an accepted request is sent, and what it leaves.
+-- The definitions of Diagnostics.antt compute; this is the same as a relation, to be laid beside the document. Assumes
+-- nothing.
+use mathlib.Core.Path.{_≡_}
+use mathlib.Core.Logic.{_≢_}
+use mathlib.Core.Bool.{Bool, true, false, not}
+use mathlib.Core.List.{List, [], _∷_, _++_, flatMap}
+use Prim.Native.Nat.{ℕ, zero, suc, _%_, _≤_, _<_}
+use lib.ListN.{length, getD, drop}
+use lib.Dec.{eqb}
+use lib.Bits.{bitAnd}
+use Rattle.manual.specs.declared.Verdict.the-variants.{None}
+use Rattle.manual.specs.Words.{those, two, three, threeAt}
+use Rattle.manual.specs.Configuration.{Configuration, events, codeOf}
+use Rattle.manual.specs.State.{State, statusByte}
+use Rattle.manual.specs.Answers.{Outcome}
+use Rattle.manual.specs.Calls.{unknownCode, cleared}
+
+-- the numbers below n, "rising"
+unfoldable pub rising : ℕ → List ℕ
+rising zero = []
+rising (suc n) = rising n ++ (n ∷ [])
+
+-- "An event matches if status and mask share a set bit."
+abbrev pub sharesBit : ℕ → ℕ → Bool
+sharesBit status mask = not (eqb (bitAnd status mask) 0)
+
+-- what follows the first three bytes of a list of events: four bytes a line
+unfoldable pub fours : List ℕ → List (List ℕ)
+fours [] = []
+fours (a ∷ []) = []
+fours (a ∷ b ∷ []) = []
+fours (a ∷ b ∷ c ∷ []) = []
+fours (a ∷ b ∷ c ∷ d ∷ l) = (a ∷ b ∷ c ∷ d ∷ []) ∷ fours l
+
+-- the status of a line, "trouble code (3 bytes high first) and status"
+abbrev pub statusIn : List ℕ → ℕ
+statusIn line = getD line 3 0
+
+-- a request, the room for its reply, and the state that it finds
+module _ (cfg : Configuration) (request room : List ℕ) (s : State) where
+  abbrev pub service : ℕ
+  service = getD request 0 0
+
+  abbrev pub secondByte : ℕ
+  secondByte = getD request 1 0
+
+  -- "The second byte less its top bit is the sub-function"
+  abbrev pub number : ℕ
+  number = secondByte % 128
+
+  abbrev pub mask : ℕ
+  mask = getD request 2 0
+
+  -- service 14: "the three bytes are a trouble code"
+  abbrev pub code : ℕ
+  code = threeAt 1 request
+
+  abbrev pub matching : List ℕ
+  matching = those (λ e. sharesBit (statusByte s e) mask) (rising (events cfg))
+
+  -- "trouble code (3 bytes high first) and status"
+  abbrev pub lineOf : ℕ → List ℕ
+  lineOf e = three (codeOf cfg e) ++ (statusByte s e ∷ [])
+
+  -- a sub-function: "Length must be 3, 3, 2", and its positive reply
+  pub data Asks : ℕ → List ℕ → Type 0 where
+    -- "01 mask: `59 01 FF 01` and the number of matching events, 2 bytes high first."
+    number-by-mask : number ≡ 0x01 → Asks 3 (0x59 ∷ 0x01 ∷ 0xFF ∷ 0x01 ∷ two (length matching))
+    -- "02 mask: `59 02 FF`, then per matching event trouble code (3 bytes high first) and status, rising."
+    list-by-mask : number ≡ 0x02 → Asks 3 (0x59 ∷ 0x02 ∷ 0xFF ∷ flatMap lineOf matching)
+    -- "0A: `59 0A FF`, then all events likewise."
+    list-all : number ≡ 0x0A → Asks 2 (0x59 ∷ 0x0A ∷ 0xFF ∷ flatMap lineOf (rising (events cfg)))
+
+  -- a request of service 19 that names a sub-function
+  pub record Names (size : ℕ) (bytes : List ℕ) : Type 0 where
+    pub service-19 : service ≡ 0x19
+    pub more : length request ≢ 1
+    pub asks : Asks size bytes
+
+  -- and has the length that it must have: this is its positive reply
+  abbrev pub Due : List ℕ → Type 0
+  Due bytes = Names (length request) bytes
+
+  -- the negative codes
+  pub data Negative : ℕ → Type 0 where
+    -- "First byte other than 19 or 14: code 11."
+    other-service : service ≢ 0x19 → service ≢ 0x14 → Negative 0x11
+    -- "19: length 1: code 13."
+    alone : service ≡ 0x19 → length request ≡ 1 → Negative 0x13
+    -- "not 01, 02, 0A: code 12."
+    no-sub-function : service ≡ 0x19 → length request ≢ 1 → number ≢ 0x01 → number ≢ 0x02 → number ≢ 0x0A
+        → Negative 0x12
+    -- "Length must be 3, 3, 2: else 13."
+    other-length : (size : ℕ) (bytes : List ℕ) → Names size bytes → length request ≢ size → Negative 0x13
+    -- "Otherwise one longer than the room: code 14."
+    too-long : (bytes : List ℕ) → Due bytes → secondByte < 128 → length room < length bytes → Negative 0x14
+    -- "14: length must be 4 (else 13)"
+    not-four : service ≡ 0x14 → length request ≢ 4 → Negative 0x13
+    -- "unknown: code 31"
+    unknown : service ≡ 0x14 → length request ≡ 4 → unknownCode cfg code ≡ true → Negative 0x31
+
+  -- the outcome of a request that is sent these bytes and leaves this state: "Bytes past the reply stay.", "the answer
+  -- is 0"
+  abbrev pub sends : List ℕ → State → Outcome
+  sends bytes after = record {
+    answer = 0;
+    verdict = None;
+    value = length bytes;
+    part = [];
+    room = bytes ++ drop (length bytes) room;
+    state = after;
+  }
+
+  pub data Replies : Outcome → Type 0 where
+    -- "Negative reply: 7F, request's first byte, code; state stays"
+    negative : (k : ℕ) → Negative k → Replies (sends (0x7F ∷ service ∷ k ∷ []) s)
+    -- "With the top bit set a positive reply has length 0 and the room stays untouched."
+    suppressed : (bytes : List ℕ) → Due bytes → 128 ≤ secondByte → Replies (sends [] s)
+    -- "01 mask: …", "02 mask: …", "0A: …"
+    positive : (bytes : List ℕ) → Due bytes → secondByte < 128 → length bytes ≤ length room → Replies (sends bytes s)
+    -- "else clear and `54`"
+    clears : service ≡ 0x14 → length request ≡ 4 → unknownCode cfg code ≡ false
+        → Replies (sends (0x54 ∷ []) (cleared cfg code s))
