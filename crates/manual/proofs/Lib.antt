@@ -22,6 +22,9 @@ pub mod StaysWellFormed
 pub mod Service14IsClear
 pub mod RepliesLaws
 pub mod RepliesFollowTheSentences
+pub mod NegativeRepliesExactly
+pub mod SuppressedRepliesExactly
+pub mod RepliesFitTheRoom
 pub mod ByteIsReadingInEverySequence
 pub mod HistoriesAreLegal
 pub mod WellFormedInEverySequence

@@ -22,37 +22,37 @@ use Rattle.manual.proofs.RepliesLaws.{those-every, count-is, join-is, a
 
 module _ (cfg : Configuration) (request room : List ℕ) (s : State) where
   abbrev service : ℕ
-  service = Replies.service cfg request room s
+  service = Replies.service cfg request s
 
   abbrev second : ℕ
-  second = Replies.secondByte cfg request room s
+  second = Replies.secondByte cfg request s
 
   abbrev number : ℕ
-  number = Replies.number cfg request room s
+  number = Replies.number cfg request s
 
   abbrev matching : List ℕ
-  matching = Replies.matching cfg request room s
+  matching = Replies.matching cfg request s
 
   abbrev lineOf : ℕ → List ℕ
-  lineOf = Replies.lineOf cfg request room s
+  lineOf = Replies.lineOf cfg request s
 
-  abbrev code : ℕ
-  code = Replies.code cfg request room s
+  abbrev troubleCode : ℕ
+  troubleCode = Replies.troubleCode cfg request s
 
   abbrev Asks : ℕ → List ℕ → Type 0
-  Asks = Replies.Asks cfg request room s
+  Asks = Replies.Asks cfg request s
 
   abbrev Names : ℕ → List ℕ → Type 0
-  Names = Replies.Names cfg request room s
+  Names = Replies.Names cfg request s
 
   abbrev Due : List ℕ → Type 0
-  Due = Replies.Due cfg request room s
+  Due = Replies.Due cfg request s
 
   abbrev Negative : ℕ → Type 0
-  Negative = Replies.Negative cfg request room s
+  Negative = Replies.Negative cfg request s room
 
   abbrev Said : Outcome → Type 0
-  Said = Replies.Replies cfg request room s
+  Said = Replies.Replies cfg request s room
 
   abbrev here : Served
   here = servedBy cfg request (length room) s
@@ -139,7 +139,7 @@ module _ (cfg : Configuration) (request room : List ℕ) (s : State) where
   service14-said is14 =
       by (not (eqb (length request) 4)) SaidOf (λ t. negative 0x13 (not-four is14 (eqb-false _ _ (not-true _ t))))
       (λ f. let four : length request ≡ 4 = eqb-true (length request) 4 (not-false _ f) in
-      by (unknownCode cfg code) SaidOf (λ t. negative 0x31 (unknown is14 four t)) (λ g. clears is14 four g))
+      by (unknownCode cfg troubleCode) SaidOf (λ t. negative 0x31 (unknown is14 four t)) (λ g. clears is14 four g))
 
   served-said : SaidOf (here)
   unfolding servedBy sent
@@ -184,8 +184,8 @@ module _ (cfg : Configuration) (request room : List ℕ) (s : State) where
   negative-served _ (not-four a l) = rw (a, ne-eqb _ _ l)
   negative-served _ (unknown a l u) = rw (a, l, u)
 
-  clears-served : service ≡ 0x14 → length request ≡ 4 → unknownCode cfg code ≡ false
-      → here ≡ served (Reply.positive (0x54 ∷ [])) (cleared cfg code s)
+  clears-served : service ≡ 0x14 → length request ≡ 4 → unknownCode cfg troubleCode ≡ false
+      → here ≡ served (Reply.positive (0x54 ∷ [])) (cleared cfg troubleCode s)
   unfolding servedBy service14
   clears-served a l k = rw (a, l, k)
 

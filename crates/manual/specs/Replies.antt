@@ -5,8 +5,8 @@ use mathlib.Core.Path.{_≡_}
 use mathlib.Core.Logic.{_≢_}
 use mathlib.Core.Bool.{Bool, true, false, not}
 use mathlib.Core.List.{List, [], _∷_, _++_, flatMap}
-use Prim.Native.Nat.{ℕ, zero, suc, _%_, _≤_, _<_}
-use lib.ListN.{length, getD, drop}
+use Prim.Native.Nat.{ℕ, zero, suc, _+_, _*_, _%_, _≤_, _<_}
+use lib.ListN.{length, getD, take, drop}
 use lib.Dec.{eqb}
 use lib.Bits.{bitAnd}
 use Rattle.manual.specs.declared.Verdict.the-variants.{None}
@@ -25,7 +25,11 @@ rising (suc n) = rising n ++ (n ∷ [])
 abbrev pub sharesBit : ℕ → ℕ → Bool
 sharesBit status mask = not (eqb (bitAnd status mask) 0)
 
--- what follows the first three bytes of a list of events: four bytes a line
+-- the bytes of a reply: as many as the call answers
+abbrev pub replyIn : Outcome → List ℕ
+replyIn o = take (o .value) (o .room)
+
+-- a list cut into parts of four
 unfoldable pub fours : List ℕ → List (List ℕ)
 fours [] = []
 fours (a ∷ []) = []
@@ -33,12 +37,23 @@ fours (a ∷ b ∷ []) = []
 fours (a ∷ b ∷ c ∷ []) = []
 fours (a ∷ b ∷ c ∷ d ∷ l) = (a ∷ b ∷ c ∷ d ∷ []) ∷ fours l
 
--- the status of a line, "trouble code (3 bytes high first) and status"
+-- `59 02 FF` or `59 0A FF`, then the lines
+abbrev pub linesIn : Outcome → List (List ℕ)
+linesIn o = fours (drop 3 (replyIn o))
+
+-- "trouble code (3 bytes high first) and status"
+abbrev pub codeIn : List ℕ → ℕ
+codeIn line = threeAt 0 line
+
 abbrev pub statusIn : List ℕ → ℕ
 statusIn line = getD line 3 0
 
--- a request, the room for its reply, and the state that it finds
-module _ (cfg : Configuration) (request room : List ℕ) (s : State) where
+-- "`59 01 FF 01` and the number of matching events, 2 bytes high first"
+abbrev pub numberIn : Outcome → ℕ
+numberIn o = getD (replyIn o) 4 0 * 256 + getD (replyIn o) 5 0
+
+-- a request, and the state that it finds
+module _ (cfg : Configuration) (request : List ℕ) (s : State) where
   abbrev pub service : ℕ
   service = getD request 0 0
 
@@ -53,8 +68,8 @@ module _ (cfg : Configuration) (request room : List ℕ) (s : State) where
   mask = getD request 2 0
 
   -- service 14: "the three bytes are a trouble code"
-  abbrev pub code : ℕ
-  code = threeAt 1 request
+  abbrev pub troubleCode : ℕ
+  troubleCode = threeAt 1 request
 
   abbrev pub matching : List ℕ
   matching = those (λ e. sharesBit (statusByte s e) mask) (rising (events cfg))
@@ -82,43 +97,48 @@ module _ (cfg : Configuration) (request room : List ℕ) (s : State) where
   abbrev pub Due : List ℕ → Type 0
   Due bytes = Names (length request) bytes
 
-  -- the negative codes
-  pub data Negative : ℕ → Type 0 where
-    -- "First byte other than 19 or 14: code 11."
-    other-service : service ≢ 0x19 → service ≢ 0x14 → Negative 0x11
-    -- "19: length 1: code 13."
-    alone : service ≡ 0x19 → length request ≡ 1 → Negative 0x13
-    -- "not 01, 02, 0A: code 12."
-    no-sub-function : service ≡ 0x19 → length request ≢ 1 → number ≢ 0x01 → number ≢ 0x02 → number ≢ 0x0A
-        → Negative 0x12
-    -- "Length must be 3, 3, 2: else 13."
-    other-length : (size : ℕ) (bytes : List ℕ) → Names size bytes → length request ≢ size → Negative 0x13
-    -- "Otherwise one longer than the room: code 14."
-    too-long : (bytes : List ℕ) → Due bytes → secondByte < 128 → length room < length bytes → Negative 0x14
-    -- "14: length must be 4 (else 13)"
-    not-four : service ≡ 0x14 → length request ≢ 4 → Negative 0x13
-    -- "unknown: code 31"
-    unknown : service ≡ 0x14 → length request ≡ 4 → unknownCode cfg code ≡ true → Negative 0x31
+  -- the room for its reply
+  module _ (room : List ℕ) where
+    -- the negative codes
+    pub data Negative : ℕ → Type 0 where
+      -- "First byte other than 19 or 14: code 11."
+      other-service : service ≢ 0x19 → service ≢ 0x14 → Negative 0x11
+      -- "19: length 1: code 13."
+      alone : service ≡ 0x19 → length request ≡ 1 → Negative 0x13
+      -- "not 01, 02, 0A: code 12."
+      no-sub-function : service ≡ 0x19 → length request ≢ 1 → number ≢ 0x01 → number ≢ 0x02 → number ≢ 0x0A
+          → Negative 0x12
+      -- "Length must be 3, 3, 2: else 13."
+      other-length : (size : ℕ) (bytes : List ℕ) → Names size bytes → length request ≢ size → Negative 0x13
+      -- "Otherwise one longer than the room: code 14."
+      too-long : (bytes : List ℕ) → Due bytes → secondByte < 128 → length room < length bytes → Negative 0x14
+      -- "14: length must be 4 (else 13)"
+      not-four : service ≡ 0x14 → length request ≢ 4 → Negative 0x13
+      -- "unknown: code 31"
+      unknown : service ≡ 0x14 → length request ≡ 4 → unknownCode cfg troubleCode ≡ true → Negative 0x31
 
-  -- the outcome of a request that is sent these bytes and leaves this state: "Bytes past the reply stay.", "the answer
-  -- is 0"
-  abbrev pub sends : List ℕ → State → Outcome
-  sends bytes after = record {
-    answer = 0;
-    verdict = None;
-    value = length bytes;
-    part = [];
-    room = bytes ++ drop (length bytes) room;
-    state = after;
-  }
+    -- the outcome of a request that is sent these bytes and leaves this state: "Bytes past the reply stay.", "the
+    -- answer is 0"
+    abbrev pub sends : List ℕ → State → Outcome
+    sends bytes after = record {
+      answer = 0;
+      verdict = None;
+      value = length bytes;
+      part = [];
+      room = bytes ++ drop (length bytes) room;
+      state = after;
+    }
 
-  pub data Replies : Outcome → Type 0 where
     -- "Negative reply: 7F, request's first byte, code; state stays"
-    negative : (k : ℕ) → Negative k → Replies (sends (0x7F ∷ service ∷ k ∷ []) s)
-    -- "With the top bit set a positive reply has length 0 and the room stays untouched."
-    suppressed : (bytes : List ℕ) → Due bytes → 128 ≤ secondByte → Replies (sends [] s)
-    -- "01 mask: …", "02 mask: …", "0A: …"
-    positive : (bytes : List ℕ) → Due bytes → secondByte < 128 → length bytes ≤ length room → Replies (sends bytes s)
-    -- "else clear and `54`"
-    clears : service ≡ 0x14 → length request ≡ 4 → unknownCode cfg code ≡ false
-        → Replies (sends (0x54 ∷ []) (cleared cfg code s))
+    abbrev pub refusedWith : ℕ → Outcome
+    refusedWith code = sends (0x7F ∷ service ∷ code ∷ []) s
+
+    pub data Replies : Outcome → Type 0 where
+      negative : (code : ℕ) → Negative code → Replies (refusedWith code)
+      -- "With the top bit set a positive reply has length 0 and the room stays untouched."
+      suppressed : (bytes : List ℕ) → Due bytes → 128 ≤ secondByte → Replies (sends [] s)
+      -- "01 mask: …", "02 mask: …", "0A: …"
+      positive : (bytes : List ℕ) → Due bytes → secondByte < 128 → length bytes ≤ length room → Replies (sends bytes s)
+      -- "else clear and `54`"
+      clears : service ≡ 0x14 → length request ≡ 4 → unknownCode cfg troubleCode ≡ false
+          → Replies (sends (0x54 ∷ []) (cleared cfg troubleCode s))

@@ -1,0 +1,57 @@
+-- Each negative code is given exactly where a sentence of document 01 gives it, as the three bytes 7F, the request's
+-- first byte and the code; the answer is 0, the state stays, and so does the rest of the room. No other reply begins
+-- with 7F.
+use mathlib.Core.Path.{_≡_, refl, sym, ap, subst, _∙_}
+use mathlib.Core.Logic.{_≢_, _↔_}
+use mathlib.Core.List.{List, _++_}
+use Prim.Native.Nat.{ℕ}
+use native.Mathlib.Omega.{arith}
+use lib.ListN.{getD, drop, length}
+use Rattle.manual.specs.Configuration.{Configuration}
+use Rattle.manual.specs.State.{State}
+use Rattle.manual.specs.Answers.{Outcome}
+use Rattle.manual.specs.Diagnostics.{requestReply}
+use Rattle.manual.specs.Replies.{Asks, Negative, Replies, refusedWith, number-by-mask, list-by-mask, list-all, negative, suppressed, positive, clears}
+use Rattle.manual.proofs.RepliesFollowTheSentences.{reply-said, reply-is}
+
+module _ (cfg : Configuration) (request room : List ℕ) (s : State) where
+  abbrev outcome : Outcome
+  outcome = requestReply cfg request room s
+
+  abbrev Given : ℕ → Type 0
+  Given = Negative cfg request s room
+
+  abbrev negativeReply : ℕ → Outcome
+  negativeReply = refusedWith cfg request s room
+
+  abbrev firstByte : Outcome → ℕ
+  firstByte o = getD (o .room) 0 0
+
+  -- a positive reply of service 19 begins with 59
+  begins-59 : {size : ℕ} {bytes : List ℕ} → Asks cfg request s size bytes
+      → (rest : List ℕ) → getD (bytes ++ rest) 0 0 ≡ 0x59
+  begins-59 (number-by-mask e) rest = refl
+  begins-59 (list-by-mask e) rest = refl
+  begins-59 (list-all e) rest = refl
+
+  begins-7F : (o : Outcome) → Replies cfg request s room o → o .value ≢ 0 → firstByte o ≡ 0x7F
+      → (code : ℕ) × Given code × (o ≡ negativeReply code)
+  begins-7F _ (negative code n) v f = (code, n, refl)
+  begins-7F _ (suppressed bytes n t) v f = absurd (v refl)
+  begins-7F _ (positive bytes n p l) v f =
+      let e : getD (bytes ++ drop (length bytes) room) 0 0 ≡ 0x59 = begins-59 (n .asks) (drop (length bytes) room) in
+      absurd (let z : ⊥ = omega arith in z)
+  begins-7F _ (clears a l k) v f = absurd (let z : ⊥ = omega arith in z)
+
+  module _ (answered : outcome .answer ≡ 0) where
+    pub only-negative-begins-7F : outcome .value ≢ 0 → firstByte outcome ≡ 0x7F
+        → (code : ℕ) × Given code × (outcome ≡ negativeReply code)
+    only-negative-begins-7F = begins-7F outcome (reply-said cfg request room s answered)
+
+    told : (code : ℕ) → outcome ≡ negativeReply code → Given code
+    told code e =
+        let (k, n, is) = only-negative-begins-7F (rw e (λ z. omega arith)) (rw e) in
+        subst Given (ap (λ (o : Outcome). getD (o .room) 2 0) (sym is ∙ e)) n
+
+    pub negative-exactly : (code : ℕ) → (outcome ≡ negativeReply code) ↔ Given code
+    negative-exactly code = (told code, λ n. reply-is cfg request room s answered _ (negative code n))

@@ -1,0 +1,97 @@
+-- No reply is longer than its room, the bytes past it stay, and the room stays as long as it was. A reply other than
+-- code 14 is given the same in every room that holds it, also in one that it fills.
+use mathlib.Core.Path.{_≡_, refl, sym, _∙_}
+use mathlib.Core.Logic.{_≢_}
+use mathlib.Core.List.{List, [], _∷_, _++_}
+use Prim.Native.Nat.{ℕ, _≤_}
+use native.Mathlib.Omega.{arith}
+use lib.ListN.{length, drop, length-append, length-drop}
+use lib.Seq.{take-at, drop-at}
+use Rattle.manual.specs.Configuration.{Configuration}
+use Rattle.manual.specs.State.{State}
+use Rattle.manual.specs.Answers.{Outcome}
+use Rattle.manual.specs.Diagnostics.{requestReply}
+use Rattle.manual.specs.Replies.{replyIn, sends, refusedWith, Negative, Replies, other-service, alone, no-sub-function, other-length, too-long, not-four, unknown, negative, suppressed, positive, clears}
+use Rattle.manual.proofs.RepliesLaws.{accepted-tells}
+use Rattle.manual.proofs.RepliesFollowTheSentences.{reply-said, reply-is}
+
+module _ (cfg : Configuration) (request : List ℕ) (s : State) where
+  abbrev outcome : List ℕ → Outcome
+  outcome room = requestReply cfg request room s
+
+  -- ---- one room
+
+  record Sent (room : List ℕ) (o : Outcome) : Type 0 where
+    bytes : List ℕ
+    after : State
+    is : o ≡ sends cfg request s room bytes after
+    fits : length bytes ≤ length room
+
+  sent-in : (room : List ℕ) → 3 ≤ length room → (o : Outcome) → Replies cfg request s room o → Sent room o
+  sent-in room h _ (negative code n) = record { bytes = 0x7F ∷ _ ∷ code ∷ []; after = s; is = refl; fits = h }
+  sent-in room h _ (suppressed bytes n t) = record { bytes = []; after = s; is = refl; fits = omega arith }
+  sent-in room h _ (positive bytes n p l) = record { bytes = bytes; after = s; is = refl; fits = l }
+  sent-in room h _ (clears a l k) = record { bytes = 0x54 ∷ []; after = _; is = refl; fits = omega arith }
+
+  as-long : (bytes room : List ℕ) → length bytes ≤ length room
+      → length (bytes ++ drop (length bytes) room) ≡ length room
+  as-long bytes room h = simp (length-append, length-drop) (omega arith)
+
+  module _ (room : List ℕ) (answered : outcome room .answer ≡ 0) where
+    sent-here : Sent room (outcome room)
+    sent-here =
+        sent-in room (accepted-tells cfg request room s answered .room-least) _ (reply-said cfg request room s answered)
+
+    pub never-longer : outcome room .value ≤ length room
+    never-longer = let h = sent-here in rw (h .is) (h .fits)
+
+    -- "Bytes past the reply stay."
+    pub rest-stays : drop (outcome room .value) (outcome room .room) ≡ drop (outcome room .value) room
+    rest-stays = let h = sent-here in rw (h .is) (drop-at (h .bytes) _ _ refl)
+
+    pub room-as-long : length (outcome room .room) ≡ length room
+    room-as-long = let h = sent-here in rw (h .is) (as-long (h .bytes) room (h .fits))
+
+  -- ---- two rooms
+
+  module _ (room room′ : List ℕ) (fits : ¬ Negative cfg request s room 0x14) where
+    -- a negative code other than 14 has nothing to do with the room
+    negative-again : (code : ℕ) → Negative cfg request s room code → Negative cfg request s room′ code
+    negative-again _ (other-service a b) = other-service a b
+    negative-again _ (alone a l) = alone a l
+    negative-again _ (no-sub-function a m p q r) = no-sub-function a m p q r
+    negative-again _ (other-length size bytes n l) = other-length size bytes n l
+    negative-again _ (too-long bytes n p l) = absurd (fits (too-long bytes n p l))
+    negative-again _ (not-four a l) = not-four a l
+    negative-again _ (unknown a l u) = unknown a l u
+
+    record Again (o : Outcome) : Type 0 where
+      bytes : List ℕ
+      after : State
+      is : o ≡ sends cfg request s room bytes after
+      too : Replies cfg request s room′ (sends cfg request s room′ bytes after)
+
+    again : (o : Outcome) → Replies cfg request s room o → o .value ≤ length room′ → Again o
+    again _ (negative code n) h =
+        record { bytes = 0x7F ∷ _ ∷ code ∷ []; after = s; is = refl; too = negative code (negative-again code n) }
+    again _ (suppressed bytes n t) h = record { bytes = []; after = s; is = refl; too = suppressed bytes n t }
+    again _ (positive bytes n p l) h = record { bytes = bytes; after = s; is = refl; too = positive bytes n p h }
+    again _ (clears a l k) h = record { bytes = 0x54 ∷ []; after = _; is = refl; too = clears a l k }
+
+  -- the same reply, and the same state after it
+  pub record SameReply (o o′ : Outcome) : Type 0 where
+    pub value : o′ .value ≡ o .value
+    pub bytes : replyIn o′ ≡ replyIn o
+    pub state : o′ .state ≡ o .state
+
+  module _ (room room′ : List ℕ) (answered : outcome room .answer ≡ 0) (answered′ : outcome room′ .answer ≡ 0) where
+    pub same-in-any-room : outcome room ≢ refusedWith cfg request s room 0x14 → outcome room .value ≤ length room′
+        → SameReply (outcome room) (outcome room′)
+    same-in-any-room n h =
+        let fits : ¬ Negative cfg request s room 0x14 = λ k. n (reply-is cfg request room s answered _ (negative 0x14 k)) in
+        let a = again room room′ fits _ (reply-said cfg request room s answered) h in
+        rw (a .is, reply-is cfg request room′ s answered′ _ (a .too)) (record {
+          value = refl;
+          bytes = take-at (a .bytes) _ _ refl ∙ sym (take-at (a .bytes) _ _ refl);
+          state = refl;
+        })
