@@ -25,6 +25,10 @@ pub mod RepliesFollowTheSentences
 pub mod NegativeRepliesExactly
 pub mod SuppressedRepliesExactly
 pub mod RepliesFitTheRoom
+pub mod RequestsAcceptedExactly
+pub mod ListedRepliesLaws
+pub mod RepliesAgree
+pub mod MatchingIsASharedBit
 pub mod ByteIsReadingInEverySequence
 pub mod HistoriesAreLegal
 pub mod WellFormedInEverySequence

@@ -37,7 +37,7 @@ module _ (cfg : Configuration) (request room : List ℕ) (s : State) where
   begins-7F : (o : Outcome) → Replies cfg request s room o → o .value ≢ 0 → firstByte o ≡ 0x7F
       → (code : ℕ) × Given code × (o ≡ negativeReply code)
   begins-7F _ (negative code n) v f = (code, n, refl)
-  begins-7F _ (suppressed bytes n t) v f = absurd (v refl)
+  begins-7F _ (suppressed q) v f = absurd (v refl)
   begins-7F _ (positive bytes n p l) v f =
       let e : getD (bytes ++ drop (length bytes) room) 0 0 ≡ 0x59 = begins-59 (n .asks) (drop (length bytes) room) in
       absurd (let z : ⊥ = omega arith in z)

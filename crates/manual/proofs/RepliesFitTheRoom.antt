@@ -11,7 +11,7 @@ use Rattle.manual.specs.Configuration.{Configuration}
 use Rattle.manual.specs.State.{State}
 use Rattle.manual.specs.Answers.{Outcome}
 use Rattle.manual.specs.Diagnostics.{requestReply}
-use Rattle.manual.specs.Replies.{replyIn, sends, refusedWith, Negative, Replies, other-service, alone, no-sub-function, other-length, too-long, not-four, unknown, negative, suppressed, positive, clears}
+use Rattle.manual.specs.Replies.{SameReply, sends, refusedWith, Negative, Replies, other-service, alone, no-sub-function, other-length, too-long, not-four, unknown, negative, suppressed, positive, clears}
 use Rattle.manual.proofs.RepliesLaws.{accepted-tells}
 use Rattle.manual.proofs.RepliesFollowTheSentences.{reply-said, reply-is}
 
@@ -29,7 +29,7 @@ module _ (cfg : Configuration) (request : List ℕ) (s : State) where
 
   sent-in : (room : List ℕ) → 3 ≤ length room → (o : Outcome) → Replies cfg request s room o → Sent room o
   sent-in room h _ (negative code n) = record { bytes = 0x7F ∷ _ ∷ code ∷ []; after = s; is = refl; fits = h }
-  sent-in room h _ (suppressed bytes n t) = record { bytes = []; after = s; is = refl; fits = omega arith }
+  sent-in room h _ (suppressed q) = record { bytes = []; after = s; is = refl; fits = omega arith }
   sent-in room h _ (positive bytes n p l) = record { bytes = bytes; after = s; is = refl; fits = l }
   sent-in room h _ (clears a l k) = record { bytes = 0x54 ∷ []; after = _; is = refl; fits = omega arith }
 
@@ -74,22 +74,18 @@ module _ (cfg : Configuration) (request : List ℕ) (s : State) where
     again : (o : Outcome) → Replies cfg request s room o → o .value ≤ length room′ → Again o
     again _ (negative code n) h =
         record { bytes = 0x7F ∷ _ ∷ code ∷ []; after = s; is = refl; too = negative code (negative-again code n) }
-    again _ (suppressed bytes n t) h = record { bytes = []; after = s; is = refl; too = suppressed bytes n t }
+    again _ (suppressed q) h = record { bytes = []; after = s; is = refl; too = suppressed q }
     again _ (positive bytes n p l) h = record { bytes = bytes; after = s; is = refl; too = positive bytes n p h }
     again _ (clears a l k) h = record { bytes = 0x54 ∷ []; after = _; is = refl; too = clears a l k }
 
-  -- the same reply, and the same state after it
-  pub record SameReply (o o′ : Outcome) : Type 0 where
-    pub value : o′ .value ≡ o .value
-    pub bytes : replyIn o′ ≡ replyIn o
-    pub state : o′ .state ≡ o .state
-
   module _ (room room′ : List ℕ) (answered : outcome room .answer ≡ 0) (answered′ : outcome room′ .answer ≡ 0) where
+    is-14 : Negative cfg request s room 0x14 → outcome room ≡ refusedWith cfg request s room 0x14
+    is-14 k = reply-is cfg request room s answered _ (negative 0x14 k)
+
     pub same-in-any-room : outcome room ≢ refusedWith cfg request s room 0x14 → outcome room .value ≤ length room′
         → SameReply (outcome room) (outcome room′)
     same-in-any-room n h =
-        let fits : ¬ Negative cfg request s room 0x14 = λ k. n (reply-is cfg request room s answered _ (negative 0x14 k)) in
-        let a = again room room′ fits _ (reply-said cfg request room s answered) h in
+        let a = again room room′ (λ k. n (is-14 k)) _ (reply-said cfg request room s answered) h in
         rw (a .is, reply-is cfg request room′ s answered′ _ (a .too)) (record {
           value = refl;
           bytes = take-at (a .bytes) _ _ refl ∙ sym (take-at (a .bytes) _ _ refl);

@@ -89,7 +89,7 @@ module _ (cfg : Configuration) (request room : List ℕ) (s : State) where
   fitted-said : (bytes : List ℕ) → Due bytes → Said19 (fitting bytes)
   unfolding fitted sent
   fitted-said bytes n =
-      by (leb 128 second) Said19 (λ t. suppressed bytes n (leb-true _ _ t)) (λ f.
+      by (leb 128 second) Said19 (λ t. suppressed (bytes, n, leb-true _ _ t)) (λ f.
       by (ltb (length room) (length bytes)) Said19
       (λ t. negative 0x14 (too-long bytes n (leb-false _ _ f) (ltb-true _ _ t)))
       (λ g. positive bytes n (leb-false _ _ f) (ltb-false _ _ g)))
@@ -193,7 +193,7 @@ module _ (cfg : Configuration) (request room : List ℕ) (s : State) where
   said-served : (o : Outcome) → Said o → replied cfg service room (here) ≡ o
   unfolding sent fitted
   said-served _ (negative k n) = rw (negative-served k n)
-  said-served _ (suppressed bytes n t) = rw (due-served n, le-leb _ _ t)
+  said-served _ (suppressed q) = rw (due-served (q .1), le-leb _ _ (q .2))
   said-served _ (positive bytes n p l) = rw (due-served n, lt-leb _ _ p, le-ltb _ _ l)
   said-served _ (clears a l k) = rw (clears-served a l k)
 

@@ -1,20 +1,22 @@
 -- Laws of specs/Replies.antt and of the replies of specs/Diagnostics.antt: the same lists, built by joining and by
 -- leaving out; and what an accepted request tells.
 use mathlib.Core.Path.{_≡_, refl, sym, ap, _∙_}
-use mathlib.Core.Logic.{_≢_}
+use mathlib.Core.Logic.{⊎-elim}
 use mathlib.Core.Bool.{Bool, true, false, cond}
-use mathlib.Core.List.{List, [], _∷_, _++_, flatMap, append-assoc, append-nil}
-use Prim.Native.Nat.{ℕ, zero, suc, _+_, _≤_}
+use mathlib.Core.List.{List, [], _∷_, _++_, map, flatMap, append-assoc, append-nil}
+use Prim.Native.Nat.{ℕ, zero, suc, _+_, _*_, _<_}
+use native.Mathlib.Nat.{eq-or-lt-of-le, le-of-suc-le-suc, not-suc-le-zero}
 use native.Mathlib.Omega.{arith}
-use lib.ListN.{length, getD, length-append}
-use borrow.Author.Tests.{not-false, ltb-false, eqb-false}
+use lib.ListN.{length, getD, length-append, List·getD-append}
+use lib.Seq.{getD-at}
+use borrow.Author.Tests.{not-false, ltb-false, eqb-false, le-ltb, ne-eqb}
 use Rattle.manual.specs.Words.{countBelow, joinBelow, those}
-use Rattle.manual.specs.Configuration.{Configuration, configOk}
+use Rattle.manual.specs.Configuration.{Configuration}
 use Rattle.manual.specs.State.{State}
-use Rattle.manual.specs.WellFormed.{wellFormed}
-use Rattle.manual.specs.Diagnostics.{servedBy, replied, requestRules, requestReply}
-use Rattle.manual.specs.Replies.{rising}
-use Rattle.manual.proofs.AnswersLaws.{none-applies, accepted}
+use Rattle.manual.specs.Answers.{Outcome, firstThatApplies}
+use Rattle.manual.specs.Diagnostics.{servedBy, sent, replied, requestRules, requestReply}
+use Rattle.manual.specs.Replies.{rising, fours, Accepted}
+use Rattle.manual.proofs.AnswersLaws.{none-applies, accepted, goes-through}
 
 -- ---- the events that pass, and their lists
 
@@ -65,16 +67,58 @@ join-is p f (suc n) =
     last true = sym (append-nil (f n))
     last false = refl
 
+-- ---- the numbers below n, and lists cut into fours
+
+pub rising-length : (n : ℕ) → length (rising n) ≡ n
+unfolding rising
+rising-length zero = refl
+rising-length (suc n) = length-append (rising n) (n ∷ []) ∙ (let h = rising-length n in omega arith)
+
+pub rising-at : (n e : ℕ) → e < n → getD (rising n) e 0 ≡ e
+unfolding rising
+rising-at zero e h = absurd (not-suc-le-zero h)
+rising-at (suc n) e h =
+    ⊎-elim last (λ q. earlier q ∙ rising-at n e q) (eq-or-lt-of-le (le-of-suc-le-suc h))
+  where
+    earlier : e < n → getD (rising n ++ (n ∷ [])) e 0 ≡ getD (rising n) e 0
+    earlier q = List·getD-append (rising n) (n ∷ []) 0 e (rw (rising-length n) q)
+
+    last : e ≡ n → getD (rising n ++ (n ∷ [])) e 0 ≡ e
+    last q = getD-at (rising n) n [] 0 e (rising-length n ∙ sym q) ∙ sym q
+
+-- lists of four, one after the other
+module _ (f : ℕ → List ℕ) where
+  pub fours-flat : ((x : ℕ) (l : List ℕ) → fours (f x ++ l) ≡ f x ∷ fours l)
+      → (xs : List ℕ) → fours (flatMap f xs) ≡ map f xs
+  unfolding fours flatMap
+  fours-flat cut [] = refl
+  fours-flat cut (x ∷ xs) = cut x (flatMap f xs) ∙ ap (λ (l : List (List ℕ)). f x ∷ l) (fours-flat cut xs)
+
+  pub flat-length : (k : ℕ) → ((x : ℕ) → length (f x) ≡ k) → (xs : List ℕ) → length (flatMap f xs) ≡ k * length xs
+  unfolding flatMap
+  flat-length k each [] = omega arith
+  flat-length k each (x ∷ xs) =
+      length-append (f x) (flatMap f xs) ∙ (let h = flat-length k each xs in let e = each x in omega arith)
+
+  pub map-at : (xs : List ℕ) (i : ℕ) → i < length xs → getD (map f xs) i [] ≡ f (getD xs i 0)
+  map-at [] i h = absurd (not-suc-le-zero h)
+  map-at (x ∷ xs) zero h = refl
+  map-at (x ∷ xs) (suc i) h = map-at xs i (le-of-suc-le-suc h)
+
+  -- leaving out after or before
+  pub those-map : (p : List ℕ → Bool) (xs : List ℕ) → those p (map f xs) ≡ map f (those (λ x. p (f x)) xs)
+  unfolding those
+  those-map p [] = refl
+  those-map p (x ∷ xs) = go (p (f x)) _ _ (those-map p xs)
+    where
+      go : (b : Bool) (l : List (List ℕ)) (m : List ℕ) → l ≡ map f m → cond b (f x ∷ l) l ≡ map f (cond b (x ∷ m) m)
+      go true l m ih = ap (λ (l : List (List ℕ)). f x ∷ l) ih
+      go false l m ih = ih
+
 -- ---- an accepted request
 
 module _ (cfg : Configuration) (request room : List ℕ) (s : State) where
-  pub record Accepted : Type 0 where
-    pub configuration : configOk cfg ≡ true
-    pub formed : wellFormed cfg s ≡ true
-    pub room-least : 3 ≤ length room
-    pub not-empty : length request ≢ 0
-
-  pub accepted-tells : requestReply cfg request room s .answer ≡ 0 → Accepted
+  pub accepted-tells : requestReply cfg request room s .answer ≡ 0 → Accepted cfg request s room
   unfolding requestReply requestRules
   accepted-tells z =
       let none = none-applies _ (accepted _ room s _ z .0) refl in
@@ -89,3 +133,10 @@ module _ (cfg : Configuration) (request room : List ℕ) (s : State) where
       → requestReply cfg request room s ≡ replied cfg (getD request 0 0) room (servedBy cfg request (length room) s)
   unfolding requestReply
   accepted-is z = accepted _ room s _ z .1
+
+  pub accepted-told : Accepted cfg request s room → requestReply cfg request room s .answer ≡ 0
+  unfolding requestReply requestRules sent firstThatApplies
+  accepted-told a =
+      let none-first : firstThatApplies (requestRules cfg request room s) ≡ 0 =
+      rw (a .configuration, a .formed, le-ltb _ _ (a .room-least), ne-eqb _ _ (a .not-empty)) in
+      ap (λ (o : Outcome). o .answer) (goes-through _ room s _ none-first)

@@ -10,16 +10,12 @@ use Rattle.manual.specs.Configuration.{Configuration}
 use Rattle.manual.specs.State.{State}
 use Rattle.manual.specs.Answers.{Outcome}
 use Rattle.manual.specs.Diagnostics.{requestReply}
-use Rattle.manual.specs.Replies.{secondByte, Asks, Due, sends, Replies, number-by-mask, list-by-mask, list-all, negative, suppressed, positive, clears}
+use Rattle.manual.specs.Replies.{Asks, Suppressed, sends, Replies, number-by-mask, list-by-mask, list-all, negative, suppressed, positive, clears}
 use Rattle.manual.proofs.RepliesFollowTheSentences.{reply-said, reply-is}
 
 module _ (cfg : Configuration) (request room : List ℕ) (s : State) where
   abbrev outcome : Outcome
   outcome = requestReply cfg request room s
-
-  -- "With the top bit set a positive reply"
-  abbrev Suppressed : Type 0
-  Suppressed = (bytes : List ℕ) × Due cfg request s bytes × (128 ≤ secondByte cfg request s)
 
   -- no positive reply is empty
   not-empty : {size : ℕ} {bytes : List ℕ} → Asks cfg request s size bytes → 3 ≤ length bytes
@@ -27,20 +23,20 @@ module _ (cfg : Configuration) (request room : List ℕ) (s : State) where
   not-empty (list-by-mask e) = omega arith
   not-empty (list-all e) = omega arith
 
-  silent-is : (o : Outcome) → Replies cfg request s room o → o .value ≡ 0 → Suppressed
+  silent-is : (o : Outcome) → Replies cfg request s room o → o .value ≡ 0 → Suppressed cfg request s
   silent-is _ (negative code n) z = absurd (let w : ⊥ = omega arith in w)
-  silent-is _ (suppressed bytes n t) z = (bytes, n, t)
+  silent-is _ (suppressed q) z = q
   silent-is _ (positive bytes n p l) z = absurd (let h = not-empty (n .asks) in let w : ⊥ = omega arith in w)
   silent-is _ (clears a l k) z = absurd (let w : ⊥ = omega arith in w)
 
   module _ (answered : outcome .answer ≡ 0) where
-    silent : Suppressed → outcome ≡ sends cfg request s room [] s
-    silent q = reply-is cfg request room s answered _ (suppressed (q .0) (q .1) (q .2))
+    silent : Suppressed cfg request s → outcome ≡ sends cfg request s room [] s
+    silent q = reply-is cfg request room s answered _ (suppressed q)
 
-    told : outcome .value ≡ 0 → Suppressed
+    told : outcome .value ≡ 0 → Suppressed cfg request s
     told = silent-is _ (reply-said cfg request room s answered)
 
-    pub suppressed-exactly : (outcome .value ≡ 0) ↔ Suppressed
+    pub suppressed-exactly : (outcome .value ≡ 0) ↔ Suppressed cfg request s
     suppressed-exactly = (told, λ q. ap (λ (o : Outcome). o .value) (silent q))
 
     pub suppressed-leaves-all : outcome .value ≡ 0 → (outcome .room ≡ room) × (outcome .state ≡ s)

@@ -5,14 +5,15 @@ use mathlib.Core.Path.{_≡_}
 use mathlib.Core.Logic.{_≢_}
 use mathlib.Core.Bool.{Bool, true, false, not}
 use mathlib.Core.List.{List, [], _∷_, _++_, flatMap}
-use Prim.Native.Nat.{ℕ, zero, suc, _+_, _*_, _%_, _≤_, _<_}
+use Prim.Native.Nat.{ℕ, zero, suc, _+_, _*_, _/_, _%_, _≤_, _<_}
 use lib.ListN.{length, getD, take, drop}
 use lib.Dec.{eqb}
 use lib.Bits.{bitAnd}
 use Rattle.manual.specs.declared.Verdict.the-variants.{None}
-use Rattle.manual.specs.Words.{those, two, three, threeAt}
-use Rattle.manual.specs.Configuration.{Configuration, events, codeOf}
+use Rattle.manual.specs.Words.{All, those, two, three, threeAt}
+use Rattle.manual.specs.Configuration.{Configuration, events, codeOf, configOk}
 use Rattle.manual.specs.State.{State, statusByte}
+use Rattle.manual.specs.WellFormed.{wellFormed}
 use Rattle.manual.specs.Answers.{Outcome}
 use Rattle.manual.specs.Calls.{unknownCode, cleared}
 
@@ -21,13 +22,38 @@ unfoldable pub rising : ℕ → List ℕ
 rising zero = []
 rising (suc n) = rising n ++ (n ∷ [])
 
+-- bit i of a number, bit 0 the lowest
+unfoldable pub bitAt : ℕ → ℕ → ℕ
+bitAt zero k = k % 2
+bitAt (suc i) k = bitAt i (k / 2)
+
+-- a bit that is set in both
+abbrev pub SharedBit : ℕ → ℕ → Type 0
+SharedBit a b = (i : ℕ) × (bitAt i a ≡ 1) × (bitAt i b ≡ 1)
+
 -- "An event matches if status and mask share a set bit."
 abbrev pub sharesBit : ℕ → ℕ → Bool
 sharesBit status mask = not (eqb (bitAnd status mask) 0)
 
+-- the requests of service 19, without the top bit
+abbrev pub numberBy : ℕ → List ℕ
+numberBy mask = 0x19 ∷ 0x01 ∷ mask ∷ []
+
+abbrev pub listBy : ℕ → List ℕ
+listBy mask = 0x19 ∷ 0x02 ∷ mask ∷ []
+
+abbrev pub listAll : List ℕ
+listAll = 0x19 ∷ 0x0A ∷ []
+
 -- the bytes of a reply: as many as the call answers
 abbrev pub replyIn : Outcome → List ℕ
 replyIn o = take (o .value) (o .room)
+
+-- two calls give the same reply, and leave the same state
+pub record SameReply (o o′ : Outcome) : Type 0 where
+  pub value : o′ .value ≡ o .value
+  pub bytes : replyIn o′ ≡ replyIn o
+  pub state : o′ .state ≡ o .state
 
 -- a list cut into parts of four
 unfoldable pub fours : List ℕ → List (List ℕ)
@@ -51,6 +77,13 @@ statusIn line = getD line 3 0
 -- "`59 01 FF 01` and the number of matching events, 2 bytes high first"
 abbrev pub numberIn : Outcome → ℕ
 numberIn o = getD (replyIn o) 4 0 * 256 + getD (replyIn o) 5 0
+
+-- a line tells this event: "trouble code (3 bytes high first) and status"
+pub record Tells (cfg : Configuration) (s : State) (e : ℕ) (line : List ℕ) : Type 0 where
+  pub four : length line ≡ 4
+  pub bytes : All (λ b. b < 256) (take 3 line)
+  pub code : codeIn line ≡ codeOf cfg e
+  pub status : statusIn line ≡ statusByte s e
 
 -- a request, and the state that it finds
 module _ (cfg : Configuration) (request : List ℕ) (s : State) where
@@ -97,8 +130,19 @@ module _ (cfg : Configuration) (request : List ℕ) (s : State) where
   abbrev pub Due : List ℕ → Type 0
   Due bytes = Names (length request) bytes
 
+  -- "With the top bit set a positive reply"
+  abbrev pub Suppressed : Type 0
+  Suppressed = (bytes : List ℕ) × Due bytes × (128 ≤ secondByte)
+
   -- the room for its reply
   module _ (room : List ℕ) where
+    -- "Every call begins 2, 3.", "The reply room must hold 3 bytes (else 7).", "1 | empty diagnostic request"
+    pub record Accepted : Type 0 where
+      pub configuration : configOk cfg ≡ true
+      pub formed : wellFormed cfg s ≡ true
+      pub room-least : 3 ≤ length room
+      pub not-empty : length request ≢ 0
+
     -- the negative codes
     pub data Negative : ℕ → Type 0 where
       -- "First byte other than 19 or 14: code 11."
@@ -136,7 +180,7 @@ module _ (cfg : Configuration) (request : List ℕ) (s : State) where
     pub data Replies : Outcome → Type 0 where
       negative : (code : ℕ) → Negative code → Replies (refusedWith code)
       -- "With the top bit set a positive reply has length 0 and the room stays untouched."
-      suppressed : (bytes : List ℕ) → Due bytes → 128 ≤ secondByte → Replies (sends [] s)
+      suppressed : Suppressed → Replies (sends [] s)
       -- "01 mask: …", "02 mask: …", "0A: …"
       positive : (bytes : List ℕ) → Due bytes → secondByte < 128 → length bytes ≤ length room → Replies (sends bytes s)
       -- "else clear and `54`"
