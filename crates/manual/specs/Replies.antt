@@ -17,73 +17,16 @@ use Rattle.manual.specs.WellFormed.{wellFormed}
 use Rattle.manual.specs.Answers.{Outcome}
 use Rattle.manual.specs.Calls.{unknownCode, cleared}
 
+-- ---- the sentences
+
 -- the numbers below n, "rising"
 unfoldable pub rising : ℕ → List ℕ
 rising zero = []
 rising (suc n) = rising n ++ (n ∷ [])
 
--- bit i of a number, bit 0 the lowest
-unfoldable pub bitAt : ℕ → ℕ → ℕ
-bitAt zero k = k % 2
-bitAt (suc i) k = bitAt i (k / 2)
-
--- a bit that is set in both
-abbrev pub SharedBit : ℕ → ℕ → Type 0
-SharedBit a b = (i : ℕ) × (bitAt i a ≡ 1) × (bitAt i b ≡ 1)
-
 -- "An event matches if status and mask share a set bit."
 abbrev pub sharesBit : ℕ → ℕ → Bool
 sharesBit status mask = not (eqb (bitAnd status mask) 0)
-
--- the requests of service 19, without the top bit
-abbrev pub numberBy : ℕ → List ℕ
-numberBy mask = 0x19 ∷ 0x01 ∷ mask ∷ []
-
-abbrev pub listBy : ℕ → List ℕ
-listBy mask = 0x19 ∷ 0x02 ∷ mask ∷ []
-
-abbrev pub listAll : List ℕ
-listAll = 0x19 ∷ 0x0A ∷ []
-
--- the bytes of a reply: as many as the call answers
-abbrev pub replyIn : Outcome → List ℕ
-replyIn o = take (o .value) (o .room)
-
--- two calls give the same reply, and leave the same state
-pub record SameReply (o o′ : Outcome) : Type 0 where
-  pub value : o′ .value ≡ o .value
-  pub bytes : replyIn o′ ≡ replyIn o
-  pub state : o′ .state ≡ o .state
-
--- a list cut into parts of four
-unfoldable pub fours : List ℕ → List (List ℕ)
-fours [] = []
-fours (a ∷ []) = []
-fours (a ∷ b ∷ []) = []
-fours (a ∷ b ∷ c ∷ []) = []
-fours (a ∷ b ∷ c ∷ d ∷ l) = (a ∷ b ∷ c ∷ d ∷ []) ∷ fours l
-
--- `59 02 FF` or `59 0A FF`, then the lines
-abbrev pub linesIn : Outcome → List (List ℕ)
-linesIn o = fours (drop 3 (replyIn o))
-
--- "trouble code (3 bytes high first) and status"
-abbrev pub codeIn : List ℕ → ℕ
-codeIn line = threeAt 0 line
-
-abbrev pub statusIn : List ℕ → ℕ
-statusIn line = getD line 3 0
-
--- "`59 01 FF 01` and the number of matching events, 2 bytes high first"
-abbrev pub numberIn : Outcome → ℕ
-numberIn o = getD (replyIn o) 4 0 * 256 + getD (replyIn o) 5 0
-
--- a line tells this event: "trouble code (3 bytes high first) and status"
-pub record Tells (cfg : Configuration) (s : State) (e : ℕ) (line : List ℕ) : Type 0 where
-  pub four : length line ≡ 4
-  pub bytes : All (λ b. b < 256) (take 3 line)
-  pub code : codeIn line ≡ codeOf cfg e
-  pub status : statusIn line ≡ statusByte s e
 
 -- a request, and the state that it finds
 module _ (cfg : Configuration) (request : List ℕ) (s : State) where
@@ -186,3 +129,64 @@ module _ (cfg : Configuration) (request : List ℕ) (s : State) where
       -- "else clear and `54`"
       clears : service ≡ 0x14 → length request ≡ 4 → unknownCode cfg troubleCode ≡ false
           → Replies (sends (0x54 ∷ []) (cleared cfg troubleCode s))
+
+-- ---- words to read replies with, for the theorems that lay one beside another
+
+-- bit i of a number, bit 0 the lowest
+unfoldable pub bitAt : ℕ → ℕ → ℕ
+bitAt zero k = k % 2
+bitAt (suc i) k = bitAt i (k / 2)
+
+-- a bit that is set in both
+abbrev pub SharedBit : ℕ → ℕ → Type 0
+SharedBit a b = (i : ℕ) × (bitAt i a ≡ 1) × (bitAt i b ≡ 1)
+
+-- the requests of service 19, without the top bit
+abbrev pub numberBy : ℕ → List ℕ
+numberBy mask = 0x19 ∷ 0x01 ∷ mask ∷ []
+
+abbrev pub listBy : ℕ → List ℕ
+listBy mask = 0x19 ∷ 0x02 ∷ mask ∷ []
+
+abbrev pub listAll : List ℕ
+listAll = 0x19 ∷ 0x0A ∷ []
+
+-- the bytes of a reply: as many as the call answers
+abbrev pub replyIn : Outcome → List ℕ
+replyIn o = take (o .value) (o .room)
+
+-- two calls give the same reply, and leave the same state
+pub record SameReply (o o′ : Outcome) : Type 0 where
+  pub value : o′ .value ≡ o .value
+  pub bytes : replyIn o′ ≡ replyIn o
+  pub state : o′ .state ≡ o .state
+
+-- a list cut into parts of four
+unfoldable pub fours : List ℕ → List (List ℕ)
+fours [] = []
+fours (a ∷ []) = []
+fours (a ∷ b ∷ []) = []
+fours (a ∷ b ∷ c ∷ []) = []
+fours (a ∷ b ∷ c ∷ d ∷ l) = (a ∷ b ∷ c ∷ d ∷ []) ∷ fours l
+
+-- `59 02 FF` or `59 0A FF`, then the lines
+abbrev pub linesIn : Outcome → List (List ℕ)
+linesIn o = fours (drop 3 (replyIn o))
+
+-- "trouble code (3 bytes high first) and status"
+abbrev pub codeIn : List ℕ → ℕ
+codeIn line = threeAt 0 line
+
+abbrev pub statusIn : List ℕ → ℕ
+statusIn line = getD line 3 0
+
+-- "`59 01 FF 01` and the number of matching events, 2 bytes high first"
+abbrev pub numberIn : Outcome → ℕ
+numberIn o = getD (replyIn o) 4 0 * 256 + getD (replyIn o) 5 0
+
+-- a line tells this event: "trouble code (3 bytes high first) and status"
+pub record Tells (cfg : Configuration) (s : State) (e : ℕ) (line : List ℕ) : Type 0 where
+  pub four : length line ≡ 4
+  pub bytes : All (λ b. b < 256) (take 3 line)
+  pub code : codeIn line ≡ codeOf cfg e
+  pub status : statusIn line ≡ statusByte s e
