@@ -1,24 +1,18 @@
 -- Laws of specs/Search.antt: what an answer of the search tells, and how it agrees with the manual's words on a clear.
 use mathlib.Core.Path.{_≡_, refl, sym, ap, subst, _∙_}
-use mathlib.Core.Logic.{_≢_, _⊎_, inl, inr, ⊎-elim}
+use mathlib.Core.Logic.{_≢_, ⊎-elim}
 use mathlib.Core.Bool.{Bool, true, false, not, cond, not-eq-not}
 use mathlib.Core.Option.{Option, none, some, Option·none-ne-some, Option·some-ne-none, Option·some-injective}
-use Prim.Native.Nat.{ℕ, zero, suc, _≤_, _<_}
-use native.Mathlib.Nat.{eq-or-lt-of-le, le-of-suc-le-suc, not-suc-le-zero, le-antisymm}
+use Prim.Native.Nat.{ℕ, zero, suc, _<_}
+use native.Mathlib.Nat.{eq-or-lt-of-le, le-of-suc-le-suc, not-suc-le-zero}
 use native.Mathlib.Omega.{arith}
-use lib.Dec.{eqb, leb}
-use lib.IntN.{ℤ, pos, negsuc}
-use lib.Signed.{ltZ}
-use borrow.Author.Tests.{eq-eqb, ne-eqb, eqb-true, eqb-false, ltb-true, leb-true, leb-false, not-true}
-use Rattle.history.proofs.WordsLaws.{and-right}
-use Rattle.manual.specs.Words.{orElse, natOf}
-use Rattle.manual.specs.Configuration.{Configuration, events, column, codeOf, rowOk, configOk}
+use borrow.Author.Tests.{eq-eqb, ne-eqb, eqb-true, eqb-false, not-true}
+use Rattle.manual.specs.Words.{orElse}
+use Rattle.manual.specs.Configuration.{Configuration, events, codeOf, configOk}
 use Rattle.manual.specs.Calls.{forAll, covers, unknownCode}
 use Rattle.manual.proofs.WordsLaws.{clash, neither, all-below-at, all-below}
 use Rattle.manual.proofs.ConfigurationLaws.{config-tells}
-use Rattle.config.specs.Rows.{risesHere, rowFits}
 use Rattle.config.specs.Search.{lowestBelow, hasCode, firstWithCode}
-use Rattle.config.proofs.JudgedInOnePass.{rows-fit}
 
 -- ---- the lowest number below n that passes
 
@@ -92,43 +86,6 @@ module _ (cfg : Configuration) (code : ℕ) where
   unfolding firstWithCode
   nothing-is n = lowest-none (hasCode cfg code) (events cfg) (λ e h. ne-eqb (codeOf cfg e) code (n e h))
 
--- ---- in an accepted configuration
-
-module _ (cfg : Configuration) (ok : configOk cfg ≡ true) where
-  -- "1 to 16,777,214"
-  pub no-code : (code : ℕ) → (code ≡ 0) ⊎ (16777214 < code) → firstWithCode cfg code ≡ none
-  no-code code out = nothing-is cfg code (λ e h q. let r = config-tells cfg ok .row e h in ⊎-elim (λ z. omega arith) (λ z. omega arith) out)
-
-  pub no-code-0 : firstWithCode cfg 0 ≡ none
-  no-code-0 = no-code 0 (inl refl)
-
-  pub no-code-all : firstWithCode cfg 0xFFFFFF ≡ none
-  no-code-all = no-code 0xFFFFFF (inr (omega arith))
-
-  -- "strictly rising from event to event"
-  rises-to : (e : ℕ) → suc e < events cfg → codeOf cfg e < codeOf cfg (suc e)
-  rises-to e h =
-      counted (column 1 cfg e) (column 1 cfg (suc e)) (config-tells cfg ok .row e (omega arith) .code-least)
-      (and-right (rowOk cfg (suc e)) (risesHere cfg (suc e)) (all-below-at (events cfg) (rowFits cfg) (rows-fit cfg ok) (suc e) h))
-    where
-      counted : (a b : ℤ) → 1 ≤ natOf a → ltZ a b ≡ true → natOf a < natOf b
-      counted (pos a) (pos b) l t = ltb-true a b t
-      counted (pos a) (negsuc b) l t = clash true refl (sym t)
-      counted (negsuc a) b l t = absurd (omega arith)
-
-  pub codes-rise : (a b : ℕ) → a < b → b < events cfg → codeOf cfg a < codeOf cfg b
-  codes-rise a zero h l = absurd (not-suc-le-zero h)
-  codes-rise a (suc b) h l =
-      ⊎-elim (λ s. rw s (rises-to b l)) (λ s. let r = rises-to b l in let ih = codes-rise a b s (omega arith) in omega arith)
-      (eq-or-lt-of-le (le-of-suc-le-suc h))
-
-  -- so an event's code is no other event's
-  pub one-event : (a b : ℕ) → a < events cfg → b < events cfg → codeOf cfg a ≡ codeOf cfg b → a ≡ b
-  one-event a b h l q = le-antisymm (not-above b a h (sym q)) (not-above a b l q)
-    where
-      not-above : (a b : ℕ) → b < events cfg → codeOf cfg a ≡ codeOf cfg b → b ≤ a
-      not-above a b l q = leb-true b a (not-eq-not .0 (λ e. let r = codes-rise a b (leb-false b a e) l in omega arith))
-
 -- ---- and the manual's words on a clear
 
 module _ (cfg : Configuration) (code : ℕ) where
@@ -154,20 +111,3 @@ module _ (cfg : Configuration) (ok : configOk cfg ≡ true) where
   unfolding unknownCode
   known-where-all code a =
       not-eq-not .0 (λ t. clash true refl (sym (rw a at (all-below-at (events cfg) (λ e. not (covers cfg code e)) t 0 (config-tells cfg ok .n-least)))))
-
-  pub found-is-not-all : (code e : ℕ) → firstWithCode cfg code ≡ some e → forAll code ≡ false
-  found-is-not-all code e q = ne-eqb code 0xFFFFFF (λ s. Option·none-ne-some e (sym (no-code cfg ok code (inr (omega arith))) ∙ q))
-
-  -- a clear of the code that was found covers that event alone
-  pub covers-found : (code e : ℕ) → firstWithCode cfg code ≡ some e → (k : ℕ) → k < events cfg → covers cfg code k ≡ eqb k e
-  covers-found code e q k h =
-      let l = found-tells cfg code e q in
-      rw (found-is-not-all code e q)
-      (eqb-same (codeOf cfg k) code k e (λ s. one-event cfg ok k e h (l .below) (s ∙ sym (l .has-code))) (λ s. ap (codeOf cfg) s ∙ l .has-code))
-    where
-      eqb-same : (a b c d : ℕ) → (a ≡ b → c ≡ d) → (c ≡ d → a ≡ b) → eqb a b ≡ eqb c d
-      eqb-same a b c d f g = go (eqb a b) refl
-        where
-          go : (t : Bool) → eqb a b ≡ t → t ≡ eqb c d
-          go true e = sym (eq-eqb c d (f (eqb-true a b e)))
-          go false e = sym (ne-eqb c d (λ s. eqb-false a b e (g s)))

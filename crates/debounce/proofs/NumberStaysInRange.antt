@@ -1,5 +1,5 @@
 -- The D that a report or a tick answers is one that a well-formed state has, where the D before was.
-use mathlib.Core.Path.{_≡_, sym, ap, _∙_}
+use mathlib.Core.Path.{_≡_, ap, _∙_}
 use mathlib.Core.Bool.{true}
 use Prim.Native.Nat.{ℕ, _<_}
 use lib.IntN.{ℤ}

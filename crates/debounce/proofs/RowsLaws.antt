@@ -1,6 +1,6 @@
 -- Laws of specs/Rows.antt, in its order: what the manual says of a row alone it says of every event that has the row, and the
 -- numbers of an accepted row and of a well-formed state are small.
-use mathlib.Core.Path.{_≡_, refl}
+use mathlib.Core.Path.{_≡_}
 use mathlib.Core.Bool.{Bool, true, not, _||_}
 use Prim.Native.Nat.{ℕ, _≤_, _<_}
 use native.Mathlib.Omega.{arith}
@@ -18,10 +18,6 @@ use Rattle.debounce.specs.Rows.{RowOf, alone, reportedBy, tickedBy, Smal
 use Rattle.debounce.proofs.SmallNumbersLaws.{abs-add, abs-sub, between-or-zero, zero-or-between, back}
 
 -- ---- the row alone, and an event that has the row
-
-pub alone-has : (row : Row) → RowOf (alone row) 0 row
-unfolding alone column
-alone-has row = record { kind-is = refl; low-is = refl; high-is = refl; up-is = refl; down-is = refl; jumps-is = refl }
 
 module _ (cfg : Configuration) (e : ℕ) (row : Row) (o : RowOf cfg e row) where
   pub top-is : top (alone row) 0 ≡ top cfg e

@@ -97,10 +97,6 @@ module _ (M F : ℕ) (xs : List Entry) (a : All (Framed F) xs) where
   unfolding memoryOf
   memory-tail = rw one-add (drop-at (entriesBytes xs) _ (entryWidth F * length xs) (bytes-length F xs a))
 
-  pub memory-front : take (bytesInUse F (length xs)) (memoryOf M F xs) ≡ length xs ∷ entriesBytes xs
-  unfolding memoryOf
-  memory-front = rw (one-add, take-at (entriesBytes xs) _ (entryWidth F * length xs) (bytes-length F xs a))
-
 -- a block whose bytes after the last entry are 0 is the block of its entries
 pub block-is : (M F : ℕ) (m : List ℕ) → bytesInUse F (entryCount m) ≤ length m → drop (bytesInUse F (entryCount m)) m ≡ replicate (entryWidth F * (M - entryCount m)) 0
     → m ≡ memoryOf M F (entriesOf F m)

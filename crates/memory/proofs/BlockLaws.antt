@@ -6,7 +6,7 @@ use Prim.Native.Nat.{ℕ, zero, suc, _+_, _-_, _≤_, _<_}
 use native.Mathlib.Nat.{add-assoc}
 use native.Mathlib.Omega.{arith}
 use lib.ListN.{length, take, drop, getD, replicate, length-append, length-take, length-drop, length-replicate, List·getD-append}
-use lib.Seq.{getD-append-add, getD-drop, getD-take, length-take-le, take-at, drop-append-add, drop-drop}
+use lib.Seq.{getD-append-add, getD-drop, length-take-le, take-at, drop-append-add, drop-drop}
 use Rattle.memory.specs.Block.{over, closed}
 use Rattle.memory.proofs.Mix.{mix}
 
@@ -33,10 +33,6 @@ module _ (at w : ℕ) (m : List ℕ) (fits : at + w ≤ length m) where
   pub closed-take : take at (closed at w m) ≡ take at m
   unfolding closed
   closed-take = take-at (take at m) _ at front-length
-
-  pub closed-before : (k : ℕ) → k < at → getD (closed at w m) k 0 ≡ getD m k 0
-  unfolding closed
-  closed-before k h = List·getD-append (take at m) _ 0 k (rw front-length h) ∙ getD-take at m k 0 h
 
   pub closed-after : (i : ℕ) → at ≤ i → getD (closed at w m) i 0 ≡ getD m (i + w) 0
   unfolding closed

@@ -5,4 +5,3 @@ pub mod SurgeryLaws
 pub mod VictimLaws
 pub mod StoreLaws
 pub mod JudgementLaws
-pub mod KeptLaws

@@ -1,7 +1,6 @@
 -- What a call finds at each event of a well-formed state, in the form in which the steps on one event ask for it.
 use mathlib.Core.Path.{_≡_, ap, _∙_}
 use mathlib.Core.Bool.{true}
-use mathlib.Core.List.{List}
 use Prim.Native.Nat.{ℕ, _<_}
 use native.Mathlib.Omega.{arith}
 use lib.Dec.{ltb}
@@ -9,7 +8,7 @@ use lib.ListN.{length}
 use borrow.Author.Tests.{lt-ltb}
 use Rattle.manual.specs.Configuration.{Configuration, events, places, frameBytes, configOk}
 use Rattle.manual.specs.State.{State}
-use Rattle.manual.specs.Memory.{Entry, eventOf, entryCount}
+use Rattle.manual.specs.Memory.{eventOf, entryCount}
 use Rattle.manual.specs.WellFormed.{entries}
 use Rattle.manual.specs.Words.{All}
 use Rattle.manual.proofs.WordsLaws.{test-of-all}

@@ -1,8 +1,7 @@
--- Laws of specs/Panel.antt: the bytes of a board stand for that board, and a call's answer and board, once in numbers and bytes, are what
--- crosses.
-use mathlib.Core.Path.{_≡_, refl, sym, ap, _∙_}
-use mathlib.Core.Bool.{Bool, true, false, cond}
-use mathlib.Core.List.{List, [], _∷_}
+-- Laws of specs/Panel.antt: a call's answer and board, once in numbers and bytes, are what crosses.
+use mathlib.Core.Path.{_≡_, refl, ap, _∙_}
+use mathlib.Core.Bool.{cond}
+use mathlib.Core.List.{List, []}
 use Prim.Native.Nat.{ℕ}
 use lib.Dec.{eqb}
 use Rattle.manual.specs.declared.Answer.{Answer}
@@ -20,20 +19,7 @@ use Rattle.manual.specs.State.{State}
 use Rattle.manual.specs.Answers.{Answered, ofAnswer, ofReport, ofStatus, ofFrame, ofLength, leaves}
 use Rattle.reading.specs.Reading.{startIn, lengthIn, says}
 use Rattle.panel.specs.declared.PanelBoard.{PanelBoard}
-use Rattle.panel.specs.Panel.{yes, flagByte, boardOf, bytesOf, verdictNumber, Crossing, crosses, crossesWithoutBoard, crossesWithFrame, made}
-
--- ---- the board in bytes
-
-flag-back : (flag : Bool) → yes (flagByte flag) ≡ flag
-flag-back true = refl
-flag-back false = refl
-
--- the bytes that a call hands back stand for the board that it leaves
-pub board-back : (a b c d overflow : Bool) (board : Board) → board ≡ record { running = a ∷ b ∷ c ∷ d ∷ []; overflow = overflow } → boardOf (bytesOf board) ≡ board
-board-back a b c d overflow board e =
-    ap (λ (x : Board). boardOf (bytesOf x)) e
-    ∙ (λ i. record { running = flag-back a i ∷ flag-back b i ∷ flag-back c i ∷ flag-back d i ∷ []; overflow = flag-back overflow i })
-    ∙ sym e
+use Rattle.panel.specs.Panel.{boardOf, bytesOf, verdictNumber, Crossing, crosses, crossesWithoutBoard, crossesWithFrame, made}
 
 -- ---- what an answer does not have is 0
 

@@ -33,7 +33,7 @@ use Rattle.memory.specs.declared.Find.the-variants.{Nothing}
 use Rattle.memory.specs.Places.{placeOf}
 use Rattle.memory.specs.Fits.{EntriesFit, PlaceFits}
 use Rattle.memory.proofs.PlacesLaws.{entry-within, entries-are-count, frame-is-at, found, found-nothing}
-use Rattle.reading.specs.Reading.{four, partAt, partOf, FrameRead, says, frameAt, frameStart, entryAnswer, placed, frameRead}
+use Rattle.reading.specs.Reading.{four, partAt, says, frameAt, frameStart, entryAnswer, placed, frameRead}
 
 -- ---- a part of a block
 
@@ -161,8 +161,3 @@ module _ (cfg : Configuration) (s : State) (e : ℕ) (r : Refusal) (q : numberOf
   pub frame-refused : says (FrameAnswer.Refused r) s ≡ frameRead cfg e s
   unfolding frameRead readFrame
   frame-refused = refused-is r s _ _ _ (stops-with _ [] s _ r (sym (then-ten cfg s e ∙ rw (← q, not-done r))))
-
--- the part that an answer names in the block that was read is the frame that the manual gives
-pub part-is-frame : (cfg : Configuration) (s : State) (e : ℕ) (r : FrameAnswer) → says r s ≡ frameRead cfg e s → partOf r (s .memory) ≡ readFrame cfg e s .part
-unfolding frameRead
-part-is-frame cfg s e r q = ap (λ (f : FrameRead). f .outcome .part) q

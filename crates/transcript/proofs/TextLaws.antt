@@ -1,13 +1,13 @@
 -- Laws of specs/Text.antt, in its order.
-use mathlib.Core.Path.{_≡_, refl, sym, ap, subst, _∙_}
+use mathlib.Core.Path.{_≡_, refl, sym, ap, _∙_}
 use mathlib.Core.Bool.{Bool, true, false, not, _&&_, Bool·beq, cond}
 use mathlib.Core.List.{List, [], _∷_, tail}
 use Prim.Native.Nat.{ℕ, zero, suc, _+_, _-_, _*_, _^_, _≤_, _<_}
 use native.Mathlib.Nat.{add-zero, add-suc, suc-add, pow-suc, pow-le-pow-right, lt-of-lt-of-le}
 use native.Mathlib.Numerals.{add-one}
 use native.Mathlib.Omega.{arith}
-use borrow.Author.Tests.{ltb-true, ltb-false, leb-true, le-leb}
-use lib.Dec.{ltb, leb}
+use borrow.Author.Tests.{leb-true, le-leb}
+use lib.Dec.{leb}
 use mir.Val.{boolByte}
 use lib.IntN.{ℤ}
 use lib.Signed.{mag}
@@ -17,9 +17,7 @@ use Rattle.history.specs.Words.{same, allOf, since, joined, cutAt}
 use Rattle.history.proofs.WordsLaws.{and-left, and-right, cutAt-newest}
 use Rattle.manual.specs.Words.{those}
 use Rattle.manual.proofs.WordsLaws.{by}
-use Rattle.transcript.specs.Text.{isSeparator, run, notEmpty, words, isDigit, oneToNineDigits, worth, hasMinus, digitsOf, withSign, isNumber, valueOf, readWord, nextRead}
-use Rattle.transcript.specs.declared.Read.{Read}
-use Rattle.transcript.specs.declared.Word.{Word}
+use Rattle.transcript.specs.Text.{isSeparator, run, notEmpty, words, isDigit, oneToNineDigits, worth, hasMinus, withSign, isNumber, valueOf, readWord, nextRead}
 use Rattle.transcript.specs.declared.Word.the-variants.{Number, Unreadable, End}
 
 -- ---- run
@@ -249,10 +247,6 @@ module _ (word : List ℕ) where
   unfolding valueOf
   value-is = ap (λ d. withSign (hasMinus word) (worth 0 d)) (digits-part (hasMinus word) word)
 
-pub value-small : (word : List ℕ) → isNumber word ≡ true → mag (valueOf word) < 10 ^ 9
-unfolding isNumber valueOf
-value-small word t = omega (arith, sign-size (hasMinus word) (worth 0 (digitsOf word)), worth-most (digitsOf word) t)
-
 -- ---- readWord
 
 module _ (word : List ℕ) (end : ℕ) where
@@ -276,46 +270,3 @@ module _ (at : ℕ) (text : List ℕ) where
   next-word start end f =
       let behind : at + run true (drop at text) + length (take (end - start) (drop start text)) ≡ end = rw (← f .begins, f .sized) (omega (arith, f .longer)) in
       rw (f .first, behind)
-
--- what each answer tells of the words of the text from `at` on
-pub record NumberTells (at : ℕ) (text : List ℕ) (r : Read) : Type 0 where
-  pub word : List ℕ
-  pub first : words (drop at text) ≡ word ∷ words (drop (r .next .at) text)
-  pub number : isNumber word ≡ true
-  pub value : r .value ≡ valueOf word
-  pub minus : r .minus ≡ hasMinus word
-  pub small : mag (r .value) < 10 ^ 9
-  pub further : at < r .next .at
-  pub within : r .next .at ≤ length text
-
-pub record UnreadableTells (at : ℕ) (text : List ℕ) : Type 0 where
-  pub word : List ℕ
-  pub later : List (List ℕ)
-  pub first : words (drop at text) ≡ word ∷ later
-  pub no-number : isNumber word ≡ false
-
-abbrev pub Tells : ℕ → List ℕ → Word → Type 0
-Tells at text (Number r) = NumberTells at text r
-Tells at text Unreadable = UnreadableTells at text
-Tells at text End = words (drop at text) ≡ []
-
-word-tells : (at : ℕ) (text : List ℕ) (start end : ℕ) → Found at text start end → Tells at text (readWord (take (end - start) (drop start text)) end)
-unfolding readWord
-word-tells at text start end f =
-    let word = take (end - start) (drop start text) in
-    by (isNumber word) (Tells at text)
-    (λ t. record { word = word; first = f .first; number = t; value = refl; minus = refl; small = value-small word t; further = omega (arith, f .begins, f .longer); within = f .within })
-    (λ t. record { word = word; later = words (drop end text); first = f .first; no-number = t })
-
-pub next-tells : (at : ℕ) (text : List ℕ) → Tells at text (nextRead at text)
-next-tells at text = go (ltb start (length text)) refl
-  where
-    start : ℕ
-    start = at + run true (drop at text)
-
-    end : ℕ
-    end = start + run false (drop start text)
-
-    go : (t : Bool) → ltb start (length text) ≡ t → Tells at text (nextRead at text)
-    go true e = let f = found at text start end refl (ltb-true _ _ e) refl in subst (Tells at text) (next-word at text start end f) (word-tells at text start end f)
-    go false e = subst (Tells at text) (next-end at text (ltb-false _ _ e)) (not-found at text (ltb-false _ _ e))
