@@ -3,9 +3,14 @@ use mathlib.Core.Bool.{Bool, false, cond}
 use mathlib.Core.List.{List, [], _∷_}
 use Prim.Native.Nat.{ℕ, _+_}
 use lib.ListN.{getD}
-use Rattle.manual.specs.Memory.{Entry, isOf, outranked, resting}
+use Rattle.manual.specs.declared.Place.{Place}
+use Rattle.manual.specs.Memory.{Entry, bytesInUse, isOf, outranked, resting}
 use Rattle.memory.specs.declared.Find.{Find}
 use Rattle.memory.specs.declared.Find.the-variants.{At, Nothing}
+
+-- where the frame of the entry at a place starts: behind "event number (2 bytes, high first), occurrence count (1 to 255)"
+abbrev pub frameAt : ℕ → Place → ℕ
+frameAt F p = bytesInUse F (p .0) + 3
 
 -- the entry at a place; no entry stands at a place past the last
 abbrev pub blank : Entry

@@ -13,7 +13,7 @@ ghost use lib.ListN.{length, drop};
 ghost use Rattle.history.specs.Words.{anyOf, allOf};
 ghost use Rattle.manual.specs.Configuration.{events, places, frameBytes, priorityOf};
 ghost use Rattle.manual.specs.Memory.{eventOf, memoryLength, entryCount, bytesInUse, entriesOf, memoryOf, isOf, without, noTwice};
-ghost use Rattle.memory.specs.Places.{atPlace, firstPlace, placeOf, outranks, rests, victimPlace};
+ghost use Rattle.memory.specs.Places.{frameAt, atPlace, firstPlace, placeOf, outranks, rests, victimPlace};
 ghost use Rattle.memory.specs.Fits.{EntriesFit, PlaceFits, RoomAt, EventsFit};
 ghost use Rattle.memory.specs.InOrder.{InOrder};
 ghost use Rattle.memory.specs.declared.StoreAnswer.the-variants.{Displaced};
@@ -34,6 +34,9 @@ pub enum StoreAnswer {
     NotStored,
 }
 
+// "event number (2 bytes, high first), occurrence count (1 to 255)": the bytes of an entry before its frame.
+const BEFORE_FRAME: usize = 3;
+
 // The number of entries.
 pub fn entry_count(memory: &[u8]) -> usize
     requires { ⌜ 0 < length (now memory) ⌝ }
@@ -47,7 +50,7 @@ fn start_of(frame_bytes: usize, place: Place) -> usize
     requires { ⌜ («frame_bytes» ≤ 32) × (place .0 ≤ 64) ⌝ }
     ensures { λ r. ⌜ r ≡ bytesInUse «frame_bytes» (place .0) ⌝ }
 {
-    1 + (3 + frame_bytes) * place.0
+    1 + (BEFORE_FRAME + frame_bytes) * place.0
 }
 
 // The length of a memory block.
@@ -55,7 +58,7 @@ pub fn memory_length(places: usize, frame_bytes: usize) -> usize
     requires { ⌜ (places ≤ 64) × («frame_bytes» ≤ 32) ⌝ }
     ensures { λ r. ⌜ r ≡ memoryLength places «frame_bytes» ⌝ }
 {
-    1 + places * (3 + frame_bytes)
+    1 + places * (BEFORE_FRAME + frame_bytes)
 }
 
 // The bytes of the number of entries and of the entries.
@@ -84,14 +87,12 @@ pub fn count_at(memory: &[u8], frame_bytes: usize, place: Place) -> u8
     memory[start + 2]
 }
 
-// The frame of the entry at a place: "The stored frame is read as a part of the caller's own memory block, no copy."
-pub fn frame_at<'a>(memory: &'a [u8], frame_bytes: usize, place: Place) -> &'a [u8]
-    requires { ⌜ PlaceFits «frame_bytes» (now memory) (place .0) ⌝ }
-    ensures { λ r. ⌜ now r ≡ atPlace (place .0) (entriesOf «frame_bytes» (now (memory .entry))) .frame ⌝ }
+// Where the frame of the entry at a place starts.
+pub fn frame_start(frame_bytes: usize, place: Place) -> usize
+    requires { ⌜ («frame_bytes» ≤ 32) × (place .0 ≤ 64) ⌝ }
+    ensures { λ r. ⌜ r ≡ frameAt «frame_bytes» place ⌝ }
 {
-    let start = start_of(frame_bytes, place) + 3;
-    let end = start + frame_bytes;
-    &memory[start..end]
+    start_of(frame_bytes, place) + BEFORE_FRAME
 }
 
 // The place of the event's entry.
@@ -117,7 +118,7 @@ fn close_gap(memory: &mut [u8], frame_bytes: usize, place: Place)
     ensures { λ _. ⌜ now (memory .exit) ≡ gapClosed «frame_bytes» (place .0) (now (memory .entry)) ⌝ }
 {
     let start = start_of(frame_bytes, place);
-    block::close(memory, start, 3 + frame_bytes);
+    block::close(memory, start, BEFORE_FRAME + frame_bytes);
 }
 
 // Takes the entry at a place out.
@@ -139,7 +140,7 @@ fn enter(memory: &mut [u8], place: Place, event: EventNumber, count: u8, frame: 
     let high = (event.0 / 256) as u8;
     let low = (event.0 % 256) as u8;
     block::put(memory, start, &[high, low, count]);
-    block::put(memory, start + 3, frame);
+    block::put(memory, start + BEFORE_FRAME, frame);
 }
 
 // Puts an entry of the event, with an occurrence count and a frame, at the end.

@@ -30,10 +30,10 @@ use Rattle.manual.proofs.ConfigurationLaws.{config-tells}
 use Rattle.manual.proofs.WellFormedLaws.{StateTells, state-tells, used-fits}
 use Rattle.memory.specs.declared.Find.{Find}
 use Rattle.memory.specs.declared.Find.the-variants.{Nothing}
-use Rattle.memory.specs.Places.{placeOf}
+use Rattle.memory.specs.Places.{frameAt, placeOf}
 use Rattle.memory.specs.Fits.{EntriesFit, PlaceFits}
 use Rattle.memory.proofs.PlacesLaws.{entry-within, entries-are-count, frame-is-at, found, found-nothing}
-use Rattle.reading.specs.Reading.{four, partAt, says, frameAt, frameStart, entryAnswer, placed, frameRead}
+use Rattle.reading.specs.Reading.{four, partAt, says, frameStart, entryAnswer, placed, frameRead}
 
 -- ---- a part of a block
 

@@ -6,17 +6,15 @@ use lib.Dec.{eqb, leb}
 use lib.ListN.{length, take, drop}
 use Rattle.manual.specs.declared.FrameAnswer.{FrameAnswer}
 use Rattle.manual.specs.declared.FrameAnswer.the-variants.{At}
-use Rattle.manual.specs.declared.Place.{Place}
 use Rattle.manual.specs.declared.Refusal.the-variants.{NoEntry}
 use Rattle.manual.specs.Configuration.{Configuration, frameBytes}
 use Rattle.manual.specs.State.{State}
-use Rattle.manual.specs.Memory.{bytesInUse}
 use Rattle.manual.specs.WellFormed.{entries}
 use Rattle.manual.specs.Answers.{Outcome, Rule, _if_, ofFrame, leaves}
 use Rattle.manual.specs.Calls.{readFrame}
 use Rattle.memory.specs.declared.Find.{Find}
 use Rattle.memory.specs.declared.Find.the-variants.{Nothing}
-use Rattle.memory.specs.Places.{placeOf}
+use Rattle.memory.specs.Places.{frameAt, placeOf}
 
 -- "read status 4; read frame 4, 10": the rule that both have
 abbrev pub four : Bool → List Rule
@@ -51,10 +49,6 @@ pub record FrameRead : Type 0 where
 -- what an answer says of a state that is left as found
 abbrev pub says : FrameAnswer → State → FrameRead
 says a s = record { outcome = leaves (ofFrame a) (partOf a (s .memory)) [] s; start = startIn a; length = lengthIn a }
-
--- where the frame of the entry at a place starts: behind "event number (2 bytes, high first), occurrence count (1 to 255)"
-abbrev pub frameAt : ℕ → Place → ℕ
-frameAt F p = bytesInUse F (p .0) + 3
 
 abbrev pub frameStart : ℕ → Find → ℕ
 frameStart F (Find.At p) = frameAt F p

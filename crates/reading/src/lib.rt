@@ -3,14 +3,12 @@ use manual::Board;
 use manual::EventNumber;
 use manual::FrameAnswer;
 use manual::FramePart;
-use manual::Place;
 use manual::Refusal;
 use manual::StatusAnswer;
 use memory::Find;
 use state::Check;
 ghost use mathlib.Core.Path.{_≡_};
 ghost use mathlib.Core.List.{[]};
-ghost use Prim.Native.Nat.{_≤_};
 ghost use Rattle.manual.specs.Configuration.{frameBytes};
 ghost use Rattle.manual.specs.State.{lent};
 ghost use Rattle.manual.specs.Memory.{entriesOf};
@@ -19,7 +17,7 @@ ghost use Rattle.manual.specs.Calls.{begins, noSuchEvent, readStatus};
 ghost use Rattle.state.specs.Checks.{checkNumber};
 ghost use Rattle.memory.specs.Fits.{EntriesFit};
 ghost use Rattle.memory.specs.Places.{placeOf};
-ghost use Rattle.reading.specs.Reading.{four, partAt, partOf, says, frameAt, entryAnswer, frameRead};
+ghost use Rattle.reading.specs.Reading.{four, partAt, partOf, says, entryAnswer, frameRead};
 
 // ---- 2, 3, 4
 
@@ -71,17 +69,6 @@ pub fn read_status(
 
 // ---- read frame
 
-// "event number (2 bytes, high first), occurrence count (1 to 255)"
-const BEFORE_FRAME: usize = 3;
-
-// Where the frame of the entry at a place starts.
-fn frame_start(frame_bytes: usize, place: Place) -> usize
-    requires { ⌜ («frame_bytes» ≤ 32) × (place .0 ≤ 64) ⌝ }
-    ensures { λ r. ⌜ r ≡ frameAt «frame_bytes» place ⌝ }
-{
-    1 + (BEFORE_FRAME + frame_bytes) * place.0 + BEFORE_FRAME
-}
-
 // Where the frame of the event's entry stands; "10 | event has no memory entry".
 fn frame_of(cfg: &[i32], memory: &[u8], event: EventNumber) -> FrameAnswer
     requires { ⌜ EntriesFit (frameBytes (now cfg)) (now memory) ⌝ }
@@ -91,7 +78,7 @@ fn frame_of(cfg: &[i32], memory: &[u8], event: EventNumber) -> FrameAnswer
     let own = memory::place_of(memory, frame_bytes, event);
     match own {
         Find::At(place) => FrameAnswer::At(FramePart {
-            start: frame_start(frame_bytes, place),
+            start: memory::frame_start(frame_bytes, place),
             length: frame_bytes,
         }),
         Find::Nothing => FrameAnswer::Refused(Refusal::NoEntry),
