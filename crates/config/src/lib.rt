@@ -55,6 +55,11 @@ pub const COUNTER: usize = 1;
 
 pub const TIME: usize = 2;
 
+const LAST_KIND: i32 = TIME as i32;
+
+// "3 | cycle | 0 to 3"
+const LAST_CYCLE: i32 = manual::CYCLES as i32 - 1;
+
 // ---- reading: a number past the end is 0, and so is a negative one where a count is read
 
 fn number_at(cfg: &[i32], index: usize) -> i32
@@ -254,8 +259,8 @@ fn row_ok(cfg: &[i32], event: EventNumber) -> bool
     let counter = kind == COUNTER;
     in_range(cfg, event, TROUBLE_CODE, 1, 16_777_214)
         & in_range(cfg, event, PRIORITY, 1, 255)
-        & in_range(cfg, event, CYCLE, 0, 3)
-        & in_range(cfg, event, KIND, 0, 2)
+        & in_range(cfg, event, CYCLE, 0, LAST_CYCLE)
+        & in_range(cfg, event, KIND, 0, LAST_KIND)
         & in_range_if(debounced, cfg, event, P, -30_000, -1)
         & in_range_if(debounced, cfg, event, Q, 1, 30_000)
         & in_range_if(counter, cfg, event, UP, 1, 30_000)

@@ -23,6 +23,9 @@ ghost use Rattle.state.specs.Fits.{RecordsFor};
 ghost use Rattle.one_event.specs.Ready.{EventFits};
 ghost use Rattle.cycles.specs.Cycles.{fourFive, MayStop};
 
+// "4 | no such … cycle (above 3)"
+const LAST_CYCLE: u32 = manual::CYCLES as u32 - 1;
+
 // ---- "start and stop 4, 5"
 
 // 4, then 5: "The first that applies, in the call's order, is given."
@@ -51,7 +54,7 @@ fn judge(
     ensures { λ r. ⌜ checkNumber r ≡ firstThatApplies (begins (now (cfg .entry)) (lent (now (records .entry)) (now (debounce .entry)) (now (memory .entry)) board) (fourFive (ltb 3 cycle) wrong)) ⌝ }
 {
     match state::begin(cfg, records, debounce, memory, board) {
-        Check::Go => four_five(3 < cycle, wrong),
+        Check::Go => four_five(LAST_CYCLE < cycle, wrong),
         Check::Stop(refusal) => Check::Stop(refusal),
     }
 }

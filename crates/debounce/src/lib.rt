@@ -44,11 +44,11 @@ pub struct Debounced {
 }
 
 // "Codes: 0 passed, 1 failed, 2 pre-passed, 3 pre-failed." No other is accepted: a match on these three leaves pre-passed.
-const PASSED: u32 = 0;
+pub const PASSED: u32 = 0;
 
-const FAILED: u32 = 1;
+pub const FAILED: u32 = 1;
 
-const PRE_FAILED: u32 = 3;
+pub const PRE_FAILED: u32 = 3;
 
 // "its top (Q, Q+1)"
 pub fn top(row: Row) -> i32
@@ -186,8 +186,8 @@ pub fn report_step(row: Row, code: u32, d: i32) -> Debounced
 {
     let kind = row.kind;
     match kind {
-        0 => internal_report(code, d),
-        1 => leaves_at(row, counter_report(row, code, d)),
+        config::INTERNAL => internal_report(code, d),
+        config::COUNTER => leaves_at(row, counter_report(row, code, d)),
         _ => leaves_at(row, time_report(row, code, d)),
     }
 }

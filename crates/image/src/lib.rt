@@ -42,9 +42,6 @@ const KIND_OVERFLOW: u8 = 3;
 
 const OVERFLOW_LENGTH: usize = 1;
 
-// "Records: 4n lent bytes"
-const RECORD_WIDTH: usize = 4;
-
 // The header of bodies of these lengths and the overflow flag: after the two bytes a row for each body, "kind …, 0, offset (2), length
 // (2)". "Numbers are high byte first", "Bodies follow without gaps".
 fn header(records: usize, memory: usize) -> [u8; HEADER_LENGTH]
@@ -89,7 +86,7 @@ fn memory_at(cfg: &[i32]) -> usize
     requires { ⌜ configOk (now cfg) ≡ true ⌝ }
     ensures { λ r. ⌜ r ≡ memoryAt (now (cfg .entry)) ⌝ }
 {
-    HEADER_LENGTH + RECORD_WIDTH * config::events(cfg)
+    HEADER_LENGTH + manual::RECORD_WIDTH * config::events(cfg)
 }
 
 // The length of body 2, which begins with the entry count: "the entry count and the entries in use".

@@ -1,4 +1,4 @@
-// The types that the calls of document 01 speak of. What the calls do is defined in specs/.
+// The types that the calls of document 01 speak of, and the numbers that they share. What the calls do is defined in specs/.
 
 // "An event number is never taken for a place in memory."
 pub struct EventNumber(pub usize);
@@ -12,9 +12,15 @@ pub enum Verdict {
     Failed,
 }
 
+// "Records: 4n lent bytes; per event status, K (failed cycles), h (healing count), g (ageing count)."
+pub const RECORD_WIDTH: usize = 4;
+
+// "which of the four cycles run"
+pub const CYCLES: usize = 4;
+
 // "Board: which of the four cycles run, and an overflow flag."
 pub struct Board {
-    pub running: [bool; 4],
+    pub running: [bool; CYCLES],
     pub overflow: bool,
 }
 

@@ -28,7 +28,7 @@ ghost use Rattle.panel.specs.Panel.{yes, flagByte, boardOf, bytesOf, ver
 // "Board: which of the four cycles run, and an overflow flag.": each byte a flag, 0 no, anything else yes.
 #[repr(C)]
 pub struct PanelBoard {
-    pub running: [u8; 4],
+    pub running: [u8; manual::CYCLES],
     pub overflow: u8,
 }
 

@@ -24,11 +24,6 @@ ghost use Rattle.one_event.specs.Ready.{Ready};
 ghost use Rattle.reporting.specs.Accepted.{MayTick};
 ghost use Rattle.reporting.specs.Tests.{rowTests, reportTests, tickTests};
 
-// "Codes: 0 passed, 1 failed, 2 pre-passed, 3 pre-failed."
-const FAILED: u32 = 1;
-
-const PRE_FAILED: u32 = 3;
-
 // "Tick of d ms (0 to 60,000)"
 const LONGEST_TICK: u32 = 60_000;
 
@@ -54,7 +49,7 @@ fn no_pre_result(cfg: &[i32], event: EventNumber, code: u32) -> bool
     requires { ⌜ event .0 < 512 ⌝ }
     ensures { λ r. ⌜ r ≡ isInternal (now (cfg .entry)) (event .0) && ltb 1 code ⌝ }
 {
-    (config::kind_of(cfg, event) == config::INTERNAL) & (FAILED < code)
+    (config::kind_of(cfg, event) == config::INTERNAL) & (debounce::FAILED < code)
 }
 
 // "report …, 6, 9, 5", of an event that has a row.
@@ -83,7 +78,7 @@ fn report_tests(cfg: &[i32], board: Board, event: EventNumber, code: u32, frame:
     ensures { λ r. ⌜ checkNumber r ≡ firstThatApplies (reportTests (now (cfg .entry)) board (event .0) code (now (frame .entry))) ⌝ }
 {
     let event_refused = config::events(cfg) <= event.0;
-    let code_refused = PRE_FAILED < code;
+    let code_refused = debounce::PRE_FAILED < code;
     if event_refused {
         return Check::Stop(Refusal::NoSuch);
     }

@@ -24,17 +24,11 @@ pub enum Check {
     Stop(Refusal),
 }
 
-// "Records: 4n lent bytes"
-const RECORD_WIDTH: usize = 4;
-
-// "which of the four cycles run"
-const CYCLES: usize = 4;
-
 // Whether the cycle runs; a cycle above 3 does not.
 pub fn runs(board: Board, cycle: usize) -> bool
     ensures { λ r. ⌜ r ≡ runs board cycle ⌝ }
 {
-    if cycle < CYCLES {
+    if cycle < manual::CYCLES {
         return board.running[cycle];
     }
     false
@@ -49,7 +43,9 @@ pub fn lengths_fit(cfg: &[i32], records: &[u8], debounce: &[i32], memory: &[u8])
 {
     let n = config::events(cfg);
     let memory_length = memory::memory_length(config::places(cfg), config::frame_bytes(cfg));
-    (records.len() == RECORD_WIDTH * n) & (debounce.len() == n) & (memory.len() == memory_length)
+    (records.len() == manual::RECORD_WIDTH * n)
+        & (debounce.len() == n)
+        & (memory.len() == memory_length)
 }
 
 // The event's record, by the clauses from "bit 4 set means …" to "… g = 0 when bit 3 is clear".

@@ -356,16 +356,13 @@ pub fn record_ok(heal: usize, age: usize, indicator: bool, r: Record) -> bool
 
 // ---- the records and the debounce numbers in the lent blocks
 
-// "Records: 4n lent bytes; per event status, K (failed cycles), h (healing count), g (ageing count)."
-const RECORD_WIDTH: usize = 4;
-
 // The event's record.
 pub fn read_record(records: &[u8], event: EventNumber) -> Record
     requires { ⌜ recordWidth * event .0 + recordWidth ≤ length (now records) ⌝ }
     ensures { λ r. ⌜ storedIs r ≡ storedAt (event .0) (now (records .entry)) ⌝ }
 {
     let e = event.0;
-    let at = RECORD_WIDTH * e;
+    let at = manual::RECORD_WIDTH * e;
     Record {
         status: Status(records[at]),
         k: records[at + 1],
@@ -380,7 +377,7 @@ pub fn write_record(records: &mut [u8], event: EventNumber, r: Record)
     ensures { λ _. ⌜ now (records .exit) ≡ withStored (event .0) (storedIs r) (now (records .entry)) ⌝ }
 {
     let e = event.0;
-    let at = RECORD_WIDTH * e;
+    let at = manual::RECORD_WIDTH * e;
     let s = r.status;
     records[at] = s.0;
     records[at + 1] = r.k;
@@ -393,10 +390,10 @@ pub fn status_of(records: &[u8], event: EventNumber) -> Status
     ensures { λ s. ⌜ s .0 ≡ storedAt (event .0) (now (records .entry)) .status ⌝ }
 {
     let e = event.0;
-    if records.len() / RECORD_WIDTH < e {
+    if records.len() / manual::RECORD_WIDTH < e {
         return Status(0);
     }
-    let at = RECORD_WIDTH * e;
+    let at = manual::RECORD_WIDTH * e;
     if at < records.len() {
         Status(records[at])
     } else {

@@ -171,7 +171,7 @@ fn put_statuses(buffer: &mut [u8], at: usize, records: &[u8], events: usize) -> 
     let mut next = at;
     let mut e = 0;
     while e < events {
-        next = put_spaced(buffer, next, records[4 * e]);
+        next = put_spaced(buffer, next, records[manual::RECORD_WIDTH * e]);
         e += 1;
     }
     next
