@@ -1,14 +1,18 @@
--- The statement of a clear allows one outcome only.
+-- The statement of `clear` allows one outcome only: one result, and of each block one content, to the last byte.
 use mathlib.Core.Path.{_≡_}
-use mathlib.Core.List.{[]}
+use mathlib.Core.List.{List, []}
 use Prim.Native.Nat.{ℕ}
-use Rattle.manual.specs.declared.Answer.{Answer}
+use lib.IntN.{ℤ}
+use Rattle.manual.specs.declared.Returned.{Returned}
 use Rattle.manual.specs.Configuration.{Configuration}
-use Rattle.manual.specs.State.{State}
+use Rattle.manual.specs.State.{State, lent}
 use Rattle.manual.specs.Answers.{ofAnswer, leaves}
 use Rattle.manual.specs.Calls.{clearCode}
-use Rattle.manual.proofs.OneOutcomeOnly.{Same, one-answer}
+use Rattle.manual.proofs.OneOutcomeOnly.{same-returned, same-blocks}
 
-pub one-clear : (cfg : Configuration) (code : ℕ) (s : State) {a a′ : Answer} {t t′ : State}
-    → leaves (ofAnswer a) [] [] t ≡ clearCode cfg code s → leaves (ofAnswer a′) [] [] t′ ≡ clearCode cfg code s → Same a a′ [] [] [] [] t t′
-one-clear cfg code s = one-answer (clearCode cfg code s)
+pub one-clear : (cfg : Configuration) (code : ℕ) (s : State) (r r′ : Returned) (records records′ : List ℕ) (debounce debounce′ : List ℤ) (memory memory′ : List ℕ)
+    → leaves (ofAnswer (r .answer)) [] [] (lent records debounce memory (r .board)) ≡ clearCode cfg code s
+    → leaves (ofAnswer (r′ .answer)) [] [] (lent records′ debounce′ memory′ (r′ .board)) ≡ clearCode cfg code s
+    → (r ≡ r′) × ((records ≡ records′) × ((debounce ≡ debounce′) × (memory ≡ memory′)))
+one-clear cfg code s r r′ records records′ debounce debounce′ memory memory′ p q =
+    (same-returned r r′ p q, same-blocks p q)

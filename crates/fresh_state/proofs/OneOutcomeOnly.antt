@@ -1,13 +1,18 @@
--- The statement of fresh allows one outcome only.
+-- The statement of `fresh` allows one outcome only: one result, and of each block one content, to the last byte.
 use mathlib.Core.Path.{_≡_}
-use mathlib.Core.List.{[]}
-use Rattle.manual.specs.declared.Answer.{Answer}
+use mathlib.Core.List.{List, []}
+use Prim.Native.Nat.{ℕ}
+use lib.IntN.{ℤ}
+use Rattle.manual.specs.declared.Returned.{Returned}
 use Rattle.manual.specs.Configuration.{Configuration}
-use Rattle.manual.specs.State.{State}
+use Rattle.manual.specs.State.{State, lent}
 use Rattle.manual.specs.Answers.{ofAnswer, leaves}
 use Rattle.manual.specs.Calls.{fresh}
-use Rattle.manual.proofs.OneOutcomeOnly.{Same, one-answer}
+use Rattle.manual.proofs.OneOutcomeOnly.{same-returned, same-blocks}
 
-pub one-fresh : (cfg : Configuration) (s : State) {a a′ : Answer} {t t′ : State}
-    → leaves (ofAnswer a) [] [] t ≡ fresh cfg s → leaves (ofAnswer a′) [] [] t′ ≡ fresh cfg s → Same a a′ [] [] [] [] t t′
-one-fresh cfg s = one-answer (fresh cfg s)
+pub one-fresh : (cfg : Configuration) (s : State) (r r′ : Returned) (records records′ : List ℕ) (debounce debounce′ : List ℤ) (memory memory′ : List ℕ)
+    → leaves (ofAnswer (r .answer)) [] [] (lent records debounce memory (r .board)) ≡ fresh cfg s
+    → leaves (ofAnswer (r′ .answer)) [] [] (lent records′ debounce′ memory′ (r′ .board)) ≡ fresh cfg s
+    → (r ≡ r′) × ((records ≡ records′) × ((debounce ≡ debounce′) × (memory ≡ memory′)))
+one-fresh cfg s r r′ records records′ debounce debounce′ memory memory′ p q =
+    (same-returned r r′ p q, same-blocks p q)

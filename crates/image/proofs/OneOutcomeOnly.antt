@@ -1,4 +1,5 @@
--- The statements of `save` and `restore` allow one outcome only: one answer, one room or board, and every lent block to its last byte.
+-- The statements of `save` and `restore` allow one outcome only: one result, and of each block or room that the call may write one
+-- content, to the last byte.
 use mathlib.Core.Path.{_≡_}
 use mathlib.Core.List.{List, []}
 use Prim.Native.Nat.{ℕ}
@@ -9,20 +10,18 @@ use Rattle.manual.specs.Configuration.{Configuration}
 use Rattle.manual.specs.State.{State, lent}
 use Rattle.manual.specs.Answers.{ofAnswer, ofLength, leaves}
 use Rattle.manual.specs.Image.{save, restore}
-use Rattle.manual.proofs.OneOutcomeOnly.{one-answer, one-length}
+use Rattle.manual.proofs.OneOutcomeOnly.{same-returned, same-length, same-blocks, same-room}
 
 module _ (cfg : Configuration) (s : State) where
-  -- `save` lends on every block of the state to be read only
+  -- `save` is lent the state to be read only
   pub one-save : (before : List ℕ) (r r′ : LengthAnswer) (room room′ : List ℕ)
       → leaves (ofLength r) [] room s ≡ save cfg before s
       → leaves (ofLength r′) [] room′ s ≡ save cfg before s
       → (r ≡ r′) × (room ≡ room′)
-  one-save before r r′ room room′ p q = let same = one-length (save cfg before s) p q in (same .answer, same .room)
+  one-save before r r′ room room′ p q = (same-length r r′ p q, same-room p q)
 
   pub one-restore : (image : List ℕ) (r r′ : Returned) (records records′ : List ℕ) (debounce debounce′ : List ℤ) (memory memory′ : List ℕ)
       → leaves (ofAnswer (r .answer)) [] [] (lent records debounce memory (r .board)) ≡ restore cfg image s
       → leaves (ofAnswer (r′ .answer)) [] [] (lent records′ debounce′ memory′ (r′ .board)) ≡ restore cfg image s
       → (r ≡ r′) × ((records ≡ records′) × ((debounce ≡ debounce′) × (memory ≡ memory′)))
-  one-restore image r r′ records records′ debounce debounce′ memory memory′ p q =
-      let same = one-answer (restore cfg image s) p q in
-      (λ i. record { answer = same .answer i; board = same .board i }, (same .records, (same .debounce, same .memory)))
+  one-restore image r r′ records records′ debounce debounce′ memory memory′ p q = (same-returned r r′ p q, same-blocks p q)

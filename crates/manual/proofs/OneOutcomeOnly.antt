@@ -1,21 +1,24 @@
--- The statement of a call allows one outcome only: the numbers of an answer give the enum back, and the outcome every block.
+-- What meets the statement of a call is one: the numbers of an answer give the enum back, and the outcome gives the blocks, the board and
+-- the room. Each crate of calls says so of its own calls, in a file of this name.
 use mathlib.Core.Path.{_≡_, refl, sym, ap, _∙_}
 use mathlib.Core.Bool.{false, cond}
-use mathlib.Core.List.{List}
+use mathlib.Core.List.{List, []}
 use Prim.Native.Nat.{ℕ}
 use lib.Dec.{eqb}
+use lib.IntN.{ℤ}
 use borrow.Author.Tests.{ne-eqb}
 use Rattle.manual.specs.declared.Refusal.{Refusal}
 use Rattle.manual.specs.declared.Refusal.the-variants.{BadArgument, BadConfiguration, BadState, NoSuch, WrongCycleState, NoPreResult, RoomTooSmall, BadImage, WrongFrame, NoEntry}
 use Rattle.manual.specs.declared.Answer.{Answer}
 use Rattle.manual.specs.declared.Answer.the-variants.{Done}
+use Rattle.manual.specs.declared.Returned.{Returned}
 use Rattle.manual.specs.declared.ReportAnswer.{ReportAnswer}
 use Rattle.manual.specs.declared.ReportAnswer.the-variants.{Accepted}
 use Rattle.manual.specs.declared.StatusAnswer.{StatusAnswer}
 use Rattle.manual.specs.declared.StatusAnswer.the-variants.{Status}
 use Rattle.manual.specs.declared.LengthAnswer.{LengthAnswer}
 use Rattle.manual.specs.declared.LengthAnswer.the-variants.{Written}
-use Rattle.manual.specs.State.{State}
+use Rattle.manual.specs.State.{State, lent}
 use Rattle.manual.specs.Answers.{Outcome, numberOf, Answered, answered, ofAnswer, ofReport, ofStatus, ofLength, leaves}
 use Rattle.manual.proofs.AnswersLaws.{never-done}
 
@@ -79,46 +82,48 @@ length-back (LengthAnswer.Refused r) = refused-back (λ a. Written (a .value)) L
 
 -- ---- one outcome
 
--- two answers, with what they leave, are the same to the last byte
-pub record Same {A : Type 0} (a a′ : A) (p p′ r r′ : List ℕ) (s s′ : State) : Type 0 where
-  pub answer : a ≡ a′
-  pub part : p ≡ p′
-  pub room : r ≡ r′
-  pub records : s .records ≡ s′ .records
-  pub debounce : s .debounce ≡ s′ .debounce
-  pub memory : s .memory ≡ s′ .memory
-  pub board : s .board ≡ s′ .board
+-- what is read off all that meets one statement is one
+pub one-outcome : {O X : Type 0} (read : O → X) {o y y′ : O} {x x′ : X} → read y ≡ x → read y′ ≡ x′ → y ≡ o → y′ ≡ o → x ≡ x′
+one-outcome read b b′ p q = sym b ∙ ap read (p ∙ sym q) ∙ b′
 
-abbrev answerIn : Outcome → Answered
-answerIn o = answered (o .answer) (o .verdict) (o .value)
+-- the blocks, the board and the room
+pub same-blocks : {o y y′ : Outcome} → y ≡ o → y′ ≡ o
+    → (y .state .records ≡ y′ .state .records) × ((y .state .debounce ≡ y′ .state .debounce) × (y .state .memory ≡ y′ .state .memory))
+same-blocks p q = (
+  one-outcome (λ (y : Outcome). y .state .records) refl refl p q,
+  (one-outcome (λ (y : Outcome). y .state .debounce) refl refl p q, one-outcome (λ (y : Outcome). y .state .memory) refl refl p q),
+)
 
+pub same-board : {o y y′ : Outcome} → y ≡ o → y′ ≡ o → y .state .board ≡ y′ .state .board
+same-board p q = one-outcome (λ (y : Outcome). y .state .board) refl refl p q
+
+pub same-room : {o y y′ : Outcome} → y ≡ o → y′ ≡ o → y .room ≡ y′ .room
+same-room p q = one-outcome (λ (y : Outcome). y .room) refl refl p q
+
+-- the answer, which its numbers give back
 module _ {A : Type 0} (of : A → Answered) (from : Answered → A) (back : (a : A) → from (of a) ≡ a) where
-  pub same-outcome : (o : Outcome) {a a′ : A} {part part′ room room′ : List ℕ} {s s′ : State}
-      → leaves (of a) part room s ≡ o → leaves (of a′) part′ room′ s′ ≡ o → Same a a′ part part′ room room′ s s′
-  same-outcome o {a} {a′} {part} {part′} {room} {room′} {s} {s′} p q =
-      let e : leaves (of a) part room s ≡ leaves (of a′) part′ room′ s′ = p ∙ sym q in
-      record {
-        answer = sym (back a) ∙ ap (λ (x : Outcome). from (answerIn x)) e ∙ back a′;
-        part = ap (λ (x : Outcome). x .part) e;
-        room = ap (λ (x : Outcome). x .room) e;
-        records = ap (λ (x : Outcome). x .state .records) e;
-        debounce = ap (λ (x : Outcome). x .state .debounce) e;
-        memory = ap (λ (x : Outcome). x .state .memory) e;
-        board = ap (λ (x : Outcome). x .state .board) e;
-      }
+  same-numbers : {o : Outcome} {part part′ room room′ : List ℕ} {s s′ : State} (a a′ : A) → leaves (of a) part room s ≡ o → leaves (of a′) part′ room′ s′ ≡ o → a ≡ a′
+  same-numbers a a′ p q = one-outcome (λ (y : Outcome). from (answered (y .answer) (y .verdict) (y .value))) (back a) (back a′) p q
 
--- fresh, tick, start, stop, clear and restore
-pub one-answer : (o : Outcome) {a a′ : Answer} {part part′ room room′ : List ℕ} {s s′ : State} → leaves (ofAnswer a) part room s ≡ o → leaves (ofAnswer a′) part′ room′ s′ ≡ o → Same a a′ part part′ room room′ s s′
-one-answer = same-outcome ofAnswer answerOf answer-back
+module _ {o : Outcome} {part part′ room room′ : List ℕ} {s s′ : State} where
+  same-answer : (a a′ : Answer) → leaves (ofAnswer a) part room s ≡ o → leaves (ofAnswer a′) part′ room′ s′ ≡ o → a ≡ a′
+  same-answer = same-numbers ofAnswer answerOf answer-back
 
--- report
-pub one-report : (o : Outcome) {a a′ : ReportAnswer} {part part′ room room′ : List ℕ} {s s′ : State} → leaves (ofReport a) part room s ≡ o → leaves (ofReport a′) part′ room′ s′ ≡ o → Same a a′ part part′ room room′ s s′
-one-report = same-outcome ofReport reportOf report-back
+  -- report
+  pub same-report : (a a′ : ReportAnswer) → leaves (ofReport a) part room s ≡ o → leaves (ofReport a′) part′ room′ s′ ≡ o → a ≡ a′
+  same-report = same-numbers ofReport reportOf report-back
 
--- read status
-pub one-status : (o : Outcome) {a a′ : StatusAnswer} {part part′ room room′ : List ℕ} {s s′ : State} → leaves (ofStatus a) part room s ≡ o → leaves (ofStatus a′) part′ room′ s′ ≡ o → Same a a′ part part′ room room′ s s′
-one-status = same-outcome ofStatus statusAnswerOf status-back
+  -- read status
+  pub same-status : (a a′ : StatusAnswer) → leaves (ofStatus a) part room s ≡ o → leaves (ofStatus a′) part′ room′ s′ ≡ o → a ≡ a′
+  same-status = same-numbers ofStatus statusAnswerOf status-back
 
--- save and a diagnostic request
-pub one-length : (o : Outcome) {a a′ : LengthAnswer} {part part′ room room′ : List ℕ} {s s′ : State} → leaves (ofLength a) part room s ≡ o → leaves (ofLength a′) part′ room′ s′ ≡ o → Same a a′ part part′ room room′ s s′
-one-length = same-outcome ofLength lengthOf length-back
+  -- save and a diagnostic request
+  pub same-length : (a a′ : LengthAnswer) → leaves (ofLength a) part room s ≡ o → leaves (ofLength a′) part′ room′ s′ ≡ o → a ≡ a′
+  same-length = same-numbers ofLength lengthOf length-back
+
+-- fresh, tick, start, stop, clear and restore: the answer with the board
+pub same-returned : {o : Outcome} {records records′ : List ℕ} {debounce debounce′ : List ℤ} {memory memory′ : List ℕ} (r r′ : Returned)
+    → leaves (ofAnswer (r .answer)) [] [] (lent records debounce memory (r .board)) ≡ o
+    → leaves (ofAnswer (r′ .answer)) [] [] (lent records′ debounce′ memory′ (r′ .board)) ≡ o
+    → r ≡ r′
+same-returned r r′ p q = λ i. record { answer = same-answer (r .answer) (r′ .answer) p q i; board = same-board p q i }

@@ -1,6 +1,6 @@
--- The statements of `read_status`, `read_frame` and `frame_part` allow one outcome only. The calls change nothing lent and hand back no
--- board, so the outcome is the answer; of a frame, also where it starts and how long it is.
-use mathlib.Core.Path.{_≡_, refl, sym, ap, _∙_}
+-- The statements of `read_status`, `read_frame` and `frame_part` allow one outcome only: one result. The calls are lent nothing to be
+-- written; of a frame the result says where it starts and how long it is.
+use mathlib.Core.Path.{_≡_, refl, sym, _∙_}
 use mathlib.Core.List.{List, []}
 use Prim.Native.Nat.{ℕ}
 use Rattle.manual.specs.declared.FrameAnswer.{FrameAnswer}
@@ -10,12 +10,15 @@ use Rattle.manual.specs.Configuration.{Configuration}
 use Rattle.manual.specs.State.{State}
 use Rattle.manual.specs.Answers.{answered, ofStatus, ofFrame, leaves}
 use Rattle.manual.specs.Calls.{readStatus}
-use Rattle.manual.proofs.OneOutcomeOnly.{answerAt, refused-back, one-status}
+use Rattle.manual.proofs.OneOutcomeOnly.{answerAt, refused-back, one-outcome, same-status}
 use Rattle.reading.specs.Reading.{FrameRead, partOf, says, frameRead}
 
 module _ (cfg : Configuration) (event : ℕ) (s : State) where
-  pub one-read-status : (r r′ : StatusAnswer) → leaves (ofStatus r) [] [] s ≡ readStatus cfg event s → leaves (ofStatus r′) [] [] s ≡ readStatus cfg event s → r ≡ r′
-  one-read-status r r′ p q = one-status (readStatus cfg event s) p q .answer
+  pub one-read-status : (r r′ : StatusAnswer)
+      → leaves (ofStatus r) [] [] s ≡ readStatus cfg event s
+      → leaves (ofStatus r′) [] [] s ≡ readStatus cfg event s
+      → r ≡ r′
+  one-read-status r r′ p q = same-status r r′ p q
 
   -- the answer is read off its number, its start and its length
   abbrev answerIn : FrameRead → FrameAnswer
@@ -25,8 +28,11 @@ module _ (cfg : Configuration) (event : ℕ) (s : State) where
   answer-back (At part) = refl
   answer-back (FrameAnswer.Refused r) = refused-back (λ a. At (record { start = 0; length = 0 })) FrameAnswer.Refused r (ofFrame (FrameAnswer.Refused r)) refl
 
-  pub one-read-frame : (r r′ : FrameAnswer) → says r s ≡ frameRead cfg event s → says r′ s ≡ frameRead cfg event s → r ≡ r′
-  one-read-frame r r′ p q = sym (answer-back r) ∙ ap answerIn (p ∙ sym q) ∙ answer-back r′
+  pub one-read-frame : (r r′ : FrameAnswer)
+      → says r s ≡ frameRead cfg event s
+      → says r′ s ≡ frameRead cfg event s
+      → r ≡ r′
+  one-read-frame r r′ p q = one-outcome answerIn (answer-back r) (answer-back r′) p q
 
 pub one-frame-part : (memory : List ℕ) (answer : FrameAnswer) (part part′ : List ℕ) → part ≡ partOf answer memory → part′ ≡ partOf answer memory → part ≡ part′
 one-frame-part memory answer part part′ p q = p ∙ sym q

@@ -1,4 +1,4 @@
--- The statement of each call allows one outcome only: the answer, each block and the board, to the last byte.
+-- The statements of `report` and `tick` allow one outcome only: one result, and of each block one content, to the last byte.
 use mathlib.Core.Path.{_≡_}
 use mathlib.Core.List.{List, []}
 use Prim.Native.Nat.{ℕ}
@@ -9,17 +9,17 @@ use Rattle.manual.specs.Configuration.{Configuration}
 use Rattle.manual.specs.State.{State, lent}
 use Rattle.manual.specs.Answers.{ofAnswer, ofReport, leaves}
 use Rattle.manual.specs.Calls.{report, tick}
-use Rattle.manual.proofs.OneOutcomeOnly.{Same, one-answer, one-report}
+use Rattle.manual.proofs.OneOutcomeOnly.{same-report, same-board, same-returned, same-blocks}
 
-module _ (cfg : Configuration) (frame : List ℕ) (s : State) {records records′ memory memory′ : List ℕ} {debounce debounce′ : List ℤ} where
-  pub report-one-outcome : (e code : ℕ) {r r′ : ReportReturned}
+module _ (cfg : Configuration) (frame : List ℕ) (s : State) (records records′ : List ℕ) (debounce debounce′ : List ℤ) (memory memory′ : List ℕ) where
+  pub one-report : (e code : ℕ) (r r′ : ReportReturned)
       → leaves (ofReport (r .answer)) [] [] (lent records debounce memory (r .board)) ≡ report cfg e code frame s
       → leaves (ofReport (r′ .answer)) [] [] (lent records′ debounce′ memory′ (r′ .board)) ≡ report cfg e code frame s
-      → Same (r .answer) (r′ .answer) [] [] [] [] (lent records debounce memory (r .board)) (lent records′ debounce′ memory′ (r′ .board))
-  report-one-outcome e code p q = one-report (report cfg e code frame s) p q
+      → (r ≡ r′) × ((records ≡ records′) × ((debounce ≡ debounce′) × (memory ≡ memory′)))
+  one-report e code r r′ p q = (λ i. record { answer = same-report (r .answer) (r′ .answer) p q i; board = same-board p q i }, same-blocks p q)
 
-  pub tick-one-outcome : (ms : ℕ) {r r′ : Returned}
+  pub one-tick : (ms : ℕ) (r r′ : Returned)
       → leaves (ofAnswer (r .answer)) [] [] (lent records debounce memory (r .board)) ≡ tick cfg ms frame s
       → leaves (ofAnswer (r′ .answer)) [] [] (lent records′ debounce′ memory′ (r′ .board)) ≡ tick cfg ms frame s
-      → Same (r .answer) (r′ .answer) [] [] [] [] (lent records debounce memory (r .board)) (lent records′ debounce′ memory′ (r′ .board))
-  tick-one-outcome ms p q = one-answer (tick cfg ms frame s) p q
+      → (r ≡ r′) × ((records ≡ records′) × ((debounce ≡ debounce′) × (memory ≡ memory′)))
+  one-tick ms r r′ p q = (same-returned r r′ p q, same-blocks p q)
