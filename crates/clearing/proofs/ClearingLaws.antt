@@ -11,7 +11,7 @@ use Rattle.manual.specs.Configuration.{Configuration, events, configOk}
 use Rattle.manual.specs.State.{State}
 use Rattle.manual.specs.WellFormed.{wellFormed}
 use Rattle.manual.specs.OneEvent.{clears}
-use Rattle.manual.specs.Answers.{done, firstThatApplies, numberOf, ofAnswer, leaves}
+use Rattle.manual.specs.Answers.{alone, done, firstThatApplies, numberOf, ofAnswer, leaves}
 use Rattle.manual.specs.Calls.{covers, overflowCleared, cleared, clearRules, clearCode}
 use Rattle.manual.proofs.AnswersLaws.{none-applies, goes-through, stops-with}
 use Rattle.manual.proofs.ConfigurationLaws.{config-tells}
@@ -44,10 +44,10 @@ module _ (cfg : Configuration) (code : ℕ) (s : State) where
   unfolding clearRules
   may-clear z = (not-false _ (none-applies _ z refl 0), not-false _ (none-applies _ z refl 1))
 
-  pub clear-done : {t : State} → firstThatApplies (clearRules cfg code s) ≡ 0 → t ≡ cleared cfg code s → leaves (ofAnswer Done) [] [] t ≡ clearCode cfg code s
+  pub clear-done : {t : State} → firstThatApplies (clearRules cfg code s) ≡ 0 → t ≡ cleared cfg code s → leaves (ofAnswer Done) [] alone t ≡ clearCode cfg code alone s
   unfolding clearCode
-  clear-done z p = ap done p ∙ sym (goes-through _ [] s _ z)
+  clear-done z p = ap (done alone) p ∙ sym (goes-through _ alone s _ z)
 
-  pub clear-refused : (r : Refusal) → numberOf r ≡ firstThatApplies (clearRules cfg code s) → leaves (ofAnswer (Refused r)) [] [] s ≡ clearCode cfg code s
+  pub clear-refused : (r : Refusal) → numberOf r ≡ firstThatApplies (clearRules cfg code s) → leaves (ofAnswer (Refused r)) [] alone s ≡ clearCode cfg code alone s
   unfolding clearCode
-  clear-refused r e = stops-with _ [] s _ r e
+  clear-refused r e = stops-with _ alone s _ r e

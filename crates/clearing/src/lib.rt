@@ -14,7 +14,7 @@ ghost use lib.IntN.{ℤ};
 ghost use Rattle.manual.specs.Configuration.{Configuration, configOk};
 ghost use Rattle.manual.specs.State.{lent};
 ghost use Rattle.manual.specs.WellFormed.{wellFormed};
-ghost use Rattle.manual.specs.Answers.{_if_, firstThatApplies, ofAnswer, leaves};
+ghost use Rattle.manual.specs.Answers.{alone, _if_, firstThatApplies, ofAnswer, leaves};
 ghost use Rattle.manual.specs.Calls.{covers, unknownCode, overflowCleared, cleared, clearRules, clearCode};
 ghost use Rattle.state.specs.Checks.{checkNumber};
 ghost use Rattle.one_event.specs.Ready.{EventFits};
@@ -119,7 +119,7 @@ fn judge(
 ) -> Check
     ensures { λ r. ⌜ checkNumber r ≡ firstThatApplies (clearRules (now (cfg .entry)) code (lent (now (records .entry)) (now (debounce .entry)) (now (memory .entry)) board)) ⌝ }
 {
-    match state::begin(cfg, records, debounce, memory, board) {
+    match state::begin(cfg, records, debounce, memory, board, true) {
         Check::Go => judge_code(cfg, code),
         Check::Stop(refusal) => Check::Stop(refusal),
     }
@@ -135,7 +135,7 @@ pub fn clear(
     board: Board,
     code: u32,
 ) -> Returned
-    ensures { λ r. ⌜ leaves (ofAnswer (r .answer)) [] [] (lent (now (records .exit)) (now (debounce .exit)) (now (memory .exit)) (r .board)) ≡ clearCode (now (cfg .entry)) code (lent (now (records .entry)) (now (debounce .entry)) (now (memory .entry)) board) ⌝ }
+    ensures { λ r. ⌜ leaves (ofAnswer (r .answer)) [] alone (lent (now (records .exit)) (now (debounce .exit)) (now (memory .exit)) (r .board)) ≡ clearCode (now (cfg .entry)) code alone (lent (now (records .entry)) (now (debounce .entry)) (now (memory .entry)) board) ⌝ }
 {
     match judge(cfg, records, debounce, memory, board, code) {
         Check::Go => {

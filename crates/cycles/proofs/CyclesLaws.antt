@@ -14,7 +14,7 @@ use Rattle.manual.specs.Configuration.{Configuration, events, configOk}
 use Rattle.manual.specs.State.{State, recordWidth, runs, withCycle}
 use Rattle.manual.specs.WellFormed.{wellFormed}
 use Rattle.manual.specs.OneEvent.{happens, stops, forThose}
-use Rattle.manual.specs.Answers.{refused, done, firstThatApplies, numberOf}
+use Rattle.manual.specs.Answers.{alone, refused, done, firstThatApplies, numberOf}
 use Rattle.manual.specs.Calls.{begins, ofCycle, startRules, startCycle, stopRules, stopCycle}
 use Rattle.manual.proofs.AnswersLaws.{none-applies, goes-through, stops-with}
 use Rattle.manual.proofs.ConfigurationLaws.{config-tells}
@@ -27,7 +27,7 @@ use Rattle.one_event.proofs.TurnsLaws.{turn, ready-at-turn}
 
 -- ---- what a passed judgement gives
 
-module _ (cfg : Configuration) (s : State) (c : ℕ) (wrong : Bool) (z : firstThatApplies (begins cfg s (fourFive (ltb 3 c) wrong)) ≡ 0) where
+module _ (cfg : Configuration) (s : State) (c : ℕ) (wrong : Bool) (z : firstThatApplies (begins cfg s true (fourFive (ltb 3 c) wrong)) ≡ 0) where
   pub may-stop : MayStop cfg s c
   may-stop = record {
     configured = not-false (configOk cfg) (none-applies _ z refl 0);
@@ -51,20 +51,20 @@ stop-fits cfg s c m i h q =
 
 module _ (cfg : Configuration) (s : State) (c : ℕ) (wrong : Bool) where
   abbrev first : ℕ
-  first = firstThatApplies (begins cfg s (fourFive (ltb 3 c) wrong))
+  first = firstThatApplies (begins cfg s true (fourFive (ltb 3 c) wrong))
 
-  pub start-done : wrong ≡ runs (s .board) c → first ≡ 0 → {t : State} → t ≡ withCycle c true (forThose cfg (ofCycle cfg c) (happens cfg start) s) → done t ≡ startCycle cfg c s
+  pub start-done : wrong ≡ runs (s .board) c → first ≡ 0 → {t : State} → t ≡ withCycle c true (forThose cfg (ofCycle cfg c) (happens cfg start) s) → done alone t ≡ startCycle cfg c alone s
   unfolding startCycle startRules
-  start-done w z q = ap done q ∙ sym (goes-through _ [] s _ (rw w at z))
+  start-done w z q = ap (done alone) q ∙ sym (goes-through _ alone s _ (rw w at z))
 
-  pub start-refused : wrong ≡ runs (s .board) c → (r : Refusal) → numberOf r ≡ first → refused (numberOf r) [] s ≡ startCycle cfg c s
+  pub start-refused : wrong ≡ runs (s .board) c → (r : Refusal) → numberOf r ≡ first → refused (numberOf r) alone s ≡ startCycle cfg c alone s
   unfolding startCycle startRules
-  start-refused w r z = stops-with _ [] s _ r (rw w at z)
+  start-refused w r z = stops-with _ alone s _ r (rw w at z)
 
-  pub stop-done : wrong ≡ not (runs (s .board) c) → first ≡ 0 → {t : State} → t ≡ withCycle c false (forThose cfg (ofCycle cfg c) (stops cfg) s) → done t ≡ stopCycle cfg c s
+  pub stop-done : wrong ≡ not (runs (s .board) c) → first ≡ 0 → {t : State} → t ≡ withCycle c false (forThose cfg (ofCycle cfg c) (stops cfg) s) → done alone t ≡ stopCycle cfg c alone s
   unfolding stopCycle stopRules
-  stop-done w z q = ap done q ∙ sym (goes-through _ [] s _ (rw w at z))
+  stop-done w z q = ap (done alone) q ∙ sym (goes-through _ alone s _ (rw w at z))
 
-  pub stop-refused : wrong ≡ not (runs (s .board) c) → (r : Refusal) → numberOf r ≡ first → refused (numberOf r) [] s ≡ stopCycle cfg c s
+  pub stop-refused : wrong ≡ not (runs (s .board) c) → (r : Refusal) → numberOf r ≡ first → refused (numberOf r) alone s ≡ stopCycle cfg c alone s
   unfolding stopCycle stopRules
-  stop-refused w r z = stops-with _ [] s _ r (rw w at z)
+  stop-refused w r z = stops-with _ alone s _ r (rw w at z)

@@ -7,20 +7,20 @@ use lib.IntN.{ℤ}
 use Rattle.manual.specs.declared.Returned.{Returned}
 use Rattle.manual.specs.Configuration.{Configuration}
 use Rattle.manual.specs.State.{State, lent}
-use Rattle.manual.specs.Answers.{ofAnswer, leaves}
+use Rattle.manual.specs.Answers.{alone, ofAnswer, leaves}
 use Rattle.manual.specs.Calls.{startCycle, stopCycle}
 use Rattle.manual.proofs.OneOutcomeOnly.{same-returned, same-blocks}
 
 module _ (cfg : Configuration) (cycle : ℕ) (s : State) (r r′ : Returned) (records records′ : List ℕ) where
   -- `start` is lent the debounce numbers and the memory to be read only
   pub one-start :
-      leaves (ofAnswer (r .answer)) [] [] (lent records (s .debounce) (s .memory) (r .board)) ≡ startCycle cfg cycle s
-      → leaves (ofAnswer (r′ .answer)) [] [] (lent records′ (s .debounce) (s .memory) (r′ .board)) ≡ startCycle cfg cycle s
+      leaves (ofAnswer (r .answer)) [] alone (lent records (s .debounce) (s .memory) (r .board)) ≡ startCycle cfg cycle alone s
+      → leaves (ofAnswer (r′ .answer)) [] alone (lent records′ (s .debounce) (s .memory) (r′ .board)) ≡ startCycle cfg cycle alone s
       → (r ≡ r′) × (records ≡ records′)
   one-start p q = (same-returned r r′ p q, same-blocks p q .0)
 
   pub one-stop : (debounce debounce′ : List ℤ) (memory memory′ : List ℕ)
-      → leaves (ofAnswer (r .answer)) [] [] (lent records debounce memory (r .board)) ≡ stopCycle cfg cycle s
-      → leaves (ofAnswer (r′ .answer)) [] [] (lent records′ debounce′ memory′ (r′ .board)) ≡ stopCycle cfg cycle s
+      → leaves (ofAnswer (r .answer)) [] alone (lent records debounce memory (r .board)) ≡ stopCycle cfg cycle alone s
+      → leaves (ofAnswer (r′ .answer)) [] alone (lent records′ debounce′ memory′ (r′ .board)) ≡ stopCycle cfg cycle alone s
       → (r ≡ r′) × ((records ≡ records′) × ((debounce ≡ debounce′) × (memory ≡ memory′)))
   one-stop debounce debounce′ memory memory′ p q = (same-returned r r′ p q, same-blocks p q)

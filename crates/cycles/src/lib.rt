@@ -16,7 +16,7 @@ ghost use Rattle.history.specs.History.{start};
 ghost use Rattle.manual.specs.declared.Board.{Board};
 ghost use Rattle.manual.specs.State.{recordWidth, lent, withCycle};
 ghost use Rattle.manual.specs.OneEvent.{happens, stops, forThose};
-ghost use Rattle.manual.specs.Answers.{refused, done, firstThatApplies, numberOf, ofAnswer, leaves};
+ghost use Rattle.manual.specs.Answers.{alone, refused, done, firstThatApplies, numberOf, ofAnswer, leaves};
 ghost use Rattle.manual.specs.Calls.{begins, ofCycle, startCycle, stopCycle};
 ghost use Rattle.state.specs.Checks.{checkNumber};
 ghost use Rattle.state.specs.Fits.{RecordsFor};
@@ -51,9 +51,9 @@ fn judge(
     cycle: u32,
     wrong: bool,
 ) -> Check
-    ensures { λ r. ⌜ checkNumber r ≡ firstThatApplies (begins (now (cfg .entry)) (lent (now (records .entry)) (now (debounce .entry)) (now (memory .entry)) board) (fourFive (ltb 3 cycle) wrong)) ⌝ }
+    ensures { λ r. ⌜ checkNumber r ≡ firstThatApplies (begins (now (cfg .entry)) (lent (now (records .entry)) (now (debounce .entry)) (now (memory .entry)) board) true (fourFive (ltb 3 cycle) wrong)) ⌝ }
 {
-    match state::begin(cfg, records, debounce, memory, board) {
+    match state::begin(cfg, records, debounce, memory, board, true) {
         Check::Go => four_five(LAST_CYCLE < cycle, wrong),
         Check::Stop(refusal) => Check::Stop(refusal),
     }
@@ -61,7 +61,7 @@ fn judge(
 
 // "A refusal changes nothing lent and hands back the board it was given"
 fn refused(refusal: Refusal, given: Board) -> Returned
-    ensures { λ r. ⌜ ((records : List ℕ) (d : List ℤ) (m : List ℕ) → leaves (ofAnswer (r .answer)) [] [] (lent records d m (r .board)) ≡ refused (numberOf refusal) [] (lent records d m given)) ⌝ }
+    ensures { λ r. ⌜ ((records : List ℕ) (d : List ℤ) (m : List ℕ) → leaves (ofAnswer (r .answer)) [] alone (lent records d m (r .board)) ≡ refused (numberOf refusal) alone (lent records d m given)) ⌝ }
 {
     Returned {
         answer: Answer::Refused(refusal),
@@ -71,7 +71,7 @@ fn refused(refusal: Refusal, given: Board) -> Returned
 
 // "0 | done"
 fn done(board: Board) -> Returned
-    ensures { λ r. ⌜ ((records : List ℕ) (d : List ℤ) (m : List ℕ) → leaves (ofAnswer (r .answer)) [] [] (lent records d m (r .board)) ≡ done (lent records d m board)) ⌝ }
+    ensures { λ r. ⌜ ((records : List ℕ) (d : List ℤ) (m : List ℕ) → leaves (ofAnswer (r .answer)) [] alone (lent records d m (r .board)) ≡ done alone (lent records d m board)) ⌝ }
 {
     Returned {
         answer: Answer::Done,
@@ -134,7 +134,7 @@ pub fn start(
     board: Board,
     cycle: u32,
 ) -> Returned
-    ensures { λ r. ⌜ leaves (ofAnswer (r .answer)) [] [] (lent (now (records .exit)) (now (debounce .entry)) (now (memory .entry)) (r .board)) ≡ startCycle (now (cfg .entry)) cycle (lent (now (records .entry)) (now (debounce .entry)) (now (memory .entry)) board) ⌝ }
+    ensures { λ r. ⌜ leaves (ofAnswer (r .answer)) [] alone (lent (now (records .exit)) (now (debounce .entry)) (now (memory .entry)) (r .board)) ≡ startCycle (now (cfg .entry)) cycle alone (lent (now (records .entry)) (now (debounce .entry)) (now (memory .entry)) board) ⌝ }
 {
     let wrong = state::runs(board, cycle as usize);
     match judge(cfg, records, debounce, memory, board, cycle, wrong) {
@@ -189,7 +189,7 @@ pub fn stop(
     board: Board,
     cycle: u32,
 ) -> Returned
-    ensures { λ r. ⌜ leaves (ofAnswer (r .answer)) [] [] (lent (now (records .exit)) (now (debounce .exit)) (now (memory .exit)) (r .board)) ≡ stopCycle (now (cfg .entry)) cycle (lent (now (records .entry)) (now (debounce .entry)) (now (memory .entry)) board) ⌝ }
+    ensures { λ r. ⌜ leaves (ofAnswer (r .answer)) [] alone (lent (now (records .exit)) (now (debounce .exit)) (now (memory .exit)) (r .board)) ≡ stopCycle (now (cfg .entry)) cycle alone (lent (now (records .entry)) (now (debounce .entry)) (now (memory .entry)) board) ⌝ }
 {
     let wrong = !state::runs(board, cycle as usize);
     match judge(cfg, records, debounce, memory, board, cycle, wrong) {

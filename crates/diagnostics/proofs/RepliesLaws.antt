@@ -14,7 +14,7 @@ use borrow.Author.Tests.{eq-eqb, ne-eqb}
 use Rattle.manual.specs.Words.{countBelow, firstOf, two}
 use Rattle.manual.specs.Configuration.{Configuration, events, configOk}
 use Rattle.manual.specs.State.{State}
-use Rattle.manual.specs.Answers.{Outcome}
+use Rattle.manual.specs.Answers.{lentRoom, Outcome}
 use Rattle.manual.specs.Diagnostics.{Reply, positive, negative, replyBytes, SubFunction, subFunction, fitted, line, lines, maskOf, numberByMask, listByMask, listAll, subFunctions, suppresses, subFunctionReply, service19, sent}
 use Rattle.manual.proofs.ConfigurationLaws.{config-tells}
 use Rattle.writing.specs.Writing.{written, append}
@@ -28,14 +28,14 @@ use Rattle.diagnostics.proofs.BelowLaws.{count-most, join-length}
 -- ---- bytes written from the front of the room are sent
 
 module _ (cfg : Configuration) (bytes room : List ℕ) (s : State) where
-  pub written-is-sent : {size : ℕ} {after : List ℕ} → length bytes ≤ length room → written size after ≡ append bytes (written 0 room) → sentIs size after s ≡ sent cfg bytes room s
+  pub written-is-sent : {size : ℕ} {after : List ℕ} → length bytes ≤ length room → written size after ≡ append bytes (written 0 room) → sentIs size after s ≡ sent cfg bytes (lentRoom room) s
   unfolding append sent
   written-is-sent h e =
       let front : sets room 0 bytes ≡ bytes ++ drop (length bytes) room = sets-eq bytes room 0 (omega arith) ∙ ap (λ k. bytes ++ drop k room) (zero-add (length bytes)) in
       ap (λ w. sentIs (w .next) (w .room) s) e ∙ (λ i. sentIs (zero-add (length bytes) i) (front i) s)
 
 -- a reply of length 0 leaves the room
-pub nothing-is-sent : (cfg : Configuration) (room : List ℕ) (s : State) → sentIs 0 room s ≡ sent cfg [] room s
+pub nothing-is-sent : (cfg : Configuration) (room : List ℕ) (s : State) → sentIs 0 room s ≡ sent cfg [] (lentRoom room) s
 unfolding sent
 nothing-is-sent cfg room s = refl
 
@@ -68,10 +68,10 @@ module _ {wrong suppressed long : Bool} where
 module _ (cfg : Configuration) (room : List ℕ) (s : State) where
   -- this outcome is that of sending this reply
   abbrev pub Sends : Outcome → Reply → Type 0
-  Sends o reply = o ≡ sent cfg (replyBytes 0x19 reply) room s
+  Sends o reply = o ≡ sent cfg (replyBytes 0x19 reply) (lentRoom room) s
 
   pub by-reply : {given wanted : Reply} {o : Outcome} → given ≡ wanted → Sends o given → Sends o wanted
-  by-reply e p = p ∙ ap (λ r. sent cfg (replyBytes 0x19 r) room s) e
+  by-reply e p = p ∙ ap (λ r. sent cfg (replyBytes 0x19 r) (lentRoom room) s) e
 
   -- a sub-function, by the turn that its tests give
   pub by-turn : (f : SubFunction) (request bytes : List ℕ) {o : Outcome} {wrong suppressed long : Bool} {turn taken : Turn}
@@ -111,33 +111,36 @@ module _ (cfg : Configuration) where
   pub number-most : configOk cfg ≡ true → (f : ℕ → Bool) {number : ℕ} → number ≡ countBelow (events cfg) f → number ≤ 512
   number-most ok f e = let t = config-tells cfg ok in omega (arith, count-most f (events cfg))
 
-  -- they are read off the records alone
-  module _ (s : State) {records : List ℕ} (q : s .records ≡ records) where
-    pub number-in : (asked : Asked) → countBelow (events cfg) (asks cfg asked s) ≡ countBelow (events cfg) (asks cfg asked (holding records))
+  -- they are read off the records and the debounce numbers alone
+  module _ (s : State) where
+    abbrev read : State
+    read = holding (s .records) (s .debounce)
+
+    pub number-in : (asked : Asked) → countBelow (events cfg) (asks cfg asked s) ≡ countBelow (events cfg) (asks cfg asked read)
     number-in All = refl
-    number-in (Matching mask) = ap (λ r. countBelow (events cfg) (asks cfg (Matching mask) (holding r))) q
+    number-in (Matching mask) = refl
 
-    pub lines-in : (asked : Asked) → linesAsked cfg asked s ≡ linesAsked cfg asked (holding records)
+    pub lines-in : (asked : Asked) → linesAsked cfg asked s ≡ linesAsked cfg asked read
     unfolding lines
-    lines-in All = ap (λ r. linesAsked cfg All (holding r)) q
-    lines-in (Matching mask) = ap (λ r. linesAsked cfg (Matching mask) (holding r)) q
+    lines-in All = refl
+    lines-in (Matching mask) = refl
 
-    number-reply : (request : List ℕ) {mask number : ℕ} → mask ≡ maskOf cfg request → number ≡ countBelow (events cfg) (asks cfg (Matching mask) (holding records)) → numberByMask cfg request s ≡ positive (0x59 ∷ 0x01 ∷ 0xFF ∷ 0x01 ∷ two number)
+    number-reply : (request : List ℕ) {mask number : ℕ} → mask ≡ maskOf cfg request → number ≡ countBelow (events cfg) (asks cfg (Matching mask) read) → numberByMask cfg request s ≡ positive (0x59 ∷ 0x01 ∷ 0xFF ∷ 0x01 ∷ two number)
     unfolding numberByMask
     number-reply request m e =
         ap (λ k. positive (0x59 ∷ 0x01 ∷ 0xFF ∷ 0x01 ∷ two k))
-        (number-in (Matching (maskOf cfg request)) ∙ sym (e ∙ ap (λ k. countBelow (events cfg) (asks cfg (Matching k) (holding records))) m))
+        (number-in (Matching (maskOf cfg request)) ∙ sym (e ∙ ap (λ k. countBelow (events cfg) (asks cfg (Matching k) read)) m))
 
-    pub list-length : (sub : ℕ) (asked : Asked) {number : ℕ} → number ≡ countBelow (events cfg) (asks cfg asked (holding records)) → length (0x59 ∷ sub ∷ 0xFF ∷ linesAsked cfg asked s) ≡ 3 + 4 * number
+    pub list-length : (sub : ℕ) (asked : Asked) {number : ℕ} → number ≡ countBelow (events cfg) (asks cfg asked read) → length (0x59 ∷ sub ∷ 0xFF ∷ linesAsked cfg asked s) ≡ 3 + 4 * number
     list-length sub asked e = let l = lines-length asked s ∙ ap (λ k. 4 * k) (number-in asked ∙ sym e) in omega arith
 
     -- the tests of 01, and of a sub-function that lists
     module _ (request : List ℕ) (room : ℕ) {suppressed : Bool} (p : suppressed ≡ suppresses cfg request) where
-      pub number-tests : {mask number : ℕ} → mask ≡ maskOf cfg request → number ≡ countBelow (events cfg) (asks cfg (Matching mask) (holding records))
+      pub number-tests : {mask number : ℕ} → mask ≡ maskOf cfg request → number ≡ countBelow (events cfg) (asks cfg (Matching mask) read)
           → Tests cfg (subFunction 0x01 3 (numberByMask cfg)) request room s (0x59 ∷ 0x01 ∷ 0xFF ∷ 0x01 ∷ two number) (not (eqb (length request) 3)) suppressed (ltb room 6)
       number-tests m e = record { length-is = refl; suppressed-is = p; bytes-are = number-reply request m e; long-is = refl }
 
-      pub list-tests : (sub size : ℕ) (asked : Asked) {number : ℕ} → number ≡ countBelow (events cfg) (asks cfg asked (holding records))
+      pub list-tests : (sub size : ℕ) (asked : Asked) {number : ℕ} → number ≡ countBelow (events cfg) (asks cfg asked read)
           → Tests cfg (listing cfg sub size asked) request room s (0x59 ∷ sub ∷ 0xFF ∷ linesAsked cfg asked s) (not (eqb (length request) size)) suppressed (ltb room (3 + 4 * number))
       list-tests sub size asked e = record {
         length-is = refl;

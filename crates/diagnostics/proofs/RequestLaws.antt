@@ -13,7 +13,7 @@ use Rattle.manual.specs.Words.{threeAt}
 use Rattle.manual.specs.Configuration.{Configuration, configOk}
 use Rattle.manual.specs.State.{State}
 use Rattle.manual.specs.WellFormed.{wellFormed}
-use Rattle.manual.specs.Answers.{Outcome, firstThatApplies, numberOf, ofLength, leaves}
+use Rattle.manual.specs.Answers.{lentRoom, Outcome, firstThatApplies, numberOf, ofLength, leaves}
 use Rattle.manual.specs.Calls.{unknownCode, cleared}
 use Rattle.manual.specs.Diagnostics.{positive, negative, replyBytes, served, service19, service14, servedBy, sent, replied, requestRules, requestReply}
 use Rattle.manual.proofs.AnswersLaws.{none-applies, goes-through, stops-with}
@@ -42,32 +42,32 @@ module _ (cfg : Configuration) (request : List ℕ) (s : State) where
 
 -- its reply, and the state after it
 module _ (cfg : Configuration) (request room : List ℕ) (s : State) where
-  pub replies-54 : (code : ℕ) {size : ℕ} {after : List ℕ} → 3 ≤ length room → written size after ≡ append (0x54 ∷ []) (written 0 room) → served (positive (0x54 ∷ [])) (cleared cfg code s) ≡ service14 cfg request s → sentIs 1 after (cleared cfg code s) ≡ replied cfg 0x14 room (service14 cfg request s)
+  pub replies-54 : (code : ℕ) {size : ℕ} {after : List ℕ} → 3 ≤ length room → written size after ≡ append (0x54 ∷ []) (written 0 room) → served (positive (0x54 ∷ [])) (cleared cfg code s) ≡ service14 cfg request s → sentIs 1 after (cleared cfg code s) ≡ replied cfg 0x14 (lentRoom room) (service14 cfg request s)
   replies-54 code {after} h e p =
       ap (λ k. sentIs k after (cleared cfg code s)) (sym (append-next (0x54 ∷ []) (written 0 room) e))
       ∙ written-is-sent cfg (0x54 ∷ []) room (cleared cfg code s) (omega arith) e
-      ∙ ap (replied cfg 0x14 room) p
+      ∙ ap (replied cfg 0x14 (lentRoom room)) p
 
-  pub replies-negative : (code : ℕ) {o : Outcome} → o ≡ sent cfg (replyBytes 0x14 (negative code)) room s → served (negative code) s ≡ service14 cfg request s → o ≡ replied cfg 0x14 room (service14 cfg request s)
-  replies-negative code e p = e ∙ ap (replied cfg 0x14 room) p
+  pub replies-negative : (code : ℕ) {o : Outcome} → o ≡ sent cfg (replyBytes 0x14 (negative code)) (lentRoom room) s → served (negative code) s ≡ service14 cfg request s → o ≡ replied cfg 0x14 (lentRoom room) (service14 cfg request s)
+  replies-negative code e p = e ∙ ap (replied cfg 0x14 (lentRoom room)) p
 
 -- ---- the service
 
 module _ (cfg : Configuration) (request room : List ℕ) (s : State) where
   -- this outcome is that of serving the request
   abbrev pub Serves : Outcome → Type 0
-  Serves o = o ≡ replied cfg (getD request 0 0) room (servedBy cfg request (length room) s)
+  Serves o = o ≡ replied cfg (getD request 0 0) (lentRoom room) (servedBy cfg request (length room) s)
 
   module _ {o : Outcome} {service : ℕ} (first : service ≡ getD request 0 0) where
-    pub serves-19 : service ≡ 0x19 → o ≡ replied cfg 0x19 room (served (service19 cfg request (length room) s) s) → Serves o
+    pub serves-19 : service ≡ 0x19 → o ≡ replied cfg 0x19 (lentRoom room) (served (service19 cfg request (length room) s) s) → Serves o
     unfolding servedBy
     serves-19 e p = rw (← first, e) p
 
-    pub serves-14 : service ≡ 0x14 → o ≡ replied cfg 0x14 room (service14 cfg request s) → Serves o
+    pub serves-14 : service ≡ 0x14 → o ≡ replied cfg 0x14 (lentRoom room) (service14 cfg request s) → Serves o
     unfolding servedBy
     serves-14 e p = rw (← first, e) p
 
-    pub serves-no-other : service ≢ 0x19 → service ≢ 0x14 → o ≡ sent cfg (replyBytes service (negative 0x11)) room s → Serves o
+    pub serves-no-other : service ≢ 0x19 → service ≢ 0x14 → o ≡ sent cfg (replyBytes service (negative 0x11)) (lentRoom room) s → Serves o
     unfolding servedBy
     serves-no-other a b p = rw (← first, ne-eqb _ _ a, ne-eqb _ _ b) p
 
@@ -75,15 +75,15 @@ module _ (cfg : Configuration) (request room : List ℕ) (s : State) where
 
 module _ (cfg : Configuration) (request room : List ℕ) (s : State) where
   -- a request that nothing refuses: its reply
-  pub replied-is : {after : List ℕ} (size : ℕ) {service : Service} → service ≡ Replied size → Serves cfg request room s (serviceIs cfg service after s) → Serves cfg request room s (leaves (ofLength (Written size)) [] after s)
+  pub replied-is : {after : List ℕ} (size : ℕ) {service : Service} → service ≡ Replied size → Serves cfg request room s (serviceIs cfg service after s) → Serves cfg request room s (leaves (ofLength (Written size)) [] (lentRoom after) s)
   replied-is {after} size e p = ap (λ (k : Service). serviceIs cfg k after s) (sym e) ∙ p
 
   -- and the clear that service 14 asks for
-  pub cleared-is : {after : List ℕ} (code : ℕ) {service : Service} {t : State} → service ≡ Clear code → t ≡ cleared cfg code s → Serves cfg request room s (serviceIs cfg service after s) → Serves cfg request room s (leaves (ofLength (Written 1)) [] after t)
+  pub cleared-is : {after : List ℕ} (code : ℕ) {service : Service} {t : State} → service ≡ Clear code → t ≡ cleared cfg code s → Serves cfg request room s (serviceIs cfg service after s) → Serves cfg request room s (leaves (ofLength (Written 1)) [] (lentRoom after) t)
   cleared-is {after} code e q p = ap (sentIs 1 after) q ∙ ap (λ (k : Service). serviceIs cfg k after s) (sym e) ∙ p
 
   -- what it may count on
-  pub may-serve : firstThatApplies (requestRules cfg request room s) ≡ 0 → Accepted cfg room × (wellFormed cfg s ≡ true)
+  pub may-serve : firstThatApplies (requestRules cfg request (lentRoom room) s) ≡ 0 → Accepted cfg room × (wellFormed cfg s ≡ true)
   unfolding requestRules
   may-serve z = (
     record {
@@ -93,10 +93,10 @@ module _ (cfg : Configuration) (request room : List ℕ) (s : State) where
     not-false _ (none-applies _ z refl 1),
   )
 
-  pub request-done : {o : Outcome} → firstThatApplies (requestRules cfg request room s) ≡ 0 → Serves cfg request room s o → o ≡ requestReply cfg request room s
+  pub request-done : {o : Outcome} → firstThatApplies (requestRules cfg request (lentRoom room) s) ≡ 0 → Serves cfg request room s o → o ≡ requestReply cfg request (lentRoom room) s
   unfolding requestReply
   request-done z p = p ∙ sym (goes-through _ _ _ _ z)
 
-  pub request-refused : (r : Refusal) → numberOf r ≡ firstThatApplies (requestRules cfg request room s) → leaves (ofLength (Refused r)) [] room s ≡ requestReply cfg request room s
+  pub request-refused : (r : Refusal) → numberOf r ≡ firstThatApplies (requestRules cfg request (lentRoom room) s) → leaves (ofLength (Refused r)) [] (lentRoom room) s ≡ requestReply cfg request (lentRoom room) s
   unfolding requestReply
-  request-refused r e = stops-with _ room s _ r e
+  request-refused r e = stops-with _ (lentRoom room) s _ r e

@@ -4,12 +4,14 @@ use mathlib.Core.Bool.{Bool, true, false, not, cond}
 use mathlib.Core.List.{List, [], _∷_}
 use mathlib.Core.Option.{some}
 use Prim.Native.Nat.{ℕ, _+_, _<_, _≤_}
+use lib.IntN.{ℤ}
 use lib.Dec.{eqb, ltb}
 use lib.ListN.{length}
+use Rattle.manual.specs.declared.Board.{Board}
 use Rattle.manual.specs.declared.Verdict.the-variants.{None}
 use Rattle.manual.specs.Configuration.{Configuration, events, configOk}
-use Rattle.manual.specs.State.{State, allStopped}
-use Rattle.manual.specs.Answers.{Outcome}
+use Rattle.manual.specs.State.{State, lent, allStopped}
+use Rattle.manual.specs.Answers.{lentRoom, Outcome}
 use Rattle.manual.specs.Calls.{cleared}
 use Rattle.manual.specs.Diagnostics.{Reply, positive, negative, Served, served, SubFunction, subFunction, matches, line, lines, suppresses, subFunctionReply, replied}
 use Rattle.diagnostics.specs.declared.Asked.{Asked}
@@ -21,19 +23,19 @@ use Rattle.diagnostics.specs.declared.ClearRequest.the-variants.{Clear, 
 use Rattle.diagnostics.specs.declared.Service.{Service}
 use Rattle.diagnostics.specs.declared.Service.the-variants.{Replied}
 
--- ---- a reply reads nothing of the state but its records
+-- ---- a reply reads nothing of the state but its records, its debounce numbers and its memory
 
--- what is promised of it holds in every state with these records
-abbrev pub InStatesWith : List ℕ → (State → Type 0) → Type 0
-InStatesWith records P = (s : State) → s .records ≡ records → P s
+-- what is promised of it holds in every state with these, whatever its board
+abbrev pub InStatesWith : List ℕ → List ℤ → List ℕ → (State → Type 0) → Type 0
+InStatesWith records debounce memory P = (b : Board) → P (lent records debounce memory b)
 
--- and its parts are those in this one
-abbrev pub holding : List ℕ → State
-holding records = record { records = records; debounce = []; memory = []; board = record { running = allStopped; overflow = false } }
+-- which events it counts or lists, and their lines, are those in this state: they are read without memory and board
+abbrev pub holding : List ℕ → List ℤ → State
+holding records debounce = lent records debounce [] (record { running = allStopped; overflow = false })
 
 -- a reply of this length was sent, and the room and the state are these
 abbrev pub sentIs : ℕ → List ℕ → State → Outcome
-sentIs size room s = record { answer = 0; verdict = None; value = size; part = []; room = room; state = s }
+sentIs size room s = record { answer = 0; verdict = None; value = size; part = []; beside = lentRoom room; state = s }
 
 module _ (cfg : Configuration) where
   -- ---- the events that a reply lists or counts
@@ -70,7 +72,7 @@ module _ (cfg : Configuration) where
 
   -- what a sub-function leaves
   abbrev pub subFunctionOutcome : SubFunction → List ℕ → List ℕ → State → Outcome
-  subFunctionOutcome f request room s = replied cfg 0x19 room (served (subFunctionReply cfg (some f) request (length room) s) s)
+  subFunctionOutcome f request room s = replied cfg 0x19 (lentRoom room) (served (subFunctionReply cfg (some f) request (length room) s) s)
 
   -- a sub-function whose reply lists the events that are asked for
   abbrev pub listing : ℕ → ℕ → Asked → SubFunction

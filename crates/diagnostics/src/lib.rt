@@ -14,7 +14,7 @@ ghost use Rattle.manual.specs.Words.{countBelow, threeAt};
 ghost use Rattle.manual.specs.Configuration.{Configuration, events, configOk};
 ghost use Rattle.manual.specs.State.{State, lent};
 ghost use Rattle.manual.specs.WellFormed.{wellFormed};
-ghost use Rattle.manual.specs.Answers.{_if_, firstThatApplies, ofLength, leaves};
+ghost use Rattle.manual.specs.Answers.{lentRoom, _if_, firstThatApplies, ofLength, leaves};
 ghost use Rattle.manual.specs.Diagnostics.{negative, replyBytes, served, subFunction, line, maskOf, suppresses, numberByMask, listByMask, listAll, service19, service14, servedBy, sent, replied, requestRules, requestReply};
 ghost use Rattle.state.specs.Checks.{checkNumber};
 ghost use Rattle.writing.specs.Writing.{written, append};
@@ -99,8 +99,8 @@ fn code_in(request: &[u8]) -> u32
 // ---- the events that a reply lists or counts
 
 // "An event matches if status and mask share a set bit."
-fn is_asked(records: &[u8], event: EventNumber, asked: Asked) -> bool
-    ensures { λ r. ⌜ ((cfg : Configuration) → r ≡ asks cfg asked (holding (now (records .entry))) (event .0)) ⌝ }
+fn is_asked(records: &[u8], debounce: &[i32], event: EventNumber, asked: Asked) -> bool
+    ensures { λ r. ⌜ ((cfg : Configuration) → r ≡ asks cfg asked (holding (now (records .entry)) (now (debounce .entry))) (event .0)) ⌝ }
 {
     let status = status::status_of(records, event);
     match asked {
@@ -118,14 +118,17 @@ fn one_more_if(test: bool, number: usize) -> usize
 }
 
 // The number of events that are asked for.
-fn number_asked(cfg: &[i32], records: &[u8], asked: Asked) -> usize
+fn number_asked(cfg: &[i32], records: &[u8], debounce: &[i32], asked: Asked) -> usize
     requires { ⌜ configOk (now cfg) ≡ true ⌝ }
-    ensures { λ r. ⌜ r ≡ countBelow (events (now (cfg .entry))) (asks (now (cfg .entry)) asked (holding (now (records .entry)))) ⌝ }
+    ensures { λ r. ⌜ r ≡ countBelow (events (now (cfg .entry))) (asks (now (cfg .entry)) asked (holding (now (records .entry)) (now (debounce .entry)))) ⌝ }
 {
     let n = config::events(cfg);
     let mut number = 0;
     for event in 0..n {
-        number = one_more_if(is_asked(records, EventNumber(event), asked), number);
+        number = one_more_if(
+            is_asked(records, debounce, EventNumber(event), asked),
+            number,
+        );
     }
     number
 }
@@ -135,7 +138,7 @@ fn number_asked(cfg: &[i32], records: &[u8], asked: Asked) -> usize
 // "Negative reply: 7F, request's first byte, code"
 fn negative(service: u8, code: u8, room: &mut [u8]) -> usize
     requires { ⌜ 3 ≤ length (now room) ⌝ }
-    ensures { λ r. ⌜ ((cfg : Configuration) (s : State) → sentIs r (now (room .exit)) s ≡ sent cfg (replyBytes service (negative code)) (now (room .entry)) s) ⌝ }
+    ensures { λ r. ⌜ ((cfg : Configuration) (s : State) → sentIs r (now (room .exit)) s ≡ sent cfg (replyBytes service (negative code)) (lentRoom (now (room .entry))) s) ⌝ }
 {
     writing::write(room, 0, &[0x7F, service, code])
 }
@@ -143,9 +146,16 @@ fn negative(service: u8, code: u8, room: &mut [u8]) -> usize
 // "trouble code (3 bytes high first) and status"
 const LINE_WIDTH: usize = 4;
 
-fn write_line(cfg: &[i32], records: &[u8], event: EventNumber, room: &mut [u8], at: usize) -> usize
-    requires { ⌜ EventFits (now cfg) (event .0) at (line (now cfg) (holding (now records)) (event .0)) (now room) ⌝ }
-    ensures { λ r. ⌜ written r (now (room .exit)) ≡ append (line (now (cfg .entry)) (holding (now (records .entry))) (event .0)) (written at (now (room .entry))) ⌝ }
+fn write_line(
+    cfg: &[i32],
+    records: &[u8],
+    debounce: &[i32],
+    event: EventNumber,
+    room: &mut [u8],
+    at: usize,
+) -> usize
+    requires { ⌜ EventFits (now cfg) (event .0) at (line (now cfg) (holding (now records) (now debounce)) (event .0)) (now room) ⌝ }
+    ensures { λ r. ⌜ written r (now (room .exit)) ≡ append (line (now (cfg .entry)) (holding (now (records .entry)) (now (debounce .entry))) (event .0)) (written at (now (room .entry))) ⌝ }
 {
     let code = config::code_of(cfg, event);
     let high = (code / 65536) as u8;
@@ -159,29 +169,45 @@ fn write_line(cfg: &[i32], records: &[u8], event: EventNumber, room: &mut [u8], 
 fn write_line_if_asked(
     cfg: &[i32],
     records: &[u8],
+    debounce: &[i32],
     event: EventNumber,
     asked: Asked,
     room: &mut [u8],
     at: usize,
 ) -> usize
-    requires { ⌜ EventFits (now cfg) (event .0) at (lineIfAsked (now cfg) asked (holding (now records)) (event .0)) (now room) ⌝ }
-    ensures { λ r. ⌜ written r (now (room .exit)) ≡ append (lineIfAsked (now (cfg .entry)) asked (holding (now (records .entry))) (event .0)) (written at (now (room .entry))) ⌝ }
+    requires { ⌜ EventFits (now cfg) (event .0) at (lineIfAsked (now cfg) asked (holding (now records) (now debounce)) (event .0)) (now room) ⌝ }
+    ensures { λ r. ⌜ written r (now (room .exit)) ≡ append (lineIfAsked (now (cfg .entry)) asked (holding (now (records .entry)) (now (debounce .entry))) (event .0)) (written at (now (room .entry))) ⌝ }
 {
-    if is_asked(records, event, asked) {
-        return write_line(cfg, records, event, room, at);
+    if is_asked(records, debounce, event, asked) {
+        return write_line(cfg, records, debounce, event, room, at);
     }
     at
 }
 
 // The lines of the events that are asked for, "rising".
-fn write_lines(cfg: &[i32], records: &[u8], asked: Asked, room: &mut [u8], at: usize) -> usize
-    requires { ⌜ BytesFit (now cfg) at (linesAsked (now cfg) asked (holding (now records))) (now room) ⌝ }
-    ensures { λ r. ⌜ written r (now (room .exit)) ≡ append (linesAsked (now (cfg .entry)) asked (holding (now (records .entry)))) (written at (now (room .entry))) ⌝ }
+fn write_lines(
+    cfg: &[i32],
+    records: &[u8],
+    debounce: &[i32],
+    asked: Asked,
+    room: &mut [u8],
+    at: usize,
+) -> usize
+    requires { ⌜ BytesFit (now cfg) at (linesAsked (now cfg) asked (holding (now records) (now debounce))) (now room) ⌝ }
+    ensures { λ r. ⌜ written r (now (room .exit)) ≡ append (linesAsked (now (cfg .entry)) asked (holding (now (records .entry)) (now (debounce .entry)))) (written at (now (room .entry))) ⌝ }
 {
     let n = config::events(cfg);
     let mut next = at;
     for event in 0..n {
-        next = write_line_if_asked(cfg, records, EventNumber(event), asked, room, next);
+        next = write_line_if_asked(
+            cfg,
+            records,
+            debounce,
+            EventNumber(event),
+            asked,
+            room,
+            next,
+        );
     }
     next
 }
@@ -206,11 +232,18 @@ fn turn_of(wrong_length: bool, suppressed: bool, too_long: bool) -> Turn
 }
 
 // "01 mask: `59 01 FF 01` and the number of matching events, 2 bytes high first."
-fn number_by_mask(cfg: &[i32], records: &[u8], request: &[u8], room: &mut [u8]) -> usize
+fn number_by_mask(
+    cfg: &[i32],
+    records: &[u8],
+    debounce: &[i32],
+    memory: &[u8],
+    request: &[u8],
+    room: &mut [u8],
+) -> usize
     requires { ⌜ Accepted (now cfg) (now room) ⌝ }
     ensures { λ r.
         ⌜
-        InStatesWith (now (records .entry))
+        InStatesWith (now (records .entry)) (now (debounce .entry)) (now (memory .entry))
         (λ s. sentIs r (now (room .exit)) s
         ≡ subFunctionOutcome (now (cfg .entry)) (subFunction 0x01 3 (numberByMask (now (cfg .entry)))) (now (request .entry)) (now (room .entry)) s)
         ⌝ }
@@ -219,7 +252,7 @@ fn number_by_mask(cfg: &[i32], records: &[u8], request: &[u8], room: &mut [u8]) 
         Turn::Negative(code) => negative(0x19, code, room),
         Turn::Suppressed => 0,
         Turn::Write => {
-            let number = number_asked(cfg, records, Asked::Matching(mask_of(request)));
+            let number = number_asked(cfg, records, debounce, Asked::Matching(mask_of(request)));
             let high = (number / 256) as u8;
             let low = (number % 256) as u8;
             writing::write(room, 0, &[0x59, 0x01, 0xFF, 0x01, high, low])
@@ -232,6 +265,8 @@ fn number_by_mask(cfg: &[i32], records: &[u8], request: &[u8], room: &mut [u8]) 
 fn list_asked(
     cfg: &[i32],
     records: &[u8],
+    debounce: &[i32],
+    memory: &[u8],
     request: &[u8],
     sub_function: u8,
     size: usize,
@@ -241,57 +276,98 @@ fn list_asked(
     requires { ⌜ Accepted (now cfg) (now room) ⌝ }
     ensures { λ r.
         ⌜
-        InStatesWith (now (records .entry))
+        InStatesWith (now (records .entry)) (now (debounce .entry)) (now (memory .entry))
         (λ s. sentIs r (now (room .exit)) s
         ≡ subFunctionOutcome (now (cfg .entry)) (listing (now (cfg .entry)) «sub_function» size asked) (now (request .entry)) (now (room .entry)) s)
         ⌝ }
 {
-    let too_long = room.len() < 3 + LINE_WIDTH * number_asked(cfg, records, asked);
+    let too_long = room.len() < 3 + LINE_WIDTH * number_asked(cfg, records, debounce, asked);
     match turn_of(request.len() != size, suppresses(request), too_long) {
         Turn::Negative(code) => negative(0x19, code, room),
         Turn::Suppressed => 0,
         Turn::Write => {
             let at = writing::write(room, 0, &[0x59, sub_function, 0xFF]);
-            write_lines(cfg, records, asked, room, at)
+            write_lines(cfg, records, debounce, asked, room, at)
         }
     }
 }
 
 // "02 mask: `59 02 FF`, then per matching event trouble code (3 bytes high first) and status, rising."
-fn list_by_mask(cfg: &[i32], records: &[u8], request: &[u8], room: &mut [u8]) -> usize
+fn list_by_mask(
+    cfg: &[i32],
+    records: &[u8],
+    debounce: &[i32],
+    memory: &[u8],
+    request: &[u8],
+    room: &mut [u8],
+) -> usize
     requires { ⌜ Accepted (now cfg) (now room) ⌝ }
     ensures { λ r.
         ⌜
-        InStatesWith (now (records .entry))
+        InStatesWith (now (records .entry)) (now (debounce .entry)) (now (memory .entry))
         (λ s. sentIs r (now (room .exit)) s
         ≡ subFunctionOutcome (now (cfg .entry)) (subFunction 0x02 3 (listByMask (now (cfg .entry)))) (now (request .entry)) (now (room .entry)) s)
         ⌝ }
 {
     let asked = Asked::Matching(mask_of(request));
-    list_asked(cfg, records, request, 0x02, 3, asked, room)
+    list_asked(
+        cfg,
+        records,
+        debounce,
+        memory,
+        request,
+        0x02,
+        3,
+        asked,
+        room,
+    )
 }
 
 // "0A: `59 0A FF`, then all events likewise."
-fn list_all(cfg: &[i32], records: &[u8], request: &[u8], room: &mut [u8]) -> usize
+fn list_all(
+    cfg: &[i32],
+    records: &[u8],
+    debounce: &[i32],
+    memory: &[u8],
+    request: &[u8],
+    room: &mut [u8],
+) -> usize
     requires { ⌜ Accepted (now cfg) (now room) ⌝ }
     ensures { λ r.
         ⌜
-        InStatesWith (now (records .entry))
+        InStatesWith (now (records .entry)) (now (debounce .entry)) (now (memory .entry))
         (λ s. sentIs r (now (room .exit)) s
         ≡ subFunctionOutcome (now (cfg .entry)) (subFunction 0x0A 2 (listAll (now (cfg .entry)))) (now (request .entry)) (now (room .entry)) s)
         ⌝ }
 {
-    list_asked(cfg, records, request, 0x0A, 2, Asked::All, room)
+    list_asked(
+        cfg,
+        records,
+        debounce,
+        memory,
+        request,
+        0x0A,
+        2,
+        Asked::All,
+        room,
+    )
 }
 
 // Writes the reply of service 19, and answers its length. "19: length 1: code 13. … not 01, 02, 0A: code 12."
-fn reply_19(cfg: &[i32], records: &[u8], request: &[u8], room: &mut [u8]) -> usize
+fn reply_19(
+    cfg: &[i32],
+    records: &[u8],
+    debounce: &[i32],
+    memory: &[u8],
+    request: &[u8],
+    room: &mut [u8],
+) -> usize
     requires { ⌜ Accepted (now cfg) (now room) ⌝ }
     ensures { λ r.
         ⌜
-        InStatesWith (now (records .entry))
+        InStatesWith (now (records .entry)) (now (debounce .entry)) (now (memory .entry))
         (λ s. sentIs r (now (room .exit)) s
-        ≡ replied (now (cfg .entry)) 0x19 (now (room .entry)) (served (service19 (now (cfg .entry)) (now (request .entry)) (length (now (room .entry))) s) s))
+        ≡ replied (now (cfg .entry)) 0x19 (lentRoom (now (room .entry))) (served (service19 (now (cfg .entry)) (now (request .entry)) (length (now (room .entry))) s) s))
         ⌝ }
 {
     if request.len() == 1 {
@@ -299,9 +375,9 @@ fn reply_19(cfg: &[i32], records: &[u8], request: &[u8], room: &mut [u8]) -> usi
     }
     let sub_function = sub_function_of(request);
     match sub_function {
-        0x01 => number_by_mask(cfg, records, request, room),
-        0x02 => list_by_mask(cfg, records, request, room),
-        0x0A => list_all(cfg, records, request, room),
+        0x01 => number_by_mask(cfg, records, debounce, memory, request, room),
+        0x02 => list_by_mask(cfg, records, debounce, memory, request, room),
+        0x0A => list_all(cfg, records, debounce, memory, request, room),
         _ => negative(0x19, 0x12, room),
     }
 }
@@ -330,7 +406,7 @@ fn reply_14(cfg: &[i32], request: &[u8], room: &mut [u8]) -> Service
         ⌜
         ((s : State)
         → serviceIs (now (cfg .entry)) r (now (room .exit)) s
-        ≡ replied (now (cfg .entry)) 0x14 (now (room .entry)) (service14 (now (cfg .entry)) (now (request .entry)) s))
+        ≡ replied (now (cfg .entry)) 0x14 (lentRoom (now (room .entry))) (service14 (now (cfg .entry)) (now (request .entry)) s))
         ⌝ }
 {
     match clear_request(cfg, request) {
@@ -345,19 +421,26 @@ fn reply_14(cfg: &[i32], request: &[u8], room: &mut [u8]) -> Service
 // ---- the request
 
 // Writes the reply to an accepted request, and says what is left to do. "First byte other than 19 or 14: code 11."
-fn serve(cfg: &[i32], records: &[u8], request: &[u8], room: &mut [u8]) -> Service
+fn serve(
+    cfg: &[i32],
+    records: &[u8],
+    debounce: &[i32],
+    memory: &[u8],
+    request: &[u8],
+    room: &mut [u8],
+) -> Service
     requires { ⌜ Accepted (now cfg) (now room) ⌝ }
     ensures { λ r.
         ⌜
-        InStatesWith (now (records .entry))
+        InStatesWith (now (records .entry)) (now (debounce .entry)) (now (memory .entry))
         (λ s. serviceIs (now (cfg .entry)) r (now (room .exit)) s
-        ≡ replied (now (cfg .entry)) (getD (now (request .entry)) 0 0) (now (room .entry))
+        ≡ replied (now (cfg .entry)) (getD (now (request .entry)) 0 0) (lentRoom (now (room .entry)))
         (servedBy (now (cfg .entry)) (now (request .entry)) (length (now (room .entry))) s))
         ⌝ }
 {
     let service = byte_of(request, 0);
     match service {
-        0x19 => Service::Replied(reply_19(cfg, records, request, room)),
+        0x19 => Service::Replied(reply_19(cfg, records, debounce, memory, request, room)),
         0x14 => reply_14(cfg, request, room),
         _ => Service::Replied(negative(service, 0x11, room)),
     }
@@ -376,12 +459,12 @@ fn accept(
     requires { ⌜ Accepted (now cfg) (now room) × (wellFormed (now cfg) (lent (now records) (now debounce) (now memory) board) ≡ true) ⌝ }
     ensures { λ r.
         ⌜
-        leaves (ofLength (r .answer)) [] (now (room .exit)) (lent (now (records .exit)) (now (debounce .exit)) (now (memory .exit)) (r .board))
-        ≡ replied (now (cfg .entry)) (getD (now (request .entry)) 0 0) (now (room .entry))
+        leaves (ofLength (r .answer)) [] (lentRoom (now (room .exit))) (lent (now (records .exit)) (now (debounce .exit)) (now (memory .exit)) (r .board))
+        ≡ replied (now (cfg .entry)) (getD (now (request .entry)) 0 0) (lentRoom (now (room .entry)))
         (servedBy (now (cfg .entry)) (now (request .entry)) (length (now (room .entry))) (lent (now (records .entry)) (now (debounce .entry)) (now (memory .entry)) board))
         ⌝ }
 {
-    match serve(cfg, records, request, room) {
+    match serve(cfg, records, debounce, memory, request, room) {
         Service::Replied(size) => {
             let answer = LengthAnswer::Written(size);
             RequestReturned { answer, board }
@@ -419,9 +502,9 @@ fn judge(
     request: &[u8],
     room: &[u8],
 ) -> Check
-    ensures { λ r. ⌜ checkNumber r ≡ firstThatApplies (requestRules (now (cfg .entry)) (now (request .entry)) (now (room .entry)) (lent (now (records .entry)) (now (debounce .entry)) (now (memory .entry)) board)) ⌝ }
+    ensures { λ r. ⌜ checkNumber r ≡ firstThatApplies (requestRules (now (cfg .entry)) (now (request .entry)) (lentRoom (now (room .entry))) (lent (now (records .entry)) (now (debounce .entry)) (now (memory .entry)) board)) ⌝ }
 {
-    match state::begin(cfg, records, debounce, memory, board) {
+    match state::begin(cfg, records, debounce, memory, board, true) {
         Check::Go => judge_sizes(request, room),
         Check::Stop(refusal) => Check::Stop(refusal),
     }
@@ -437,7 +520,7 @@ pub fn request(
     request: &[u8],
     room: &mut [u8],
 ) -> RequestReturned
-    ensures { λ r. ⌜ leaves (ofLength (r .answer)) [] (now (room .exit)) (lent (now (records .exit)) (now (debounce .exit)) (now (memory .exit)) (r .board)) ≡ requestReply (now (cfg .entry)) (now (request .entry)) (now (room .entry)) (lent (now (records .entry)) (now (debounce .entry)) (now (memory .entry)) board) ⌝ }
+    ensures { λ r. ⌜ leaves (ofLength (r .answer)) [] (lentRoom (now (room .exit))) (lent (now (records .exit)) (now (debounce .exit)) (now (memory .exit)) (r .board)) ≡ requestReply (now (cfg .entry)) (now (request .entry)) (lentRoom (now (room .entry))) (lent (now (records .entry)) (now (debounce .entry)) (now (memory .entry)) board) ⌝ }
 {
     match judge(cfg, records, debounce, memory, board, request, room) {
         Check::Go => accept(cfg, records, debounce, memory, board, request, room),

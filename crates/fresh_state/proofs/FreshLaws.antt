@@ -14,7 +14,7 @@ use Rattle.manual.specs.declared.Answer.the-variants.{Done, Refused}
 use Rattle.manual.specs.Configuration.{Configuration, events}
 use Rattle.manual.specs.State.{State, recordWidth, Stored, stored, storedAt, withStored, allStopped, lent}
 use Rattle.manual.specs.WellFormed.{lengthsFit}
-use Rattle.manual.specs.Answers.{done, firstThatApplies, numberOf, ofAnswer, leaves}
+use Rattle.manual.specs.Answers.{alone, done, firstThatApplies, numberOf, ofAnswer, leaves}
 use Rattle.manual.specs.Calls.{beginsWithLengths, freshRecords, freshState, freshRules, fresh}
 use Rattle.manual.proofs.AnswersLaws.{goes-through, stops-with}
 use Rattle.manual.proofs.WellFormedLaws.{LengthsTell, lengths-tell}
@@ -88,10 +88,10 @@ module _ (cfg : Configuration) (records : List ℕ) (debounce : List ℤ) (memor
 -- ---- the call
 
 module _ (cfg : Configuration) (s : State) where
-  pub fresh-done : {t : State} → firstThatApplies (beginsWithLengths cfg s []) ≡ 0 → t ≡ freshState cfg → leaves (ofAnswer Done) [] [] t ≡ fresh cfg s
+  pub fresh-done : {t : State} → firstThatApplies (beginsWithLengths cfg s true []) ≡ 0 → t ≡ freshState cfg → leaves (ofAnswer Done) [] alone t ≡ fresh cfg alone s
   unfolding fresh freshRules
-  fresh-done z p = ap done p ∙ sym (goes-through _ [] s _ z)
+  fresh-done z p = ap (done alone) p ∙ sym (goes-through _ alone s _ z)
 
-  pub fresh-refused : (r : Refusal) → numberOf r ≡ firstThatApplies (beginsWithLengths cfg s []) → leaves (ofAnswer (Refused r)) [] [] s ≡ fresh cfg s
+  pub fresh-refused : (r : Refusal) → numberOf r ≡ firstThatApplies (beginsWithLengths cfg s true []) → leaves (ofAnswer (Refused r)) [] alone s ≡ fresh cfg alone s
   unfolding fresh freshRules
-  fresh-refused r e = stops-with _ [] s _ r e
+  fresh-refused r e = stops-with _ alone s _ r e

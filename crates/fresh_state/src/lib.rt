@@ -15,7 +15,7 @@ ghost use Rattle.manual.specs.declared.Board.{Board};
 ghost use Rattle.manual.specs.Configuration.{events};
 ghost use Rattle.manual.specs.State.{recordWidth, stored, withStored, allStopped, lent};
 ghost use Rattle.manual.specs.WellFormed.{lengthsFit};
-ghost use Rattle.manual.specs.Answers.{ofAnswer, leaves};
+ghost use Rattle.manual.specs.Answers.{alone, ofAnswer, leaves};
 ghost use Rattle.manual.specs.Calls.{freshRecords, freshState, fresh};
 ghost use Rattle.fresh_state.specs.Filled.{filledFrom};
 
@@ -91,9 +91,9 @@ pub fn fresh(
     memory: &mut [u8],
     board: Board,
 ) -> Returned
-    ensures { λ r. ⌜ leaves (ofAnswer (r .answer)) [] [] (lent (now (records .exit)) (now (debounce .exit)) (now (memory .exit)) (r .board)) ≡ fresh (now (cfg .entry)) (lent (now (records .entry)) (now (debounce .entry)) (now (memory .entry)) board) ⌝ }
+    ensures { λ r. ⌜ leaves (ofAnswer (r .answer)) [] alone (lent (now (records .exit)) (now (debounce .exit)) (now (memory .exit)) (r .board)) ≡ fresh (now (cfg .entry)) alone (lent (now (records .entry)) (now (debounce .entry)) (now (memory .entry)) board) ⌝ }
 {
-    match state::begin_with_lengths(cfg, records, debounce, memory) {
+    match state::begin_with_lengths(cfg, records, debounce, memory, true) {
         Check::Go => {
             let after = make_fresh(cfg, records, debounce, memory);
             Returned {

@@ -65,10 +65,7 @@ module _ {A : Type 0} where
         table true b = refl
         table false b = refl
 
-    -- countOf p: a passing element counts one, any other none, and two parts count together
-    pub countOf-one : (x : A) → countOf p (x ∷ []) ≡ cond (p x) 1 0
-    countOf-one x = refl
-
+    -- countOf p: two parts count together
     pub countOf-append : (a b : List A) → countOf p (a ++ b) ≡ countOf p a + countOf p b
     countOf-append [] b = omega arith
     countOf-append (x ∷ a) b = rw (countOf-append a b) (go (p x))

@@ -1,6 +1,6 @@
 -- The statements of `save` and `restore` allow one outcome only: one result, and of each block or room that the call may write one
 -- content, to the last byte.
-use mathlib.Core.Path.{_≡_}
+use mathlib.Core.Path.{_≡_, ap}
 use mathlib.Core.List.{List, []}
 use Prim.Native.Nat.{ℕ}
 use lib.IntN.{ℤ}
@@ -8,20 +8,20 @@ use Rattle.manual.specs.declared.LengthAnswer.{LengthAnswer}
 use Rattle.manual.specs.declared.Returned.{Returned}
 use Rattle.manual.specs.Configuration.{Configuration}
 use Rattle.manual.specs.State.{State, lent}
-use Rattle.manual.specs.Answers.{ofAnswer, ofLength, leaves}
+use Rattle.manual.specs.Answers.{Beside, lentRoom, alone, ofAnswer, ofLength, leaves}
 use Rattle.manual.specs.Image.{save, restore}
-use Rattle.manual.proofs.OneOutcomeOnly.{same-returned, same-length, same-blocks, same-room}
+use Rattle.manual.proofs.OneOutcomeOnly.{same-returned, same-length, same-blocks, same-beside}
 
 module _ (cfg : Configuration) (s : State) where
   -- `save` is lent the state to be read only
   pub one-save : (before : List ℕ) (r r′ : LengthAnswer) (room room′ : List ℕ)
-      → leaves (ofLength r) [] room s ≡ save cfg before s
-      → leaves (ofLength r′) [] room′ s ≡ save cfg before s
+      → leaves (ofLength r) [] (lentRoom room) s ≡ save cfg (lentRoom before) s
+      → leaves (ofLength r′) [] (lentRoom room′) s ≡ save cfg (lentRoom before) s
       → (r ≡ r′) × (room ≡ room′)
-  one-save before r r′ room room′ p q = (same-length r r′ p q, same-room p q)
+  one-save before r r′ room room′ p q = (same-length r r′ p q, ap (λ (b : Beside). b .room) (same-beside p q))
 
   pub one-restore : (image : List ℕ) (r r′ : Returned) (records records′ : List ℕ) (debounce debounce′ : List ℤ) (memory memory′ : List ℕ)
-      → leaves (ofAnswer (r .answer)) [] [] (lent records debounce memory (r .board)) ≡ restore cfg image s
-      → leaves (ofAnswer (r′ .answer)) [] [] (lent records′ debounce′ memory′ (r′ .board)) ≡ restore cfg image s
+      → leaves (ofAnswer (r .answer)) [] alone (lent records debounce memory (r .board)) ≡ restore cfg image alone s
+      → leaves (ofAnswer (r′ .answer)) [] alone (lent records′ debounce′ memory′ (r′ .board)) ≡ restore cfg image alone s
       → (r ≡ r′) × ((records ≡ records′) × ((debounce ≡ debounce′) × (memory ≡ memory′)))
   one-restore image r r′ records records′ debounce debounce′ memory memory′ p q = (same-returned r r′ p q, same-blocks p q)

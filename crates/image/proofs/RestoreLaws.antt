@@ -17,7 +17,7 @@ use Rattle.manual.specs.Configuration.{Configuration, places, frameBytes, confi
 use Rattle.manual.specs.State.{State, lent, allStopped}
 use Rattle.manual.specs.WellFormed.{lengthsFit}
 use Rattle.manual.specs.Memory.{entryWidth, entryCount}
-use Rattle.manual.specs.Answers.{done, _if_, firstThatApplies, numberOf}
+use Rattle.manual.specs.Answers.{alone, done, _if_, firstThatApplies, numberOf}
 use Rattle.manual.specs.Calls.{beginsWithLengths}
 use Rattle.manual.specs.Image.{headerLength, stateOf, acceptable, recordsOf, restoreRules, restore}
 use Rattle.manual.proofs.AnswersLaws.{none-applies, goes-through}
@@ -38,21 +38,21 @@ module _ (cfg : Configuration) (image records : List ℕ) (debounce : List ℤ) 
   abbrev s : State
   s = lent records debounce memory b
 
-  module _ (go : firstThatApplies (beginsWithLengths cfg s []) ≡ 0) where
+  module _ (go : firstThatApplies (beginsWithLengths cfg s true []) ≡ 0) where
     pub begun-accepted : configOk cfg ≡ true
-    begun-accepted = begun-with-lengths cfg s go .0
+    begun-accepted = begun-with-lengths cfg s true true go .0
 
     pub judged-go : {ok : Bool} → ok ≡ acceptable cfg image → ok ≡ true → 0 ≡ firstThatApplies (restoreRules cfg image s)
     unfolding restoreRules firstThatApplies
-    judged-go p q = sym (after-lengths-go cfg s ((8 if not (acceptable cfg image)) ∷ []) go ∙ rw (← p, q))
+    judged-go p q = sym (after-lengths-go cfg s true true ((8 if not (acceptable cfg image)) ∷ []) go ∙ rw (← p, q))
 
     pub judged-bad : {ok : Bool} → ok ≡ acceptable cfg image → ok ≡ false → numberOf BadImage ≡ firstThatApplies (restoreRules cfg image s)
     unfolding restoreRules firstThatApplies
-    judged-bad p q = sym (after-lengths-go cfg s ((8 if not (acceptable cfg image)) ∷ []) go ∙ rw (← p, q))
+    judged-bad p q = sym (after-lengths-go cfg s true true ((8 if not (acceptable cfg image)) ∷ []) go ∙ rw (← p, q))
 
-  pub judged-stop : (r : Refusal) → numberOf r ≡ firstThatApplies (beginsWithLengths cfg s []) → numberOf r ≡ firstThatApplies (restoreRules cfg image s)
+  pub judged-stop : (r : Refusal) → numberOf r ≡ firstThatApplies (beginsWithLengths cfg s true []) → numberOf r ≡ firstThatApplies (restoreRules cfg image s)
   unfolding restoreRules
-  judged-stop r e = sym (after-lengths-stop cfg s _ r e)
+  judged-stop r e = sym (after-lengths-stop cfg s true true _ r e)
 
   -- ---- the call
 
@@ -70,9 +70,9 @@ module _ (cfg : Configuration) (image records : List ℕ) (debounce : List ℤ) 
           image-accepted = not-false (acceptable cfg image) (none 2);
         }
 
-    pub restore-done : {after : State} → after ≡ stateOf cfg image → done after ≡ restore cfg image s
+    pub restore-done : {after : State} → after ≡ stateOf cfg image → done alone after ≡ restore cfg image alone s
     unfolding restore
-    restore-done e = ap done e ∙ sym (goes-through _ [] s (done (stateOf cfg image)) z)
+    restore-done e = ap (done alone) e ∙ sym (goes-through _ alone s (done alone (stateOf cfg image)) z)
 
 -- ---- what is written
 

@@ -16,7 +16,7 @@ use Rattle.manual.specs.Configuration.{Configuration, places, frameBytes, confi
 use Rattle.manual.specs.State.{State, lent}
 use Rattle.manual.specs.WellFormed.{wellFormed}
 use Rattle.manual.specs.Memory.{entryCount, bytesInUse}
-use Rattle.manual.specs.Answers.{_if_, firstThatApplies, numberOf, ofLength, leaves}
+use Rattle.manual.specs.Answers.{lentRoom, _if_, firstThatApplies, numberOf, ofLength, leaves}
 use Rattle.manual.specs.Calls.{begins}
 use Rattle.manual.specs.Image.{headerLength, header, imageFrom, imageOf, anyRuns, saveRules, saved, save}
 use Rattle.manual.proofs.AnswersLaws.{none-applies, goes-through}
@@ -85,22 +85,22 @@ module _ (cfg : Configuration) (room records : List ℕ) (debounce : List ℤ) (
       let t = state-tells cfg s w in
       record { accepted = c; records-fit = t .lengths .records; memory-fits = t .lengths .memory; few = t .few }
 
-  module _ (go : firstThatApplies (begins cfg s []) ≡ 0) where
+  module _ (go : firstThatApplies (begins cfg s true []) ≡ 0) where
     pub begun-savable : Savable cfg records memory
-    begun-savable = let (c, w) = begun cfg s go in savable c w
+    begun-savable = let (c, w) = begun cfg s true true go in savable c w
 
     pub judged-on : {running : Bool} {size : ℕ} → running ≡ anyRuns b → size ≡ length (imageOf cfg s)
-        → firstThatApplies ((5 if running) ∷ (7 if ltb (length room) size) ∷ []) ≡ firstThatApplies (saveRules cfg room s)
+        → firstThatApplies ((5 if running) ∷ (7 if ltb (length room) size) ∷ []) ≡ firstThatApplies (saveRules cfg (lentRoom room) s)
     unfolding saveRules
-    judged-on p q = (λ i. firstThatApplies ((5 if p i) ∷ (7 if ltb (length room) (q i)) ∷ [])) ∙ sym (after-go cfg s _ go)
+    judged-on p q = (λ i. firstThatApplies ((5 if p i) ∷ (7 if ltb (length room) (q i)) ∷ [])) ∙ sym (after-go cfg s true true _ go)
 
-  pub judged-stop : (r : Refusal) → numberOf r ≡ firstThatApplies (begins cfg s []) → numberOf r ≡ firstThatApplies (saveRules cfg room s)
+  pub judged-stop : (r : Refusal) → numberOf r ≡ firstThatApplies (begins cfg s true []) → numberOf r ≡ firstThatApplies (saveRules cfg (lentRoom room) s)
   unfolding saveRules
-  judged-stop r e = sym (after-stop cfg s _ r e)
+  judged-stop r e = sym (after-stop cfg s true true _ r e)
 
   -- ---- the call
 
-  module _ (z : firstThatApplies (saveRules cfg room s) ≡ 0) where
+  module _ (z : firstThatApplies (saveRules cfg (lentRoom room) s) ≡ 0) where
     pub save-ready : Savable cfg records memory
     unfolding saveRules
     save-ready = let none = none-applies _ z refl in savable (not-false (configOk cfg) (none 0)) (not-false (wellFormed cfg s) (none 1))
@@ -112,11 +112,11 @@ module _ (cfg : Configuration) (room records : List ℕ) (debounce : List ℤ) (
         omega (arith, fits, image-length cfg records memory save-ready debounce b)
 
     pub save-done : {size : ℕ} {after : List ℕ} → written size after ≡ filled (imageOf cfg s) room
-        → leaves (ofLength (Written size)) [] after s ≡ save cfg room s
+        → leaves (ofLength (Written size)) [] (lentRoom after) s ≡ save cfg (lentRoom room) s
     unfolding save filled
     save-done e =
-        ap (λ (w : writing.Written). leaves (ofLength (Written (w .next))) [] (w .room) s) e
-        ∙ sym (goes-through _ room s (saved cfg (imageOf cfg s) room s) z)
+        ap (λ (w : writing.Written). leaves (ofLength (Written (w .next))) [] (lentRoom (w .room)) s) e
+        ∙ sym (goes-through _ (lentRoom room) s (saved cfg (imageOf cfg s) (lentRoom room) s) z)
 
 -- ---- the bodies one after the other
 

@@ -16,7 +16,7 @@ ghost use Rattle.manual.specs.Words.{equal};
 ghost use Rattle.manual.specs.Configuration.{frameBytes, configOk};
 ghost use Rattle.manual.specs.State.{lent};
 ghost use Rattle.manual.specs.Memory.{entryCount, bytesInUse};
-ghost use Rattle.manual.specs.Answers.{_if_, firstThatApplies, ofAnswer, ofLength, leaves};
+ghost use Rattle.manual.specs.Answers.{alone, lentRoom, _if_, firstThatApplies, ofAnswer, ofLength, leaves};
 ghost use Rattle.manual.specs.Image.{headerLength, header, imageFrom, imageOf, stateOf, acceptable, anyRuns, saveRules, save, restoreRules, restore};
 ghost use Rattle.state.specs.Checks.{checkNumber};
 ghost use Rattle.state.specs.Fits.{RecordsFor};
@@ -200,9 +200,9 @@ fn judge_save(
     room: &[u8],
 ) -> Check
     ensures { λ r. ⌜ checkNumber r
-        ≡ firstThatApplies (saveRules (now (cfg .entry)) (now (room .entry)) (lent (now (records .entry)) (now (debounce .entry)) (now (memory .entry)) board)) ⌝ }
+        ≡ firstThatApplies (saveRules (now (cfg .entry)) (lentRoom (now (room .entry))) (lent (now (records .entry)) (now (debounce .entry)) (now (memory .entry)) board)) ⌝ }
 {
-    match state::begin(cfg, records, debounce, memory, board) {
+    match state::begin(cfg, records, debounce, memory, board, true) {
         Check::Go => {
             let too_small = room.len() < image_length(cfg, records, memory);
             first_of(any_runs(board), too_small)
@@ -246,8 +246,8 @@ pub fn save(
     board: Board,
     room: &mut [u8],
 ) -> LengthAnswer
-    ensures { λ r. ⌜ leaves (ofLength r) [] (now (room .exit)) (lent (now (records .entry)) (now (debounce .entry)) (now (memory .entry)) board)
-        ≡ save (now (cfg .entry)) (now (room .entry)) (lent (now (records .entry)) (now (debounce .entry)) (now (memory .entry)) board) ⌝ }
+    ensures { λ r. ⌜ leaves (ofLength r) [] (lentRoom (now (room .exit))) (lent (now (records .entry)) (now (debounce .entry)) (now (memory .entry)) board)
+        ≡ save (now (cfg .entry)) (lentRoom (now (room .entry))) (lent (now (records .entry)) (now (debounce .entry)) (now (memory .entry)) board) ⌝ }
 {
     match judge_save(cfg, records, debounce, memory, board, room) {
         Check::Go => {
@@ -270,7 +270,7 @@ fn judge_restore(
     ensures { λ r. ⌜ ((b : Board) → checkNumber r
         ≡ firstThatApplies (restoreRules (now (cfg .entry)) (now (image .entry)) (lent (now (records .entry)) (now (debounce .entry)) (now (memory .entry)) b))) ⌝ }
 {
-    match state::begin_with_lengths(cfg, records, debounce, memory) {
+    match state::begin_with_lengths(cfg, records, debounce, memory, true) {
         Check::Go => {
             if image_ok(cfg, image) {
                 return Check::Go;
@@ -319,8 +319,8 @@ pub fn restore(
     board: Board,
     image: &[u8],
 ) -> Returned
-    ensures { λ r. ⌜ leaves (ofAnswer (r .answer)) [] [] (lent (now (records .exit)) (now (debounce .exit)) (now (memory .exit)) (r .board))
-        ≡ restore (now (cfg .entry)) (now (image .entry)) (lent (now (records .entry)) (now (debounce .entry)) (now (memory .entry)) board) ⌝ }
+    ensures { λ r. ⌜ leaves (ofAnswer (r .answer)) [] alone (lent (now (records .exit)) (now (debounce .exit)) (now (memory .exit)) (r .board))
+        ≡ restore (now (cfg .entry)) (now (image .entry)) alone (lent (now (records .entry)) (now (debounce .entry)) (now (memory .entry)) board) ⌝ }
 {
     match judge_restore(cfg, records, debounce, memory, image) {
         Check::Go => {

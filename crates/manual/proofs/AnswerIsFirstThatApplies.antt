@@ -10,11 +10,11 @@ use borrow.Author.Tests.{eqb-true}
 use Rattle.history.specs.Words.{anyOf}
 use Rattle.manual.specs.Configuration.{Configuration}
 use Rattle.manual.specs.State.{State}
-use Rattle.manual.specs.Answers.{Outcome, refused, Rule, firstThatApplies, judged, Given, done-by, refusal-by}
-use Rattle.manual.specs.Calls.{freshRules, fresh, reportRules, report, tickRules, tick, startRules, startCycle, stopRules, stopCycle, clearRules, clearCode, readStatusRules, readStatus, readFrameRules, readFrame}
-use Rattle.manual.specs.Image.{saveRules, save, restoreRules, restore}
-use Rattle.manual.specs.Diagnostics.{requestRules, sent, requestReply}
-use Rattle.manual.specs.Sequences.{Call, Fresh, Report, Tick, Start, Stop, Clear, ReadStatus, ReadFrame, Save, Restore, Request, outcome, rulesOf, roomOf}
+use Rattle.manual.specs.Answers.{Beside, Outcome, refused, Rule, firstThatApplies, judged, Given, done-by, refusal-by}
+use Rattle.manual.specs.Calls.{fresh, report, tick, startCycle, stopCycle, clearCode, readStatus, readFrame}
+use Rattle.manual.specs.Image.{save, restore}
+use Rattle.manual.specs.Diagnostics.{sent, requestReply}
+use Rattle.manual.specs.Sequences.{Query, ReadStatus, ReadFrame, Save, Call, Fresh, Report, Tick, Start, Stop, Clear, Read, Restore, Request, outcome, rulesOf}
 use Rattle.manual.proofs.AnswersLaws.{left-alone}
 use Rattle.manual.proofs.WordsLaws.{clash}
 
@@ -55,44 +55,49 @@ only (refusal-by a r b n q) = this-first a r b n q
 
 module _ (cfg : Configuration) where
   -- every call is judged by its list, and accepted answers 0
-  record Judged (c : Call) (s : State) : Type 0 where
+  record Judged (c : Call) (b : Beside) (s : State) : Type 0 where
     accepts : Outcome
     zero : accepts .answer ≡ 0
-    is : outcome cfg c s ≡ judged (rulesOf cfg c s) (roomOf c) s accepts
+    is : outcome cfg c b s ≡ judged (rulesOf cfg c b s) b s accepts
 
-  judges : (c : Call) (s : State) → Judged c s
-  unfolding fresh report tick startCycle stopCycle clearCode readStatus readFrame save restore requestReply sent
-  judges Fresh s = record { accepts = _; zero = refl; is = refl }
-  judges (Report k code frame) s = record { accepts = _; zero = refl; is = refl }
-  judges (Tick ms frame) s = record { accepts = _; zero = refl; is = refl }
-  judges (Start c) s = record { accepts = _; zero = refl; is = refl }
-  judges (Stop c) s = record { accepts = _; zero = refl; is = refl }
-  judges (Clear code) s = record { accepts = _; zero = refl; is = refl }
-  judges (ReadStatus k) s = record { accepts = _; zero = refl; is = refl }
-  judges (ReadFrame k) s = record { accepts = _; zero = refl; is = refl }
-  judges (Save room) s = record { accepts = _; zero = refl; is = refl }
-  judges (Restore image) s = record { accepts = _; zero = refl; is = refl }
-  judges (Request bytes room) s = record { accepts = _; zero = refl; is = refl }
+  judges-query : (q : Query) (b : Beside) (s : State) → Judged (Read q) b s
+  unfolding readStatus readFrame save
+  judges-query (ReadStatus k) b s = record { accepts = _; zero = refl; is = refl }
+  judges-query (ReadFrame k) b s = record { accepts = _; zero = refl; is = refl }
+  judges-query Save b s = record { accepts = _; zero = refl; is = refl }
 
-  judged-answer : (rules : List Rule) (room : List ℕ) (s : State) (o : Outcome) → o .answer ≡ 0 → judged rules room s o .answer ≡ firstThatApplies rules
+  judges : (c : Call) (b : Beside) (s : State) → Judged c b s
+  unfolding fresh report tick startCycle stopCycle clearCode restore requestReply sent
+  judges Fresh b s = record { accepts = _; zero = refl; is = refl }
+  judges (Report k code frame) b s = record { accepts = _; zero = refl; is = refl }
+  judges (Tick ms frame) b s = record { accepts = _; zero = refl; is = refl }
+  judges (Start c) b s = record { accepts = _; zero = refl; is = refl }
+  judges (Stop c) b s = record { accepts = _; zero = refl; is = refl }
+  judges (Clear code) b s = record { accepts = _; zero = refl; is = refl }
+  judges (Read q) b s = judges-query q b s
+  judges (Restore image) b s = record { accepts = _; zero = refl; is = refl }
+  judges (Request bytes) b s = record { accepts = _; zero = refl; is = refl }
+
+  judged-answer : (rules : List Rule) (b : Beside) (s : State) (o : Outcome) → o .answer ≡ 0 → judged rules b s o .answer ≡ firstThatApplies rules
   unfolding judged
-  judged-answer rules room s o z = go (eqb (firstThatApplies rules) 0) refl
+  judged-answer rules b s o z = go (eqb (firstThatApplies rules) 0) refl
     where
-      go : (b : Bool) → eqb (firstThatApplies rules) 0 ≡ b → cond b o (refused (firstThatApplies rules) room s) .answer ≡ firstThatApplies rules
+      go : (t : Bool) → eqb (firstThatApplies rules) 0 ≡ t → cond t o (refused (firstThatApplies rules) b s) .answer ≡ firstThatApplies rules
       go true e = z ∙ sym (eqb-true (firstThatApplies rules) 0 e)
       go false e = refl
 
-  pub answer-is : (c : Call) (s : State) → outcome cfg c s .answer ≡ firstThatApplies (rulesOf cfg c s)
-  answer-is c s = let j = judges c s in ap (λ (o : Outcome). o .answer) (j .is) ∙ judged-answer (rulesOf cfg c s) (roomOf c) s (j .accepts) (j .zero)
+  module _ (c : Call) (b : Beside) (s : State) where
+    pub answer-is : outcome cfg c b s .answer ≡ firstThatApplies (rulesOf cfg c b s)
+    answer-is = let j = judges c b s in ap (λ (o : Outcome). o .answer) (j .is) ∙ judged-answer (rulesOf cfg c b s) b s (j .accepts) (j .zero)
 
-  -- exactly when
-  pub answer-is-given : (c : Call) (s : State) (k : ℕ) → (outcome cfg c s .answer ≡ k) ↔ Given (rulesOf cfg c s) k
-  answer-is-given c s k = (λ e. subst (Given (rulesOf cfg c s)) (sym (answer-is c s) ∙ e) (given (rulesOf cfg c s)), λ g. answer-is c s ∙ only g)
+    -- exactly when
+    pub answer-is-given : (k : ℕ) → (outcome cfg c b s .answer ≡ k) ↔ Given (rulesOf cfg c b s) k
+    answer-is-given k = (λ e. subst (Given (rulesOf cfg c b s)) (sym answer-is ∙ e) (given (rulesOf cfg c b s)), λ g. answer-is ∙ only g)
 
-  -- "A refusal changes nothing lent and hands back the board it was given"
-  pub refusal-leaves-all : (c : Call) (s : State) → outcome cfg c s .answer ≢ 0 → outcome cfg c s ≡ refused (outcome cfg c s .answer) (roomOf c) s
-  refusal-leaves-all c s n =
-      let j = judges c s in
-      j .is
-      ∙ left-alone (rulesOf cfg c s) (roomOf c) s (j .accepts) (j .zero) (subst (λ (o : Outcome). o .answer ≢ 0) (j .is) n)
-      ∙ ap (λ (k : ℕ). refused k (roomOf c) s) (sym (answer-is c s))
+    -- "A refusal changes nothing lent and hands back the board it was given"
+    pub refusal-leaves-all : outcome cfg c b s .answer ≢ 0 → outcome cfg c b s ≡ refused (outcome cfg c b s .answer) b s
+    refusal-leaves-all n =
+        let j = judges c b s in
+        j .is
+        ∙ left-alone (rulesOf cfg c b s) b s (j .accepts) (j .zero) (subst (λ (o : Outcome). o .answer ≢ 0) (j .is) n)
+        ∙ ap (λ (k : ℕ). refused k b s) (sym answer-is)

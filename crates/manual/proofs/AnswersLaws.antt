@@ -2,7 +2,7 @@
 use mathlib.Core.Path.{_≡_, refl, sym, _∙_}
 use mathlib.Core.Logic.{_≢_}
 use mathlib.Core.Bool.{Bool, true, false, not, _&&_, cond}
-use mathlib.Core.List.{List, [], _∷_}
+use mathlib.Core.List.{List, [], _∷_, _++_}
 use Prim.Native.Nat.{ℕ, zero, suc}
 use native.Mathlib.Omega.{arith}
 use lib.Dec.{eqb, ltb}
@@ -12,7 +12,7 @@ use Rattle.history.proofs.WordsLaws.{and-left, and-right}
 use Rattle.manual.specs.declared.Refusal.{Refusal}
 use Rattle.manual.specs.declared.Refusal.the-variants.{BadArgument, BadConfiguration, BadState, NoSuch, WrongCycleState, NoPreResult, RoomTooSmall, BadImage, WrongFrame, NoEntry}
 use Rattle.manual.specs.State.{State}
-use Rattle.manual.specs.Answers.{Outcome, refused, Rule, firstThatApplies, judged, numberOf}
+use Rattle.manual.specs.Answers.{Beside, Outcome, refused, Rule, firstThatApplies, judged, numberOf}
 
 -- no refusal has the number 0, which means done
 pub never-done : (r : Refusal) → numberOf r ≢ 0
@@ -62,30 +62,48 @@ never-given k n (r ∷ rs) l q = go (r .applies) q (never-given k n rs (and-righ
     go true e ih = eqb-false (r .number) k (not-true (eqb (r .number) k) (and-left (not (eqb (r .number) k)) (lacks k rs) l)) e
     go false e ih = ih e
 
-module _ (rules : List Rule) (room : List ℕ) (s : State) (o : Outcome) where
+-- the first of some rules, and then of more
+pub first-of-both : (a b : List Rule) → numbered a ≡ true
+    → firstThatApplies (a ++ b) ≡ cond (eqb (firstThatApplies a) 0) (firstThatApplies b) (firstThatApplies a)
+unfolding firstThatApplies
+first-of-both [] b n = refl
+first-of-both (r ∷ rs) b n = go (r .applies) (first-of-both rs b (and-right (ltb 0 (r .number)) (numbered rs) n))
+  where
+    above : eqb (r .number) 0 ≡ false
+    above =
+        let h = ltb-true 0 (r .number) (and-left (ltb 0 (r .number)) (numbered rs) n) in
+        ne-eqb _ _ (λ (z : r .number ≡ 0). let w : ⊥ = omega arith in w)
+
+    go : (t : Bool) → firstThatApplies (rs ++ b) ≡ cond (eqb (firstThatApplies rs) 0) (firstThatApplies b) (firstThatApplies rs)
+        → cond t (r .number) (firstThatApplies (rs ++ b))
+        ≡ cond (eqb (cond t (r .number) (firstThatApplies rs)) 0) (firstThatApplies b) (cond t (r .number) (firstThatApplies rs))
+    go true ih = rw above
+    go false ih = ih
+
+module _ (rules : List Rule) (b : Beside) (s : State) (o : Outcome) where
   -- an accepted call has the outcome that its definition gives it
-  pub accepted : judged rules room s o .answer ≡ 0 → (firstThatApplies rules ≡ 0) × (judged rules room s o ≡ o)
+  pub accepted : judged rules b s o .answer ≡ 0 → (firstThatApplies rules ≡ 0) × (judged rules b s o ≡ o)
   unfolding judged
   accepted = go (eqb (firstThatApplies rules) 0) refl
     where
-      go : (b : Bool) → eqb (firstThatApplies rules) 0 ≡ b → cond b o (refused (firstThatApplies rules) room s) .answer ≡ 0 → (firstThatApplies rules ≡ 0) × (cond b o (refused (firstThatApplies rules) room s) ≡ o)
+      go : (t : Bool) → eqb (firstThatApplies rules) 0 ≡ t → cond t o (refused (firstThatApplies rules) b s) .answer ≡ 0 → (firstThatApplies rules ≡ 0) × (cond t o (refused (firstThatApplies rules) b s) ≡ o)
       go true e z = (eqb-true (firstThatApplies rules) 0 e, refl)
       go false e z = absurd (eqb-false (firstThatApplies rules) 0 e z)
 
-  pub goes-through : firstThatApplies rules ≡ 0 → judged rules room s o ≡ o
+  pub goes-through : firstThatApplies rules ≡ 0 → judged rules b s o ≡ o
   unfolding judged
   goes-through z = rw z
 
   -- a refused call leaves all as found
-  pub left-alone : o .answer ≡ 0 → judged rules room s o .answer ≢ 0 → judged rules room s o ≡ refused (firstThatApplies rules) room s
+  pub left-alone : o .answer ≡ 0 → judged rules b s o .answer ≢ 0 → judged rules b s o ≡ refused (firstThatApplies rules) b s
   unfolding judged
   left-alone z = go (eqb (firstThatApplies rules) 0)
     where
-      go : (b : Bool) → cond b o (refused (firstThatApplies rules) room s) .answer ≢ 0 → cond b o (refused (firstThatApplies rules) room s) ≡ refused (firstThatApplies rules) room s
+      go : (t : Bool) → cond t o (refused (firstThatApplies rules) b s) .answer ≢ 0 → cond t o (refused (firstThatApplies rules) b s) ≡ refused (firstThatApplies rules) b s
       go true n = absurd (n z)
       go false n = refl
 
   -- a call that stops with the number that its rules give
-  pub stops-with : (r : Refusal) → numberOf r ≡ firstThatApplies rules → refused (numberOf r) room s ≡ judged rules room s o
+  pub stops-with : (r : Refusal) → numberOf r ≡ firstThatApplies rules → refused (numberOf r) b s ≡ judged rules b s o
   unfolding judged
   stops-with r e = let n : eqb (firstThatApplies rules) 0 ≡ false = ne-eqb _ _ (λ z. never-done r (e ∙ z)) in rw (n, e)

@@ -1,17 +1,18 @@
 -- What an accepted configuration gives, by name, so that no later proof opens the table.
 use mathlib.Core.Path.{_≡_, refl, sym}
-use mathlib.Core.Logic.{_⊎_, inl, inr}
+use mathlib.Core.Logic.{_⊎_, inl, inr, ⊎-elim}
 use mathlib.Core.Bool.{Bool, true, false, cond}
-use Prim.Native.Nat.{ℕ, zero, suc, _≤_, _<_}
+use Prim.Native.Nat.{ℕ, zero, suc, _-_, _≤_, _<_}
+use native.Mathlib.Nat.{eq-or-lt-of-le, le-of-suc-le-suc, le-refl}
 use native.Mathlib.Omega.{arith}
 use lib.Dec.{eqb}
 use lib.IntN.{ℤ, pos, negsuc}
-use lib.Signed.{leZ}
-use borrow.Author.Tests.{leb-true}
+use lib.Signed.{leZ, ltZ}
+use borrow.Author.Tests.{leb-true, ltb-true}
 use Rattle.history.specs.History.{Allowed}
 use Rattle.history.proofs.WordsLaws.{part}
 use Rattle.manual.specs.Words.{between, eqZ, natOf}
-use Rattle.manual.specs.Configuration.{Configuration, events, places, frameBytes, column, numberAt, codeOf, cycleOf, kindOf, isInternal, isCounter, isTime, lowOf, highOf, upOf, downOf, limitsOf, rowOk, configOk}
+use Rattle.manual.specs.Configuration.{Configuration, mostEvents, mostPlaces, mostFrame, events, places, frameBytes, column, numberAt, codeOf, cycleOf, kindOf, isInternal, isCounter, isTime, lowOf, highOf, upOf, downOf, limitsOf, rowOk, rises, configOk}
 use Rattle.manual.proofs.WordsLaws.{clash, all-below-at, eqZ-true, between-from, between-to}
 use Rattle.manual.proofs.SignedLaws.{signed}
 
@@ -35,10 +36,10 @@ pub record RowTells (cfg : Configuration) (e : ℕ) : Type 0 where
 
 pub record ConfigTells (cfg : Configuration) : Type 0 where
   pub n-least : 1 ≤ events cfg
-  pub n-most : events cfg ≤ 512
+  pub n-most : events cfg ≤ mostEvents
   pub M-least : 1 ≤ places cfg
-  pub M-most : places cfg ≤ 64
-  pub F-most : frameBytes cfg ≤ 32
+  pub M-most : places cfg ≤ mostPlaces
+  pub F-most : frameBytes cfg ≤ mostFrame
   pub row : (e : ℕ) → e < events cfg → RowTells cfg e
 
 -- a number between two counts, as a count
@@ -88,10 +89,31 @@ module _ (cfg : Configuration) where
   pub config-tells : configOk cfg ≡ true → ConfigTells cfg
   unfolding configOk events places frameBytes
   config-tells t = record {
-    n-least = counted 1 512 (numberAt cfg 0) (part _ t 1) .0;
-    n-most = counted 1 512 (numberAt cfg 0) (part _ t 1) .1;
-    M-least = counted 1 64 (numberAt cfg 1) (part _ t 2) .0;
-    M-most = counted 1 64 (numberAt cfg 1) (part _ t 2) .1;
-    F-most = counted 0 32 (numberAt cfg 2) (part _ t 3) .1;
+    n-least = counted 1 mostEvents (numberAt cfg 0) (part _ t 1) .0;
+    n-most = counted 1 mostEvents (numberAt cfg 0) (part _ t 1) .1;
+    M-least = counted 1 mostPlaces (numberAt cfg 1) (part _ t 2) .0;
+    M-most = counted 1 mostPlaces (numberAt cfg 1) (part _ t 2) .1;
+    F-most = counted 0 mostFrame (numberAt cfg 2) (part _ t 3) .1;
     row = λ e h. row-tells e (all-below-at (events cfg) (rowOk cfg) (part _ t 5) e h);
   }
+
+-- ---- "strictly rising from event to event"
+
+count-rises : (x y : ℤ) → ltZ x y ≡ true → natOf x ≤ natOf y
+count-rises (pos a) (pos b) t = let h = ltb-true a b t in omega arith
+count-rises (pos a) (negsuc b) t = clash true refl (sym t)
+count-rises (negsuc a) y t = omega arith
+
+-- an event's trouble code is not above that of any event after it
+pub codes-not-falling : (cfg : Configuration) → configOk cfg ≡ true → (a b : ℕ) → a ≤ b → b < events cfg → codeOf cfg a ≤ codeOf cfg b
+unfolding configOk
+codes-not-falling cfg ok a zero l h = let q : a ≡ 0 = omega arith in rw q (le-refl (codeOf cfg 0))
+codes-not-falling cfg ok a (suc b) l h =
+    ⊎-elim (λ q. rw q (le-refl (codeOf cfg (suc b)))) (λ q. later (codes-not-falling cfg ok a b (le-of-suc-le-suc q) (omega arith)))
+    (eq-or-lt-of-le l)
+  where
+    next : codeOf cfg b ≤ codeOf cfg (suc b)
+    next = count-rises (column 1 cfg b) (column 1 cfg (suc b)) (all-below-at (events cfg - 1) (rises cfg) (part _ ok 6) b (omega arith))
+
+    later : codeOf cfg a ≤ codeOf cfg b → codeOf cfg a ≤ codeOf cfg (suc b)
+    later k = omega (arith, next)

@@ -2,19 +2,19 @@
 use mathlib.Core.Path.{_≡_, refl, sym, ap, subst, _∙_}
 use mathlib.Core.Logic.{_≢_, _⊎_, inl, inr, ⊎-elim}
 use mathlib.Core.Bool.{Bool, true, false, not, _&&_, cond}
-use mathlib.Core.List.{List, [], _∷_, _++_, List·Memᴰ, List·Memᴰ·head, List·Memᴰ·tail, List·Memᴰ·append-cases, List·Memᴰ·cases-cons, List·Memᴰ·eq-of-singleton, Memᴰ·append-left, Memᴰ·append-right}
+use mathlib.Core.List.{List, [], _∷_, _++_, List·Memᴰ, List·Memᴰ·head, List·Memᴰ·append-cases, List·Memᴰ·eq-of-singleton, Memᴰ·append-left, Memᴰ·append-right}
 use Prim.Native.Nat.{ℕ, zero, suc, _≤_, _<_, min}
 use native.Mathlib.Nat.{le-refl}
 use native.Mathlib.Omega.{arith}
 use lib.Dec.{eqb, ltb}
 use lib.ListN.{length}
 use lib.IntN.{pos}
-use borrow.Author.Tests.{eqb-true, eqb-false, eq-eqb, ne-eqb, ltb-true, ltb-false, lt-ltb, le-ltb}
+use borrow.Author.Tests.{eqb-true, eqb-false, ltb-true, ltb-false, lt-ltb, le-ltb}
 use Rattle.history.specs.StatusByte.{freshFailure, agesAtStop}
 use Rattle.history.specs.History.{Token, failed, stop, clear}
 use Rattle.manual.specs.declared.Verdict.{Verdict}
 use Rattle.manual.specs.declared.Verdict.the-variants.{None, Passed, Failed}
-use Rattle.manual.specs.Words.{All, forBelow, those}
+use Rattle.manual.specs.Words.{forBelow, those}
 use Rattle.manual.specs.Configuration.{Configuration, events, places, frameBytes, priorityOf, limitsOf}
 use Rattle.manual.specs.State.{State, opened, recordOf, withD}
 use Rattle.manual.specs.Debouncing.{Debounced}
@@ -24,22 +24,13 @@ use Rattle.manual.specs.OneEvent.{happens, isQuiet, entryLeaves, keeps, 
 use Rattle.manual.specs.Displacement.{TakenOut, Ruled, renews, adds, replaces, loses}
 use Rattle.manual.specs.Calls.{applied}
 use Rattle.manual.specs.EntriesInACall.{renewedEntry}
-use Rattle.manual.proofs.WordsLaws.{clash, by, all-map, all-those, others-in}
+use Rattle.history.proofs.WordsLaws.{and-true}
+use Rattle.manual.proofs.WordsLaws.{by, all-map, all-those, those-those, those-alike, those-each, all-so, others-in, one-in, those-in}
 use Rattle.manual.proofs.MemoryLaws.{EntryGood, frames, memory-entries, good-store}
 use Rattle.manual.proofs.MemoryStaysGood.{hasFailedBit, MemoryGood, entries-are, good-happens, good-D, bit-own}
 use Rattle.manual.proofs.OneEventLaws.{View, view, Acts, acts-cond, fold-later}
 use Rattle.manual.proofs.StaysWellFormed.{Sound, Keeps, below-going}
 use Rattle.manual.proofs.OnlyTheNamedEntryLeaves.{store-is-ruled}
-
--- ---- a list cut at an element
-
-module _ {A : Type 0} (xs older : List A) (v : A) (newer : List A) (s : xs ≡ older ++ v ∷ newer) where
-  one-in : List·Memᴰ v xs
-  one-in = rw s (Memᴰ·append-right older (List·Memᴰ·head refl))
-
-  those-in : (y : A) → List·Memᴰ y (older ++ newer) → List·Memᴰ y xs
-  those-in y m =
-      rw s (⊎-elim (λ a. Memᴰ·append-left (v ∷ newer) a) (λ b. Memᴰ·append-right older (List·Memᴰ·tail b)) (List·Memᴰ·append-cases older m))
 
 -- ---- one store
 
@@ -120,59 +111,7 @@ module _ (cfg : Configuration) (frame : List ℕ) (k : ℕ) where
             by (freshFailure (recordOf u k)) (λ (t : State). PartEntries d u (entries cfg t))
             (λ f. told q f (told-entries u′ (good-D cfg k (d .number) u m))) (λ f. untold refl)
 
--- ---- the entries that pass a test
-
-module _ {A : Type 0} where
-  pub mem-those : (p : A → Bool) (xs : List A) (x : A) → p x ≡ true → List·Memᴰ x xs → List·Memᴰ x (those p xs)
-  unfolding those
-  mem-those p [] x h m = m
-  mem-those p (y ∷ xs) x h m = go (p y) refl (List·Memᴰ·cases-cons m) (λ t. mem-those p xs x h t)
-    where
-      go : (b : Bool) → p y ≡ b → (x ≡ y) ⊎ List·Memᴰ x xs → (List·Memᴰ x xs → List·Memᴰ x (those p xs))
-          → List·Memᴰ x (cond b (y ∷ those p xs) (those p xs))
-      go true q (inl e) ih = List·Memᴰ·head e
-      go true q (inr t) ih = List·Memᴰ·tail (ih t)
-      go false q (inl e) ih = clash (p y) (ap p (sym e) ∙ h) q
-      go false q (inr t) ih = ih t
-
-  pub those-mem : (p : A → Bool) (xs : List A) (x : A) → List·Memᴰ x (those p xs) → List·Memᴰ x xs
-  unfolding those
-  those-mem p [] x m = m
-  those-mem p (y ∷ xs) x m = go (p y) m (λ t. those-mem p xs x t)
-    where
-      go : (b : Bool) → List·Memᴰ x (cond b (y ∷ those p xs) (those p xs)) → (List·Memᴰ x (those p xs) → List·Memᴰ x xs) → List·Memᴰ x (y ∷ xs)
-      go true t ih = ⊎-elim List·Memᴰ·head (λ r. List·Memᴰ·tail (ih r)) (List·Memᴰ·cases-cons t)
-      go false t ih = List·Memᴰ·tail (ih t)
-
-  those-those : (p q : A → Bool) (xs : List A) → those p (those q xs) ≡ those (λ x. q x && p x) xs
-  unfolding those
-  those-those p q [] = refl
-  those-those p q (x ∷ xs) = go (q x) (those-those p q xs)
-    where
-      go : (b : Bool) → those p (those q xs) ≡ those (λ x. q x && p x) xs
-          → those p (cond b (x ∷ those q xs) (those q xs)) ≡ cond (b && p x) (x ∷ those (λ x. q x && p x) xs) (those (λ x. q x && p x) xs)
-      go true ih = rw ih
-      go false ih = ih
-
-  those-alike : (p q : A → Bool) (xs : List A) → All (λ x. p x ≡ q x) xs → those p xs ≡ those q xs
-  unfolding those
-  those-alike p q [] a = refl
-  those-alike p q (x ∷ xs) a = rw (a .0, those-alike p q xs (a .1))
-
-  those-each : (p : A → Bool) (xs : List A) → All (λ x. p x ≡ true) xs → those p xs ≡ xs
-  unfolding those
-  those-each p [] a = refl
-  those-each p (x ∷ xs) a = rw (a .0, those-each p xs (a .1))
-
-  each : (P : A → Type 0) → ((x : A) → P x) → (xs : List A) → All P xs
-  each P f [] = tt
-  each P f (x ∷ xs) = (f x, each P f xs)
-
 -- ---- the parts of a call that only lets entries leave, one after the other
-
-and-true : (b : Bool) → b && true ≡ b
-and-true true = refl
-and-true false = refl
 
 -- an entry of event e stays when the events below i have had their part, and those for which `out` holds lose their entry
 abbrev staysBelow : (ℕ → Bool) → ℕ → ℕ → Bool
@@ -225,7 +164,7 @@ module _ (cfg : Configuration) {p : ℕ → Bool} {one : ℕ → State → State
 
   below-stay : (i : ℕ) → i ≤ events cfg → entries cfg (upTo i) ≡ those (λ x. staysBelow out i (eventOf x)) (entries cfg s)
   unfolding forBelow without
-  below-stay zero h = sym (those-each _ (entries cfg s) (each _ (λ x. all-at-first out (eventOf x)) (entries cfg s)))
+  below-stay zero h = sym (those-each _ (entries cfg s) (all-so _ (λ x. all-at-first out (eventOf x)) (entries cfg s)))
   below-stay (suc i) h = next-entries i (omega arith) ∙ rw (below-stay i (omega arith)) (go (out i) refl)
     where
       xs : List Entry
@@ -233,8 +172,8 @@ module _ (cfg : Configuration) {p : ℕ → Bool} {one : ℕ → State → State
 
       go : (b : Bool) → out i ≡ b
           → cond b (without i (those (λ x. staysBelow out i (eventOf x)) xs)) (those (λ x. staysBelow out i (eventOf x)) xs) ≡ those (λ x. staysBelow out (suc i) (eventOf x)) xs
-      go true q = those-those _ _ xs ∙ those-alike _ _ xs (each _ (λ x. stays-where-out out i (eventOf x) q) xs)
-      go false q = those-alike _ _ xs (each _ (λ x. stays-where-in out i (eventOf x) q) xs)
+      go true q = those-those _ _ xs ∙ those-alike _ _ xs (all-so _ (λ x. stays-where-out out i (eventOf x) q) xs)
+      go false q = those-alike _ _ xs (all-so _ (λ x. stays-where-in out i (eventOf x) q) xs)
 
   -- the entries afterwards are those, in their order, whose event does not lose its entry
   pub those-stay : entries cfg (forThose cfg p one s) ≡ those (λ x. not (out (eventOf x))) (entries cfg s)

@@ -17,10 +17,10 @@ use Rattle.manual.specs.Configuration.{Configuration, events, places, fr
 use Rattle.manual.specs.State.{State, storedAt, withStored, statusByte}
 use Rattle.manual.specs.WellFormed.{lengthsFit, DFits, memoryOk, wellFormed}
 use Rattle.manual.specs.Answers as Answers
-use Rattle.manual.specs.Answers.{firstThatApplies}
+use Rattle.manual.specs.Answers.{alone, firstThatApplies}
 use Rattle.manual.specs.Debouncing.{top, bottom, verdictAt, leavesAt, internalReport, counterUp, counterDown, counterReport, timeReport, reported, ticked}
 use Rattle.manual.specs.OneEvent.{happens, entryLeaves, keeps, memoryTold, fails, stops, clears, forThose}
-use Rattle.manual.specs.Memory.{entriesFrom, entriesOf, entriesBytes, memoryOf, without, noTwice, victim, displaced, admitted, renewed, store}
+use Rattle.manual.specs.Memory.{entriesFrom, entriesOf, entriesBytes, memoryOf, without, noTwice, victim, pushedOut, admitted, renewed, store}
 use Rattle.manual.specs.Calls.{freshRecords, freshState, freshRules, fresh, reportRules, applied, report, tickRules, tick, startRules, startCycle, stopRules, stopCycle}
 use Rattle.manual.specs.Sequences.{Call, outcome, tokens, tokensAt, goesOn, Reached, begun, called}
 use Rattle.manual.specs.MarkedExamples.{Row, Story, After, afterCall, afterCalls, replayedRows, blank, afterFresh, replayed, marked, e1ToE10, e11, e12, table}
@@ -32,19 +32,20 @@ module _ (cfg : Configuration) where
   -- calls one after the other, the oldest first: the histories after them, and that each of them goes on
   unfoldable pub historiesAfter : List Call → State → Histories → Histories
   historiesAfter [] s H = H
-  historiesAfter (c ∷ cs) s H = historiesAfter cs (outcome cfg c s .state) (λ e. tokensAt cfg c s e ++ H e)
+  historiesAfter (c ∷ cs) s H = historiesAfter cs (outcome cfg c alone s .state) (λ e. tokensAt cfg c alone s e ++ H e)
 
   allGoOn : List Call → State → Bool
   allGoOn [] s = true
-  allGoOn (c ∷ cs) s = goesOn cfg c s && allGoOn cs (outcome cfg c s .state)
+  allGoOn (c ∷ cs) s = goesOn cfg c alone s && allGoOn cs (outcome cfg c alone s .state)
 
   follow : (cs : List Call) (a : After) {H : Histories} → Reached cfg (a .state) H → allGoOn cs (a .state) ≡ true
       → Reached cfg (afterCalls cfg cs a .state) (historiesAfter cs (a .state) H)
   unfolding historiesAfter allGoOn
   follow [] a r g = r
   follow (c ∷ cs) a r g =
-      let rest = allGoOn cs (outcome cfg c (a .state) .state) in
-      follow cs (afterCall cfg c (a .state)) (called r c (and-left (goesOn cfg c (a .state)) rest g)) (and-right (goesOn cfg c (a .state)) rest g)
+      let rest = allGoOn cs (outcome cfg c alone (a .state) .state) in
+      follow cs (afterCall cfg c (a .state)) (called r c alone (and-left (goesOn cfg c alone (a .state)) rest g))
+      (and-right (goesOn cfg c alone (a .state)) rest g)
 
   -- the status that is seen is event 0's byte
   SeesIt : After → Type 0
@@ -89,7 +90,7 @@ module _ (cfg : Configuration) where
 isASequence : Story → Bool
 isASequence t =
     holds
-    (eqb (fresh (t .config) (blank (t .config)) .answer) 0
+    (eqb (fresh (t .config) alone (blank (t .config)) .answer) 0
     ∷ rowsGoOn (t .config) (t .rows) (afterFresh (t .config))
     ∷ ltb 0 (events (t .config))
     ∷ [])
@@ -105,7 +106,7 @@ story-read : (t : Story) → isASequence t ≡ true → replayedRows (t .config)
 unfolding isASequence SeesIt
 story-read t is e =
     rows-read (t .config) (ltb-true 0 (events (t .config)) (part _ is 2)) (t .rows) (afterFresh (t .config))
-    (begun (blank (t .config)) (eqb-true _ 0 (part _ is 0))) refl (part _ is 1) e
+    (begun alone (blank (t .config)) (eqb-true _ 0 (part _ is 0))) refl (part _ is 1) e
 
 stories-read : (ts : List Story) → allOf isASequence ts ≡ true → replayed ts ≡ ts → map readIn ts ≡ map saidIn ts
 stories-read [] are e = refl
@@ -133,7 +134,7 @@ e1-to-e10 = callsOf e1ToE10
 abbrev pub begins : After
 begins = afterFresh marked
 
-fresh-accepted : fresh marked (blank marked) .answer ≡ 0
+fresh-accepted : fresh marked alone (blank marked) .answer ≡ 0
 unfolding table isASequence
 fresh-accepted = eqb-true _ 0 (part _ (and-left _ _ are-sequences) 0)
 
@@ -143,7 +144,7 @@ go-on = refl
 
 -- they are one sequence, with these histories
 pub is-reached : Reached marked (afterCalls marked e1-to-e10 begins .state) (historiesAfter marked e1-to-e10 (begins .state) (λ e. []))
-is-reached = follow marked e1-to-e10 begins (begun (blank marked) fresh-accepted) go-on
+is-reached = follow marked e1-to-e10 begins (begun alone (blank marked) fresh-accepted) go-on
 
 -- the pre-failed report of E2 gives no token
 abbrev pub history : History
@@ -151,5 +152,5 @@ history =
     stop ∷ start ∷ stop ∷ start ∷ stop ∷ passed ∷ start ∷ stop ∷ passed ∷ failed ∷ start ∷ stop ∷ failed ∷ start ∷ []
 
 pub its-history : historiesAfter marked e1-to-e10 (begins .state) (λ e. []) 0 ≡ history
-unfolding e1ToE10 historiesAfter tokens holds wellFormedRecord allBelow forBelow firstOf those equal between smaller larger events places frameBytes column rowOk configOk storedAt withStored lengthsFit DFits memoryOk wellFormed firstThatApplies Answers.judged top bottom verdictAt leavesAt internalReport counterUp counterDown counterReport timeReport reported ticked happens entryLeaves keeps memoryTold fails stops clears forThose entriesFrom entriesOf entriesBytes memoryOf without noTwice victim displaced admitted renewed store freshRecords freshState freshRules fresh reportRules applied report tickRules tick startRules startCycle stopRules stopCycle
+unfolding e1ToE10 historiesAfter tokens holds wellFormedRecord allBelow forBelow firstOf those equal between smaller larger events places frameBytes column rowOk configOk storedAt withStored lengthsFit DFits memoryOk wellFormed firstThatApplies Answers.judged top bottom verdictAt leavesAt internalReport counterUp counterDown counterReport timeReport reported ticked happens entryLeaves keeps memoryTold fails stops clears forThose entriesFrom entriesOf entriesBytes memoryOf without noTwice victim pushedOut admitted renewed store freshRecords freshState freshRules fresh reportRules applied report tickRules tick startRules startCycle stopRules stopCycle
 its-history = refl

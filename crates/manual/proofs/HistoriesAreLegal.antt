@@ -16,14 +16,14 @@ use Rattle.manual.specs.declared.Verdict.{Verdict}
 use Rattle.manual.specs.declared.Verdict.the-variants.{None, Passed, Failed}
 use Rattle.manual.specs.Configuration.{Configuration, events, cycleOf, isTime}
 use Rattle.manual.specs.State.{State, runs, allStopped, D}
-use Rattle.manual.specs.Answers.{Outcome, firstThatApplies}
+use Rattle.manual.specs.Answers.{Beside, Outcome, firstThatApplies}
 use Rattle.manual.specs.Debouncing.{reported, ticked}
 use Rattle.manual.specs.Calls.{freshState, fresh, cycleRuns, reportRules, timeRuns, ofCycle, startRules, stopRules, covers, cleared}
 use Rattle.manual.specs.Sequences.{result, onlyIf, Report, Tick, Reached, begun, called, restored}
 use Rattle.manual.proofs.AnswersLaws.{none-applies, accepted}
 use Rattle.manual.proofs.OneEventLaws.{those-running, acts-happens, acts-stops, acts-clears, applied-running, ticks-running}
 use Rattle.manual.proofs.SequencesLaws.{Histories, given, KeptWhenAccepted, call-keeps}
-use Rattle.manual.proofs.RestoreAfterSave.{restore-after-save}
+use Rattle.manual.proofs.RestoreAfterSave.{restored-is-saved}
 
 -- the history is legal, and r says whether its run goes on
 pub record Lawful (l : History) (r : Bool) : Type 0 where
@@ -128,15 +128,17 @@ module _ (cfg : Configuration) where
   none-runs (suc (suc (suc zero))) = refl
   none-runs (suc (suc (suc (suc c)))) = refl
 
-  orderly-begun : (s : State) → fresh cfg s .answer ≡ 0 → Orderly (fresh cfg s .state) (λ e. [])
+  orderly-begun : (b : Beside) (s : State) → fresh cfg b s .answer ≡ 0 → Orderly (fresh cfg b s .state) (λ e. [])
   unfolding fresh freshState
-  orderly-begun s z = subst (λ (o : Outcome). Orderly (o .state) (λ e. [])) (sym (accepted _ [] s _ z .1)) (record { four = refl; each = λ e h. record { is-legal = tt; goes-on = none-runs (cycleOf cfg e) } })
+  orderly-begun b s z =
+      subst (λ (o : Outcome). Orderly (o .state) (λ e. [])) (sym (accepted _ b s _ z .1))
+      (record { four = refl; each = λ e h. record { is-legal = tt; goes-on = none-runs (cycleOf cfg e) } })
 
   orderly : {s : State} {H : Histories} → Reached cfg s H → Orderly s H
-  orderly (begun s z) = orderly-begun s z
-  orderly (called {s} {H} r c g) = call-keeps cfg Orderly s H (orderly r) (orderly-accepted s H (orderly r)) c g
-  orderly (restored {s} {H} r room z s′ fits) =
-      subst (λ (o : Outcome). Orderly (o .state) H) (sym (restore-after-save cfg s s′ (orderly r .four) fits room z)) (orderly r)
+  orderly (begun b s z) = orderly-begun b s z
+  orderly (called {s} {H} r c b g) = call-keeps cfg Orderly s H (orderly r) (orderly-accepted s H (orderly r)) c b g
+  orderly (restored {s} {H} r b z b′ s′ a) =
+      subst (λ (o : Outcome). Orderly (o .state) H) (sym (restored-is-saved cfg s s′ (orderly r .four) b b′ z a)) (orderly r)
 
   -- "which of the four cycles run"
   pub four-cycles : {s : State} {H : Histories} → Reached cfg s H → length (s .board .running) ≡ 4

@@ -1,3 +1,4 @@
+pub mod TheThreeConditions
 pub mod WordsLaws
 pub mod AnswersLaws
 pub mod ConfigurationLaws

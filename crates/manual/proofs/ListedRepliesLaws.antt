@@ -13,7 +13,7 @@ use Rattle.manual.specs.Words.{those, two, three}
 use Rattle.manual.specs.Configuration.{Configuration, events, codeOf, configOk}
 use Rattle.manual.specs.State.{State, statusByte}
 use Rattle.manual.specs.WellFormed.{wellFormed}
-use Rattle.manual.specs.Answers.{Outcome}
+use Rattle.manual.specs.Answers.{Beside, Outcome}
 use Rattle.manual.specs.Diagnostics.{requestReply}
 use Rattle.manual.specs.Replies.{rising, sharesBit, numberBy, listBy, listAll, fours, linesIn, Tells, secondByte, Due, sends, refusedWith, number-by-mask, list-by-mask, list-all, too-long, negative, positive}
 use Rattle.manual.proofs.WordsLaws.{those-le}
@@ -22,12 +22,12 @@ use Rattle.manual.proofs.RepliesLaws.{rising-length, fours-flat, flat-l
 use Rattle.manual.proofs.RepliesFollowTheSentences.{reply-is}
 
 module _ (cfg : Configuration) (s : State) (configured : configOk cfg ≡ true) (formed : wellFormed cfg s ≡ true) where
-  abbrev pub ask : List ℕ → List ℕ → Outcome
-  ask request room = requestReply cfg request room s
+  abbrev pub ask : List ℕ → Beside → Outcome
+  ask request b = requestReply cfg request b s
 
   -- "one longer than the room: code 14"
-  abbrev pub TooLong : List ℕ → List ℕ → Type 0
-  TooLong request room = ask request room ≡ refusedWith cfg request s room 0x14
+  abbrev pub TooLong : List ℕ → Beside → Type 0
+  TooLong request b = ask request b ≡ refusedWith cfg request s b 0x14
 
   -- ---- a request without the top bit that is due these bytes
 
@@ -36,25 +36,25 @@ module _ (cfg : Configuration) (s : State) (configured : configOk cfg ≡ true) 
     due : Due cfg request s bytes
     plain : secondByte cfg request s < 128
 
-  module _ {request bytes : List ℕ} (w : Wants request bytes) (room : List ℕ) (least : 3 ≤ length room) where
-    answered : ask request room .answer ≡ 0
-    answered = accepted-told cfg request room s (record {
+  module _ {request bytes : List ℕ} (w : Wants request bytes) (b : Beside) (least : 3 ≤ length (b .room)) where
+    answered : ask request b .answer ≡ 0
+    answered = accepted-told cfg request b s (record {
       configuration = configured;
       formed = formed;
       room-least = least;
       not-empty = w .asked;
     })
 
-    sent-all : length bytes ≤ length room → ask request room ≡ sends cfg request s room bytes s
-    sent-all h = reply-is cfg request room s answered _ (positive bytes (w .due) (w .plain) h)
+    sent-all : length bytes ≤ length (b .room) → ask request b ≡ sends cfg request s b bytes s
+    sent-all h = reply-is cfg request b s answered _ (positive bytes (w .due) (w .plain) h)
 
-    sent-14 : length room < length bytes → TooLong request room
-    sent-14 h = reply-is cfg request room s answered _ (negative 0x14 (too-long bytes (w .due) (w .plain) h))
+    sent-14 : length (b .room) < length bytes → TooLong request b
+    sent-14 h = reply-is cfg request b s answered _ (negative 0x14 (too-long bytes (w .due) (w .plain) h))
 
-    sent-if : ¬ TooLong request room → ask request room ≡ sends cfg request s room bytes s
-    sent-if n = go (ltb (length room) (length bytes)) refl
+    sent-if : ¬ TooLong request b → ask request b ≡ sends cfg request s b bytes s
+    sent-if n = go (ltb (length (b .room)) (length bytes)) refl
       where
-        go : (b : Bool) → ltb (length room) (length bytes) ≡ b → ask request room ≡ sends cfg request s room bytes s
+        go : (t : Bool) → ltb (length (b .room)) (length bytes) ≡ t → ask request b ≡ sends cfg request s b bytes s
         go true t = absurd (n (sent-14 (ltb-true _ _ t)))
         go false f = sent-all (ltb-false _ _ f)
 
@@ -72,21 +72,21 @@ module _ (cfg : Configuration) (s : State) (configured : configOk cfg ≡ true) 
   unfolding fours
   cut e l = refl
 
-  module _ (request : List ℕ) (a b c : ℕ) (es : List ℕ) (w : Wants request (a ∷ b ∷ c ∷ flatMap line es))
-      (room : List ℕ) where
-    its-length : length (a ∷ b ∷ c ∷ flatMap line es) ≡ 3 + 4 * length es
+  module _ (request : List ℕ) (x y z : ℕ) (es : List ℕ) (w : Wants request (x ∷ y ∷ z ∷ flatMap line es))
+      (b : Beside) where
+    its-length : length (x ∷ y ∷ z ∷ flatMap line es) ≡ 3 + 4 * length es
     its-length = let h = flat-length line 4 (λ e. refl) es in omega arith
 
-    list-value : 3 + 4 * length es ≤ length room → ask request room .value ≡ 3 + 4 * length es
-    list-value h = ap (λ (o : Outcome). o .value) (sent-all w room (omega arith) (rw its-length h)) ∙ its-length
+    list-value : 3 + 4 * length es ≤ length (b .room) → ask request b .value ≡ 3 + 4 * length es
+    list-value h = ap (λ (o : Outcome). o .value) (sent-all w b (omega arith) (rw its-length h)) ∙ its-length
 
-    list-14 : 3 ≤ length room → length room < 3 + 4 * length es → TooLong request room
-    list-14 h l = sent-14 w room h (rw its-length l)
+    list-14 : 3 ≤ length (b .room) → length (b .room) < 3 + 4 * length es → TooLong request b
+    list-14 h l = sent-14 w b h (rw its-length l)
 
-    list-lines : 3 ≤ length room → ¬ TooLong request room → linesIn (ask request room) ≡ map line es
+    list-lines : 3 ≤ length (b .room) → ¬ TooLong request b → linesIn (ask request b) ≡ map line es
     list-lines h n =
-        ap linesIn (sent-if w room h n)
-        ∙ ap (λ (l : List ℕ). fours (drop 3 l)) (take-at (a ∷ b ∷ c ∷ flatMap line es) _ _ refl)
+        ap linesIn (sent-if w b h n)
+        ∙ ap (λ (l : List ℕ). fours (drop 3 l)) (take-at (x ∷ y ∷ z ∷ flatMap line es) _ _ refl)
         ∙ fours-flat line cut es
 
   -- ---- `19 01 mask`
@@ -112,11 +112,11 @@ module _ (cfg : Configuration) (s : State) (configured : configOk cfg ≡ true) 
       plain = omega arith;
     }
 
-    pub number-sent : (room : List ℕ) → 6 ≤ length room
-        → ask (numberBy mask) room ≡ sends cfg (numberBy mask) s room numberBytes s
-    number-sent room h = sent-all number-wants room (omega arith) h
+    pub number-sent : (b : Beside) → 6 ≤ length (b .room)
+        → ask (numberBy mask) b ≡ sends cfg (numberBy mask) s b numberBytes s
+    number-sent b h = sent-all number-wants b (omega arith) h
 
-    pub number-14 : (room : List ℕ) → 3 ≤ length room → length room < 6 → TooLong (numberBy mask) room
+    pub number-14 : (b : Beside) → 3 ≤ length (b .room) → length (b .room) < 6 → TooLong (numberBy mask) b
     number-14 = sent-14 number-wants
 
     -- ---- `19 02 mask`
@@ -128,16 +128,16 @@ module _ (cfg : Configuration) (s : State) (configured : configOk cfg ≡ true) 
       plain = omega arith;
     }
 
-    pub by-mask-value : (room : List ℕ) → 3 + 4 * length matched ≤ length room
-        → ask (listBy mask) room .value ≡ 3 + 4 * length matched
+    pub by-mask-value : (b : Beside) → 3 + 4 * length matched ≤ length (b .room)
+        → ask (listBy mask) b .value ≡ 3 + 4 * length matched
     by-mask-value = list-value (listBy mask) 0x59 0x02 0xFF matched by-mask-wants
 
-    pub by-mask-14 : (room : List ℕ) → 3 ≤ length room → length room < 3 + 4 * length matched
-        → TooLong (listBy mask) room
+    pub by-mask-14 : (b : Beside) → 3 ≤ length (b .room) → length (b .room) < 3 + 4 * length matched
+        → TooLong (listBy mask) b
     by-mask-14 = list-14 (listBy mask) 0x59 0x02 0xFF matched by-mask-wants
 
-    pub by-mask-lines : (room : List ℕ) → 3 ≤ length room → ¬ TooLong (listBy mask) room
-        → linesIn (ask (listBy mask) room) ≡ map line matched
+    pub by-mask-lines : (b : Beside) → 3 ≤ length (b .room) → ¬ TooLong (listBy mask) b
+        → linesIn (ask (listBy mask) b) ≡ map line matched
     by-mask-lines = list-lines (listBy mask) 0x59 0x02 0xFF matched by-mask-wants
 
   -- ---- `19 0A`
@@ -152,13 +152,13 @@ module _ (cfg : Configuration) (s : State) (configured : configOk cfg ≡ true) 
     plain = omega arith;
   }
 
-  pub all-value : (room : List ℕ) → 3 + 4 * length every ≤ length room
-      → ask listAll room .value ≡ 3 + 4 * length every
+  pub all-value : (b : Beside) → 3 + 4 * length every ≤ length (b .room)
+      → ask listAll b .value ≡ 3 + 4 * length every
   all-value = list-value listAll 0x59 0x0A 0xFF every all-wants
 
-  pub all-14 : (room : List ℕ) → 3 ≤ length room → length room < 3 + 4 * length every → TooLong listAll room
+  pub all-14 : (b : Beside) → 3 ≤ length (b .room) → length (b .room) < 3 + 4 * length every → TooLong listAll b
   all-14 = list-14 listAll 0x59 0x0A 0xFF every all-wants
 
-  pub all-lines : (room : List ℕ) → 3 ≤ length room → ¬ TooLong listAll room
-      → linesIn (ask listAll room) ≡ map line every
+  pub all-lines : (b : Beside) → 3 ≤ length (b .room) → ¬ TooLong listAll b
+      → linesIn (ask listAll b) ≡ map line every
   all-lines = list-lines listAll 0x59 0x0A 0xFF every all-wants

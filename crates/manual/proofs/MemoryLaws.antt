@@ -15,8 +15,10 @@ use lib.Seq.{take-at, drop-at, take-add, length-take-le}
 use borrow.Author.Tests.{eqb-true, eqb-false, eq-eqb, ne-eqb, ltb-true, ltb-false, not-true}
 use Rattle.history.specs.Words.{anyOf}
 use Rattle.history.proofs.WordsLaws.{and-left, and-right}
+use Rattle.manual.specs.declared.StoreAnswer.{StoreAnswer}
+use Rattle.manual.specs.declared.StoreAnswer.the-variants.{Renewed, Added, NotStored}
 use Rattle.manual.specs.Words.{All, firstOf, orElse, those}
-use Rattle.manual.specs.Memory.{Entry, eventOf, entryOf, entryWidth, entryBytes, entryAt, memoryLength, entryCount, bytesInUse, entriesFrom, entriesOf, entriesBytes, memoryOf, isOf, without, noTwice, Kept, kept, outranked, resting, victim, displaced, admitted, renewed, store}
+use Rattle.manual.specs.Memory.{Entry, eventOf, entryOf, entryWidth, entryBytes, entryAt, memoryLength, entryCount, bytesInUse, entriesFrom, entriesOf, entriesBytes, memoryOf, isOf, without, noTwice, Kept, kept, displacing, outranked, resting, victim, pushedOut, admitted, renewed, store}
 use Rattle.manual.proofs.WordsLaws.{by, neither, all-map, all-append, none-at, anyOf-append, First, first-is, first-none, all-those, those-le, those-all, anyOf-those, as-long}
 
 -- ---- an entry
@@ -207,23 +209,23 @@ module _ (M : ℕ) (priority : ℕ → ℕ) (quiet : ℕ → Bool) (e : ℕ) (fr
   rests = resting M priority quiet e frame
 
   -- the first that passes a test leaves, e is appended
-  abbrev instead : {p : Entry → Bool} {v : Entry} → ℕ → First p xs v → Kept
-  instead c f = kept (f .older ++ f .newer ++ (entryOf e c frame ∷ []))
+  abbrev instead : {p : Entry → Bool} {v : Entry} → StoreAnswer → ℕ → First p xs v → Kept
+  instead did c f = kept did (f .older ++ f .newer ++ (entryOf e c frame ∷ []))
 
   pub store-cases : (P : Kept → Type 0)
-      → ((x : Entry) (f : First (isOf e) xs x) → P (instead (min 255 (suc (x .count))) f))
-      → (anyOf (isOf e) xs ≡ false → length xs < M → P (kept (xs ++ (entryOf e 1 frame ∷ []))))
-      → (anyOf (isOf e) xs ≡ false → M ≤ length xs → (v : Entry) (f : First top xs v) → P (instead 1 f))
-      → (anyOf (isOf e) xs ≡ false → M ≤ length xs → anyOf top xs ≡ false → (v : Entry) (f : First rests xs v) → P (instead 1 f))
-      → (anyOf (isOf e) xs ≡ false → M ≤ length xs → anyOf top xs ≡ false → anyOf rests xs ≡ false → P (record { entries = xs; lost = true }))
+      → ((x : Entry) (f : First (isOf e) xs x) → P (instead Renewed (min 255 (suc (x .count))) f))
+      → (anyOf (isOf e) xs ≡ false → length xs < M → P (kept Added (xs ++ (entryOf e 1 frame ∷ []))))
+      → (anyOf (isOf e) xs ≡ false → M ≤ length xs → (v : Entry) (f : First top xs v) → P (instead (displacing v) 1 f))
+      → (anyOf (isOf e) xs ≡ false → M ≤ length xs → anyOf top xs ≡ false → (v : Entry) (f : First rests xs v) → P (instead (displacing v) 1 f))
+      → (anyOf (isOf e) xs ≡ false → M ≤ length xs → anyOf top xs ≡ false → anyOf rests xs ≡ false → P (kept NotStored xs))
       → P (store M priority quiet e frame xs)
-  unfolding store renewed admitted displaced victim
+  unfolding store renewed admitted pushedOut victim
   store-cases P renews adds outranks rests-instead loses = stored (firstOf (isOf e) xs) refl
     where
       leaves : {p : Entry → Bool} {v : Entry} (f : First p xs v) → without (eventOf v) xs ≡ f .older ++ f .newer
       leaves {v} f = without-is xs (f .older) v (f .newer) (f .there) once
 
-      pushed : anyOf (isOf e) xs ≡ false → M ≤ length xs → (a b : Option Entry) → firstOf top xs ≡ a → firstOf rests xs ≡ b → P (displaced M priority quiet e frame (orElse a b) xs)
+      pushed : anyOf (isOf e) xs ≡ false → M ≤ length xs → (a b : Option Entry) → firstOf top xs ≡ a → firstOf rests xs ≡ b → P (pushedOut M priority quiet e frame (orElse a b) xs)
       pushed n l (some v) b p q = let f = first-is top xs v p in rw (leaves f) (outranks n l v f)
       pushed n l none (some v) p q = let f = first-is rests xs v q in rw (leaves f) (rests-instead n l (first-none top xs p) v f)
       pushed n l none none p q = loses n l (first-none top xs p) (first-none rests xs q)

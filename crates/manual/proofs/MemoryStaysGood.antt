@@ -1,26 +1,21 @@
 -- What each step of a call keeps of the memory block: it is the block of its entries, and these are in order.
 use mathlib.Core.Path.{_≡_, refl, sym, ap, subst, _∙_}
 use mathlib.Core.Logic.{_≢_}
-use mathlib.Core.Bool.{Bool, true, false, cond}
+use mathlib.Core.Bool.{Bool, true, false}
 use mathlib.Core.List.{List}
 use Prim.Native.Nat.{ℕ, _<_}
-use native.Mathlib.Nat.{le-refl}
 use lib.Dec.{eqb}
 use lib.ListN.{length}
 use lib.IntN.{ℤ, pos}
 use borrow.Author.Tests.{eqb-true, eqb-false}
-use Rattle.history.specs.StatusByte.{testFailedSinceLastClear, EventRecord, Limits, freshFailure, agesAtStop}
-use Rattle.history.specs.History.{Token, passed, failed, start, stop, clear, step}
-use Rattle.manual.specs.declared.Verdict.{Verdict}
-use Rattle.manual.specs.declared.Verdict.the-variants.{None, Passed, Failed}
+use Rattle.history.specs.StatusByte.{testFailedSinceLastClear, EventRecord, Limits, agesAtStop}
+use Rattle.history.specs.History.{Token, start, stop, clear, step}
 use Rattle.manual.specs.Configuration.{Configuration, events, places, frameBytes, priorityOf, limitsOf}
 use Rattle.manual.specs.State.{State, opened, recordOf, withD}
-use Rattle.manual.specs.Debouncing.{Debounced}
 use Rattle.manual.specs.Memory.{Entry, memoryOf, without, store}
 use Rattle.manual.specs.WellFormed.{entries}
-use Rattle.manual.specs.OneEvent.{happens, withEntries, entryLeaves, isQuiet, keeps, memoryTold, fails, qualifies, stops, clears, forThose}
-use Rattle.manual.specs.Calls.{applied}
-use Rattle.manual.proofs.WordsLaws.{by, for-below-keeps}
+use Rattle.manual.specs.OneEvent.{happens, withEntries, entryLeaves, isQuiet, keeps, memoryTold, stops, clears}
+use Rattle.manual.proofs.WordsLaws.{by}
 use Rattle.manual.proofs.StateLaws.{opened-stored}
 use Rattle.manual.proofs.MemoryLaws.{Good, frames, memory-entries, good-bits, good-without, good-store}
 use Rattle.manual.proofs.OneEventLaws.{View, Sized, acts-happens, acts-D}

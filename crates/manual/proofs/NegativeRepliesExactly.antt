@@ -9,23 +9,23 @@ use native.Mathlib.Omega.{arith}
 use lib.ListN.{getD, drop, length}
 use Rattle.manual.specs.Configuration.{Configuration}
 use Rattle.manual.specs.State.{State}
-use Rattle.manual.specs.Answers.{Outcome}
+use Rattle.manual.specs.Answers.{Beside, Outcome}
 use Rattle.manual.specs.Diagnostics.{requestReply}
 use Rattle.manual.specs.Replies.{Asks, Negative, Replies, refusedWith, number-by-mask, list-by-mask, list-all, negative, suppressed, positive, clears}
 use Rattle.manual.proofs.RepliesFollowTheSentences.{reply-said, reply-is}
 
-module _ (cfg : Configuration) (request room : List ℕ) (s : State) where
+module _ (cfg : Configuration) (request : List ℕ) (b : Beside) (s : State) where
   abbrev outcome : Outcome
-  outcome = requestReply cfg request room s
+  outcome = requestReply cfg request b s
 
   abbrev Given : ℕ → Type 0
-  Given = Negative cfg request s room
+  Given = Negative cfg request s b
 
   abbrev negativeReply : ℕ → Outcome
-  negativeReply = refusedWith cfg request s room
+  negativeReply = refusedWith cfg request s b
 
   abbrev firstByte : Outcome → ℕ
-  firstByte o = getD (o .room) 0 0
+  firstByte o = getD (o .beside .room) 0 0
 
   -- a positive reply of service 19 begins with 59
   begins-59 : {size : ℕ} {bytes : List ℕ} → Asks cfg request s size bytes
@@ -34,24 +34,24 @@ module _ (cfg : Configuration) (request room : List ℕ) (s : State) where
   begins-59 (list-by-mask e) rest = refl
   begins-59 (list-all e) rest = refl
 
-  begins-7F : (o : Outcome) → Replies cfg request s room o → o .value ≢ 0 → firstByte o ≡ 0x7F
+  begins-7F : (o : Outcome) → Replies cfg request s b o → o .value ≢ 0 → firstByte o ≡ 0x7F
       → (code : ℕ) × Given code × (o ≡ negativeReply code)
   begins-7F _ (negative code n) v f = (code, n, refl)
   begins-7F _ (suppressed q) v f = absurd (v refl)
   begins-7F _ (positive bytes n p l) v f =
-      let e : getD (bytes ++ drop (length bytes) room) 0 0 ≡ 0x59 = begins-59 (n .asks) (drop (length bytes) room) in
+      let e : getD (bytes ++ drop (length bytes) (b .room)) 0 0 ≡ 0x59 = begins-59 (n .asks) (drop (length bytes) (b .room)) in
       absurd (let z : ⊥ = omega arith in z)
   begins-7F _ (clears a l k) v f = absurd (let z : ⊥ = omega arith in z)
 
   module _ (answered : outcome .answer ≡ 0) where
     pub only-negative-begins-7F : outcome .value ≢ 0 → firstByte outcome ≡ 0x7F
         → (code : ℕ) × Given code × (outcome ≡ negativeReply code)
-    only-negative-begins-7F = begins-7F outcome (reply-said cfg request room s answered)
+    only-negative-begins-7F = begins-7F outcome (reply-said cfg request b s answered)
 
     told : (code : ℕ) → outcome ≡ negativeReply code → Given code
     told code e =
         let (k, n, is) = only-negative-begins-7F (rw e (λ z. omega arith)) (rw e) in
-        subst Given (ap (λ (o : Outcome). getD (o .room) 2 0) (sym is ∙ e)) n
+        subst Given (ap (λ (o : Outcome). getD (o .beside .room) 2 0) (sym is ∙ e)) n
 
     pub negative-exactly : (code : ℕ) → (outcome ≡ negativeReply code) ↔ Given code
-    negative-exactly code = (told code, λ n. reply-is cfg request room s answered _ (negative code n))
+    negative-exactly code = (told code, λ n. reply-is cfg request b s answered _ (negative code n))

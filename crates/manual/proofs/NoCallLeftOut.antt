@@ -11,36 +11,39 @@ use borrow.Author.Tests.{eqb-true, not-false}
 use Rattle.history.proofs.WordsLaws.{and-left, and-right}
 use Rattle.manual.specs.Configuration.{Configuration}
 use Rattle.manual.specs.State.{State}
+use Rattle.manual.specs.Answers.{Beside}
 use Rattle.manual.specs.Calls.{fresh}
 use Rattle.manual.specs.Image.{restore}
-use Rattle.manual.specs.Sequences.{Call, Fresh, Report, Tick, Start, Stop, Clear, ReadStatus, ReadFrame, Save, Restore, Request, beginsAnew, outcome, tokensAt, goesOn, Reached, called}
+use Rattle.manual.specs.Sequences.{Call, Fresh, Report, Tick, Start, Stop, Clear, Read, Restore, Request, beginsAnew, outcome, tokensAt, goesOn, Reached, called}
 use Rattle.manual.proofs.WordsLaws.{clash}
 use Rattle.manual.proofs.SequencesLaws.{Histories}
 
 module _ (cfg : Configuration) where
   -- an accepted fresh or restore
-  pub data Anew (s : State) : Call → Type 0 where
-    fresh-again : fresh cfg s .answer ≡ 0 → Anew s Fresh
-    restore-of : (image : List ℕ) → restore cfg image s .answer ≡ 0 → Anew s (Restore image)
+  pub data Anew (b : Beside) (s : State) : Call → Type 0 where
+    fresh-again : fresh cfg b s .answer ≡ 0 → Anew b s Fresh
+    restore-of : (image : List ℕ) → restore cfg image b s .answer ≡ 0 → Anew b s (Restore image)
 
-  anew : (s : State) (c : Call) → beginsAnew c ≡ true → outcome cfg c s .answer ≡ 0 → Anew s c
-  anew s Fresh b z = fresh-again z
-  anew s (Report k code frame) b z = clash true refl (sym b)
-  anew s (Tick ms frame) b z = clash true refl (sym b)
-  anew s (Start c) b z = clash true refl (sym b)
-  anew s (Stop c) b z = clash true refl (sym b)
-  anew s (Clear code) b z = clash true refl (sym b)
-  anew s (ReadStatus k) b z = clash true refl (sym b)
-  anew s (ReadFrame k) b z = clash true refl (sym b)
-  anew s (Save room) b z = clash true refl (sym b)
-  anew s (Restore image) b z = restore-of image z
-  anew s (Request bytes room) b z = clash true refl (sym b)
+  anew : (b : Beside) (s : State) (c : Call) → beginsAnew c ≡ true → outcome cfg c b s .answer ≡ 0 → Anew b s c
+  anew b s Fresh t z = fresh-again z
+  anew b s (Report k code frame) t z = clash true refl (sym t)
+  anew b s (Tick ms frame) t z = clash true refl (sym t)
+  anew b s (Start c) t z = clash true refl (sym t)
+  anew b s (Stop c) t z = clash true refl (sym t)
+  anew b s (Clear code) t z = clash true refl (sym t)
+  anew b s (Read q) t z = clash true refl (sym t)
+  anew b s (Restore image) t z = restore-of image z
+  anew b s (Request bytes) t z = clash true refl (sym t)
 
-  pub no-call-left-out : {s : State} {H : Histories} → Reached cfg s H → (c : Call) → Reached cfg (outcome cfg c s .state) (λ e. tokensAt cfg c s e ++ H e) ⊎ Anew s c
-  no-call-left-out {s} {H} r c = go (goesOn cfg c s) refl
+  pub no-call-left-out : {s : State} {H : Histories} → Reached cfg s H → (c : Call) (b : Beside)
+      → Reached cfg (outcome cfg c b s .state) (λ e. tokensAt cfg c b s e ++ H e) ⊎ Anew b s c
+  no-call-left-out {s} {H} r c b = go (goesOn cfg c b s) refl
     where
-      go : (b : Bool) → goesOn cfg c s ≡ b → Reached cfg (outcome cfg c s .state) (λ e. tokensAt cfg c s e ++ H e) ⊎ Anew s c
-      go true g = inl (called r c g)
+      is-done : Bool
+      is-done = eqb (outcome cfg c b s .answer) 0
+
+      go : (t : Bool) → goesOn cfg c b s ≡ t → Reached cfg (outcome cfg c b s .state) (λ e. tokensAt cfg c b s e ++ H e) ⊎ Anew b s c
+      go true g = inl (called r c b g)
       go false g =
-          let both = not-false (beginsAnew c && eqb (outcome cfg c s .answer) 0) g in
-          inr (anew s c (and-left (beginsAnew c) (eqb (outcome cfg c s .answer) 0) both) (eqb-true _ 0 (and-right (beginsAnew c) (eqb (outcome cfg c s .answer) 0) both)))
+          let both = not-false (beginsAnew c && is-done) g in
+          inr (anew b s c (and-left (beginsAnew c) is-done both) (eqb-true _ 0 (and-right (beginsAnew c) is-done both)))

@@ -19,7 +19,7 @@ use Rattle.manual.specs.declared.StatusAnswer.the-variants.{Status}
 use Rattle.manual.specs.declared.LengthAnswer.{LengthAnswer}
 use Rattle.manual.specs.declared.LengthAnswer.the-variants.{Written}
 use Rattle.manual.specs.State.{State, lent}
-use Rattle.manual.specs.Answers.{Outcome, numberOf, Answered, answered, ofAnswer, ofReport, ofStatus, ofLength, leaves}
+use Rattle.manual.specs.Answers.{Beside, alone, Outcome, numberOf, Answered, answered, ofAnswer, ofReport, ofStatus, ofLength, leaves}
 use Rattle.manual.proofs.AnswersLaws.{never-done}
 
 -- ---- the numbers give the enum back
@@ -86,7 +86,7 @@ length-back (LengthAnswer.Refused r) = refused-back (λ a. Written (a .value)) L
 pub one-outcome : {O X : Type 0} (read : O → X) {o y y′ : O} {x x′ : X} → read y ≡ x → read y′ ≡ x′ → y ≡ o → y′ ≡ o → x ≡ x′
 one-outcome read b b′ p q = sym b ∙ ap read (p ∙ sym q) ∙ b′
 
--- the blocks, the board and the room
+-- the blocks, the board and what was lent beside them
 pub same-blocks : {o y y′ : Outcome} → y ≡ o → y′ ≡ o
     → (y .state .records ≡ y′ .state .records) × ((y .state .debounce ≡ y′ .state .debounce) × (y .state .memory ≡ y′ .state .memory))
 same-blocks p q = (
@@ -97,33 +97,33 @@ same-blocks p q = (
 pub same-board : {o y y′ : Outcome} → y ≡ o → y′ ≡ o → y .state .board ≡ y′ .state .board
 same-board p q = one-outcome (λ (y : Outcome). y .state .board) refl refl p q
 
-pub same-room : {o y y′ : Outcome} → y ≡ o → y′ ≡ o → y .room ≡ y′ .room
-same-room p q = one-outcome (λ (y : Outcome). y .room) refl refl p q
+pub same-beside : {o y y′ : Outcome} → y ≡ o → y′ ≡ o → y .beside ≡ y′ .beside
+same-beside p q = one-outcome (λ (y : Outcome). y .beside) refl refl p q
 
 -- the answer, which its numbers give back
 module _ {A : Type 0} (of : A → Answered) (from : Answered → A) (back : (a : A) → from (of a) ≡ a) where
-  same-numbers : {o : Outcome} {part part′ room room′ : List ℕ} {s s′ : State} (a a′ : A) → leaves (of a) part room s ≡ o → leaves (of a′) part′ room′ s′ ≡ o → a ≡ a′
+  same-numbers : {o : Outcome} {part part′ : List ℕ} {b b′ : Beside} {s s′ : State} (a a′ : A) → leaves (of a) part b s ≡ o → leaves (of a′) part′ b′ s′ ≡ o → a ≡ a′
   same-numbers a a′ p q = one-outcome (λ (y : Outcome). from (answered (y .answer) (y .verdict) (y .value))) (back a) (back a′) p q
 
-module _ {o : Outcome} {part part′ room room′ : List ℕ} {s s′ : State} where
-  same-answer : (a a′ : Answer) → leaves (ofAnswer a) part room s ≡ o → leaves (ofAnswer a′) part′ room′ s′ ≡ o → a ≡ a′
+module _ {o : Outcome} {part part′ : List ℕ} {b b′ : Beside} {s s′ : State} where
+  same-answer : (a a′ : Answer) → leaves (ofAnswer a) part b s ≡ o → leaves (ofAnswer a′) part′ b′ s′ ≡ o → a ≡ a′
   same-answer = same-numbers ofAnswer answerOf answer-back
 
   -- report
-  pub same-report : (a a′ : ReportAnswer) → leaves (ofReport a) part room s ≡ o → leaves (ofReport a′) part′ room′ s′ ≡ o → a ≡ a′
+  pub same-report : (a a′ : ReportAnswer) → leaves (ofReport a) part b s ≡ o → leaves (ofReport a′) part′ b′ s′ ≡ o → a ≡ a′
   same-report = same-numbers ofReport reportOf report-back
 
   -- read status
-  pub same-status : (a a′ : StatusAnswer) → leaves (ofStatus a) part room s ≡ o → leaves (ofStatus a′) part′ room′ s′ ≡ o → a ≡ a′
+  pub same-status : (a a′ : StatusAnswer) → leaves (ofStatus a) part b s ≡ o → leaves (ofStatus a′) part′ b′ s′ ≡ o → a ≡ a′
   same-status = same-numbers ofStatus statusAnswerOf status-back
 
   -- save and a diagnostic request
-  pub same-length : (a a′ : LengthAnswer) → leaves (ofLength a) part room s ≡ o → leaves (ofLength a′) part′ room′ s′ ≡ o → a ≡ a′
+  pub same-length : (a a′ : LengthAnswer) → leaves (ofLength a) part b s ≡ o → leaves (ofLength a′) part′ b′ s′ ≡ o → a ≡ a′
   same-length = same-numbers ofLength lengthOf length-back
 
 -- fresh, tick, start, stop, clear and restore: the answer with the board
 pub same-returned : {o : Outcome} {records records′ : List ℕ} {debounce debounce′ : List ℤ} {memory memory′ : List ℕ} (r r′ : Returned)
-    → leaves (ofAnswer (r .answer)) [] [] (lent records debounce memory (r .board)) ≡ o
-    → leaves (ofAnswer (r′ .answer)) [] [] (lent records′ debounce′ memory′ (r′ .board)) ≡ o
+    → leaves (ofAnswer (r .answer)) [] alone (lent records debounce memory (r .board)) ≡ o
+    → leaves (ofAnswer (r′ .answer)) [] alone (lent records′ debounce′ memory′ (r′ .board)) ≡ o
     → r ≡ r′
 same-returned r r′ p q = λ i. record { answer = same-answer (r .answer) (r′ .answer) p q i; board = same-board p q i }

@@ -18,6 +18,7 @@ use Rattle.manual.specs.Debouncing.{Debounced, reported, ticked}
 use Rattle.manual.specs.Words.{forBelow}
 use Rattle.manual.specs.OneEvent.{happens, keeps, memoryTold, fails, qualifies, forThose}
 use Rattle.manual.specs.Calls.{freshState, applied, timeRuns, ticks, ofCycle, covers, cleared}
+use Rattle.manual.specs.Answers.{Beside}
 use Rattle.manual.specs.Sequences.{Call, result, onlyIf, outcome, tokensAt, goesOn}
 use Rattle.manual.proofs.StateLaws.{opened-stored}
 use Rattle.manual.proofs.WordsLaws.{by, for-below-keeps}
@@ -161,9 +162,9 @@ module _ (cfg : Configuration) where
             go true q = rw (eqb-true e k q)
             go false q = refl
 
-  pub call-follows : (c : Call) (s : State) (H : Histories) → goesOn cfg c s ≡ true → Follows s H
-      → Follows (outcome cfg c s .state) (λ e. tokensAt cfg c s e ++ H e)
-  call-follows c s H g f = call-keeps cfg Follows s H f (follows-accepted s H f) c g
+  pub call-follows : (c : Call) (b : Beside) (s : State) (H : Histories) → goesOn cfg c b s ≡ true → Follows s H
+      → Follows (outcome cfg c b s .state) (λ e. tokensAt cfg c b s e ++ H e)
+  call-follows c b s H g f = call-keeps cfg Follows s H f (follows-accepted s H f) c b g
 
   pub fresh-follows : Follows (freshState cfg) (λ e. [])
   unfolding recordAfter

@@ -12,19 +12,19 @@ use Rattle.manual.specs.Words.{those}
 use Rattle.manual.specs.Configuration.{Configuration, events, configOk}
 use Rattle.manual.specs.State.{State}
 use Rattle.manual.specs.WellFormed.{wellFormed}
-use Rattle.manual.specs.Answers.{Outcome}
+use Rattle.manual.specs.Answers.{Beside, Outcome}
 use Rattle.manual.specs.Diagnostics.{requestReply}
 use Rattle.manual.specs.Replies.{sharesBit, numberBy, listBy, listAll, replyIn, linesIn, statusIn, numberIn, Tells, refusedWith}
 use Rattle.manual.proofs.RepliesLaws.{rising-length, rising-at, map-at, those-map}
 use Rattle.manual.proofs.ListedRepliesLaws as Laws
 
 module _ (cfg : Configuration) (s : State) (configured : configOk cfg ≡ true) (formed : wellFormed cfg s ≡ true) where
-  abbrev ask : List ℕ → List ℕ → Outcome
-  ask request room = requestReply cfg request room s
+  abbrev ask : List ℕ → Beside → Outcome
+  ask request b = requestReply cfg request b s
 
   -- "one longer than the room: code 14"
-  abbrev TooLong : List ℕ → List ℕ → Type 0
-  TooLong request room = ask request room ≡ refusedWith cfg request s room 0x14
+  abbrev TooLong : List ℕ → Beside → Type 0
+  TooLong request b = ask request b ≡ refusedWith cfg request s b 0x14
 
   abbrev line : ℕ → List ℕ
   line = Laws.line cfg s configured formed
@@ -39,69 +39,69 @@ module _ (cfg : Configuration) (s : State) (configured : configOk cfg ≡ true) 
     matched = Laws.matched cfg s configured formed mask
 
     -- the number takes 6 bytes of room, two of them its own
-    pub number-in-two-bytes : (room : List ℕ) → 6 ≤ length room
-        → (ask (numberBy mask) room .value ≡ 6)
-        × (getD (replyIn (ask (numberBy mask) room)) 4 0 < 256)
-        × (getD (replyIn (ask (numberBy mask) room)) 5 0 < 256)
-    number-in-two-bytes room six =
+    pub number-in-two-bytes : (b : Beside) → 6 ≤ length (b .room)
+        → (ask (numberBy mask) b .value ≡ 6)
+        × (getD (replyIn (ask (numberBy mask) b)) 4 0 < 256)
+        × (getD (replyIn (ask (numberBy mask) b)) 5 0 < 256)
+    number-in-two-bytes b six =
         let most = Laws.matched-most cfg s configured formed mask in
-        rw (Laws.number-sent cfg s configured formed mask room six) (refl, omega arith, omega arith)
+        rw (Laws.number-sent cfg s configured formed mask b six) (refl, omega arith, omega arith)
 
-    pub number-too-long : (room : List ℕ) → 3 ≤ length room → length room < 6 → TooLong (numberBy mask) room
+    pub number-too-long : (b : Beside) → 3 ≤ length (b .room) → length (b .room) < 6 → TooLong (numberBy mask) b
     number-too-long = Laws.number-14 cfg s configured formed mask
 
-    module _ (room₁ room₂ : List ℕ) (six : 6 ≤ length room₁) where
+    module _ (b₁ b₂ : Beside) (six : 6 ≤ length (b₁ .room)) where
       abbrev told : ℕ
-      told = numberIn (ask (numberBy mask) room₁)
+      told = numberIn (ask (numberBy mask) b₁)
 
       told-is : told ≡ length matched
-      told-is = ap numberIn (Laws.number-sent cfg s configured formed mask room₁ six) ∙ omega arith
+      told-is = ap numberIn (Laws.number-sent cfg s configured formed mask b₁ six) ∙ omega arith
 
-      pub number-is-lines : 3 ≤ length room₂ → ¬ TooLong (listBy mask) room₂
-          → told ≡ length (linesIn (ask (listBy mask) room₂))
+      pub number-is-lines : 3 ≤ length (b₂ .room) → ¬ TooLong (listBy mask) b₂
+          → told ≡ length (linesIn (ask (listBy mask) b₂))
       number-is-lines h n =
           told-is
-          ∙ sym (ap length (Laws.by-mask-lines cfg s configured formed mask room₂ h n) ∙ length-map matched line)
+          ∙ sym (ap length (Laws.by-mask-lines cfg s configured formed mask b₂ h n) ∙ length-map matched line)
 
-      pub number-is-length : 3 + 4 * told ≤ length room₂ → ask (listBy mask) room₂ .value ≡ 3 + 4 * told
-      number-is-length = rw told-is (Laws.by-mask-value cfg s configured formed mask room₂)
+      pub number-is-length : 3 + 4 * told ≤ length (b₂ .room) → ask (listBy mask) b₂ .value ≡ 3 + 4 * told
+      number-is-length = rw told-is (Laws.by-mask-value cfg s configured formed mask b₂)
 
-      pub list-too-long : 3 ≤ length room₂ → length room₂ < 3 + 4 * told → TooLong (listBy mask) room₂
-      list-too-long = rw told-is (Laws.by-mask-14 cfg s configured formed mask room₂)
+      pub list-too-long : 3 ≤ length (b₂ .room) → length (b₂ .room) < 3 + 4 * told → TooLong (listBy mask) b₂
+      list-too-long = rw told-is (Laws.by-mask-14 cfg s configured formed mask b₂)
 
   -- ---- `19 0A`
 
-  module _ (room : List ℕ) where
-    pub all-is-length : 3 + 4 * events cfg ≤ length room → ask listAll room .value ≡ 3 + 4 * events cfg
-    all-is-length = rw (rising-length (events cfg)) at (Laws.all-value cfg s configured formed room)
+  module _ (b : Beside) where
+    pub all-is-length : 3 + 4 * events cfg ≤ length (b .room) → ask listAll b .value ≡ 3 + 4 * events cfg
+    all-is-length = rw (rising-length (events cfg)) at (Laws.all-value cfg s configured formed b)
 
-    pub all-too-long : 3 ≤ length room → length room < 3 + 4 * events cfg → TooLong listAll room
-    all-too-long = rw (rising-length (events cfg)) at (Laws.all-14 cfg s configured formed room)
+    pub all-too-long : 3 ≤ length (b .room) → length (b .room) < 3 + 4 * events cfg → TooLong listAll b
+    all-too-long = rw (rising-length (events cfg)) at (Laws.all-14 cfg s configured formed b)
 
-    module _ (least : 3 ≤ length room) (sent : ¬ TooLong listAll room) where
-      pub as-many-lines-as-events : length (linesIn (ask listAll room)) ≡ events cfg
+    module _ (least : 3 ≤ length (b .room)) (sent : ¬ TooLong listAll b) where
+      pub as-many-lines-as-events : length (linesIn (ask listAll b)) ≡ events cfg
       as-many-lines-as-events =
-          ap length (Laws.all-lines cfg s configured formed room least sent)
+          ap length (Laws.all-lines cfg s configured formed b least sent)
           ∙ length-map every line
           ∙ rising-length (events cfg)
 
-      line-is : (e : ℕ) → e < events cfg → getD (linesIn (ask listAll room)) e [] ≡ line e
+      line-is : (e : ℕ) → e < events cfg → getD (linesIn (ask listAll b)) e [] ≡ line e
       line-is e h =
-          ap (λ (l : List (List ℕ)). getD l e []) (Laws.all-lines cfg s configured formed room least sent)
+          ap (λ (l : List (List ℕ)). getD l e []) (Laws.all-lines cfg s configured formed b least sent)
           ∙ map-at line every e (rw (rising-length (events cfg)) h)
           ∙ ap line (rising-at (events cfg) e h)
 
-      pub line-of-event : (e : ℕ) → e < events cfg → Tells cfg s e (getD (linesIn (ask listAll room)) e [])
+      pub line-of-event : (e : ℕ) → e < events cfg → Tells cfg s e (getD (linesIn (ask listAll b)) e [])
       line-of-event e h = rw (line-is e h) (Laws.line-tells cfg s configured formed e h)
 
   -- ---- `19 02 mask` and `19 0A`
 
-  module _ (mask : ℕ) (room₁ room₂ : List ℕ) (least₁ : 3 ≤ length room₁) (least₂ : 3 ≤ length room₂) where
+  module _ (mask : ℕ) (b₁ b₂ : Beside) (least₁ : 3 ≤ length (b₁ .room)) (least₂ : 3 ≤ length (b₂ .room)) where
     abbrev shares : List ℕ → Bool
     shares l = sharesBit (statusIn l) mask
 
-    pub the-others-left-out : ¬ TooLong (listBy mask) room₁ → ¬ TooLong listAll room₂
-        → linesIn (ask (listBy mask) room₁) ≡ those shares (linesIn (ask listAll room₂))
+    pub the-others-left-out : ¬ TooLong (listBy mask) b₁ → ¬ TooLong listAll b₂
+        → linesIn (ask (listBy mask) b₁) ≡ those shares (linesIn (ask listAll b₂))
     the-others-left-out n₁ n₂ =
-        Laws.by-mask-lines cfg s configured formed mask room₁ least₁ n₁
-        ∙ sym (ap (those shares) (Laws.all-lines cfg s configured formed room₂ least₂ n₂) ∙ those-map line shares every)
+        Laws.by-mask-lines cfg s configured formed mask b₁ least₁ n₁
+        ∙ sym (ap (those shares) (Laws.all-lines cfg s configured formed b₂ least₂ n₂) ∙ those-map line shares every)

@@ -9,54 +9,54 @@ use lib.ListN.{length, drop, length-append, length-drop}
 use lib.Seq.{take-at, drop-at}
 use Rattle.manual.specs.Configuration.{Configuration}
 use Rattle.manual.specs.State.{State}
-use Rattle.manual.specs.Answers.{Outcome}
+use Rattle.manual.specs.Answers.{Beside, Outcome}
 use Rattle.manual.specs.Diagnostics.{requestReply}
 use Rattle.manual.specs.Replies.{SameReply, sends, refusedWith, Negative, Replies, other-service, alone, no-sub-function, other-length, too-long, not-four, unknown, negative, suppressed, positive, clears}
 use Rattle.manual.proofs.RepliesLaws.{accepted-tells}
 use Rattle.manual.proofs.RepliesFollowTheSentences.{reply-said, reply-is}
 
 module _ (cfg : Configuration) (request : List ℕ) (s : State) where
-  abbrev outcome : List ℕ → Outcome
-  outcome room = requestReply cfg request room s
+  abbrev outcome : Beside → Outcome
+  outcome b = requestReply cfg request b s
 
   -- ---- one room
 
-  record Sent (room : List ℕ) (o : Outcome) : Type 0 where
+  record Sent (b : Beside) (o : Outcome) : Type 0 where
     bytes : List ℕ
     after : State
-    is : o ≡ sends cfg request s room bytes after
-    fits : length bytes ≤ length room
+    is : o ≡ sends cfg request s b bytes after
+    fits : length bytes ≤ length (b .room)
 
-  sent-in : (room : List ℕ) → 3 ≤ length room → (o : Outcome) → Replies cfg request s room o → Sent room o
-  sent-in room h _ (negative code n) = record { bytes = 0x7F ∷ _ ∷ code ∷ []; after = s; is = refl; fits = h }
-  sent-in room h _ (suppressed q) = record { bytes = []; after = s; is = refl; fits = omega arith }
-  sent-in room h _ (positive bytes n p l) = record { bytes = bytes; after = s; is = refl; fits = l }
-  sent-in room h _ (clears a l k) = record { bytes = 0x54 ∷ []; after = _; is = refl; fits = omega arith }
+  sent-in : (b : Beside) → 3 ≤ length (b .room) → (o : Outcome) → Replies cfg request s b o → Sent b o
+  sent-in b h _ (negative code n) = record { bytes = 0x7F ∷ _ ∷ code ∷ []; after = s; is = refl; fits = h }
+  sent-in b h _ (suppressed q) = record { bytes = []; after = s; is = refl; fits = omega arith }
+  sent-in b h _ (positive bytes n p l) = record { bytes = bytes; after = s; is = refl; fits = l }
+  sent-in b h _ (clears a l k) = record { bytes = 0x54 ∷ []; after = _; is = refl; fits = omega arith }
 
   as-long : (bytes room : List ℕ) → length bytes ≤ length room
       → length (bytes ++ drop (length bytes) room) ≡ length room
   as-long bytes room h = simp (length-append, length-drop) (omega arith)
 
-  module _ (room : List ℕ) (answered : outcome room .answer ≡ 0) where
-    sent-here : Sent room (outcome room)
+  module _ (b : Beside) (answered : outcome b .answer ≡ 0) where
+    sent-here : Sent b (outcome b)
     sent-here =
-        sent-in room (accepted-tells cfg request room s answered .room-least) _ (reply-said cfg request room s answered)
+        sent-in b (accepted-tells cfg request b s answered .room-least) _ (reply-said cfg request b s answered)
 
-    pub never-longer : outcome room .value ≤ length room
+    pub never-longer : outcome b .value ≤ length (b .room)
     never-longer = let h = sent-here in rw (h .is) (h .fits)
 
     -- "Bytes past the reply stay."
-    pub rest-stays : drop (outcome room .value) (outcome room .room) ≡ drop (outcome room .value) room
+    pub rest-stays : drop (outcome b .value) (outcome b .beside .room) ≡ drop (outcome b .value) (b .room)
     rest-stays = let h = sent-here in rw (h .is) (drop-at (h .bytes) _ _ refl)
 
-    pub room-as-long : length (outcome room .room) ≡ length room
-    room-as-long = let h = sent-here in rw (h .is) (as-long (h .bytes) room (h .fits))
+    pub room-as-long : length (outcome b .beside .room) ≡ length (b .room)
+    room-as-long = let h = sent-here in rw (h .is) (as-long (h .bytes) (b .room) (h .fits))
 
   -- ---- two rooms
 
-  module _ (room room′ : List ℕ) (fits : ¬ Negative cfg request s room 0x14) where
+  module _ (b b′ : Beside) (fits : ¬ Negative cfg request s b 0x14) where
     -- a negative code other than 14 has nothing to do with the room
-    negative-again : (code : ℕ) → Negative cfg request s room code → Negative cfg request s room′ code
+    negative-again : (code : ℕ) → Negative cfg request s b code → Negative cfg request s b′ code
     negative-again _ (other-service a b) = other-service a b
     negative-again _ (alone a l) = alone a l
     negative-again _ (no-sub-function a m p q r) = no-sub-function a m p q r
@@ -68,25 +68,25 @@ module _ (cfg : Configuration) (request : List ℕ) (s : State) where
     record Again (o : Outcome) : Type 0 where
       bytes : List ℕ
       after : State
-      is : o ≡ sends cfg request s room bytes after
-      too : Replies cfg request s room′ (sends cfg request s room′ bytes after)
+      is : o ≡ sends cfg request s b bytes after
+      too : Replies cfg request s b′ (sends cfg request s b′ bytes after)
 
-    again : (o : Outcome) → Replies cfg request s room o → o .value ≤ length room′ → Again o
+    again : (o : Outcome) → Replies cfg request s b o → o .value ≤ length (b′ .room) → Again o
     again _ (negative code n) h =
         record { bytes = 0x7F ∷ _ ∷ code ∷ []; after = s; is = refl; too = negative code (negative-again code n) }
     again _ (suppressed q) h = record { bytes = []; after = s; is = refl; too = suppressed q }
     again _ (positive bytes n p l) h = record { bytes = bytes; after = s; is = refl; too = positive bytes n p h }
     again _ (clears a l k) h = record { bytes = 0x54 ∷ []; after = _; is = refl; too = clears a l k }
 
-  module _ (room room′ : List ℕ) (answered : outcome room .answer ≡ 0) (answered′ : outcome room′ .answer ≡ 0) where
-    is-14 : Negative cfg request s room 0x14 → outcome room ≡ refusedWith cfg request s room 0x14
-    is-14 k = reply-is cfg request room s answered _ (negative 0x14 k)
+  module _ (b b′ : Beside) (answered : outcome b .answer ≡ 0) (answered′ : outcome b′ .answer ≡ 0) where
+    is-14 : Negative cfg request s b 0x14 → outcome b ≡ refusedWith cfg request s b 0x14
+    is-14 k = reply-is cfg request b s answered _ (negative 0x14 k)
 
-    pub same-in-any-room : outcome room ≢ refusedWith cfg request s room 0x14 → outcome room .value ≤ length room′
-        → SameReply (outcome room) (outcome room′)
+    pub same-in-any-room : outcome b ≢ refusedWith cfg request s b 0x14 → outcome b .value ≤ length (b′ .room)
+        → SameReply (outcome b) (outcome b′)
     same-in-any-room n h =
-        let a = again room room′ (λ k. n (is-14 k)) _ (reply-said cfg request room s answered) h in
-        rw (a .is, reply-is cfg request room′ s answered′ _ (a .too)) (record {
+        let a = again b b′ (λ k. n (is-14 k)) _ (reply-said cfg request b s answered) h in
+        rw (a .is, reply-is cfg request b′ s answered′ _ (a .too)) (record {
           value = refl;
           bytes = take-at (a .bytes) _ _ refl ∙ sym (take-at (a .bytes) _ _ refl);
           state = refl;

@@ -12,7 +12,7 @@ use borrow.Author.Tests.{eqb-true, eqb-false, eq-eqb, ne-eqb, ltb-true, ltb-fals
 use Rattle.manual.specs.Words.{firstOf, two}
 use Rattle.manual.specs.Configuration.{Configuration, events}
 use Rattle.manual.specs.State.{State}
-use Rattle.manual.specs.Answers.{Outcome}
+use Rattle.manual.specs.Answers.{Beside, Outcome}
 use Rattle.manual.specs.Calls.{unknownCode, cleared}
 use Rattle.manual.specs.Diagnostics.{Reply, Served, served, SubFunction, subFunction, fitted, lines, numberByMask, listByMask, listAll, subFunctionOf, subFunctionReply, service19, service14, servedBy, sent, replied, requestReply}
 use Rattle.manual.specs.Replies as Replies
@@ -20,7 +20,7 @@ use Rattle.manual.specs.Replies.{rising, number-by-mask, list-by-mask, l
 use Rattle.manual.proofs.WordsLaws.{by}
 use Rattle.manual.proofs.RepliesLaws.{those-every, count-is, join-is, accepted-is}
 
-module _ (cfg : Configuration) (request room : List ℕ) (s : State) where
+module _ (cfg : Configuration) (request : List ℕ) (b : Beside) (s : State) where
   abbrev service : ℕ
   service = Replies.service cfg request s
 
@@ -49,17 +49,17 @@ module _ (cfg : Configuration) (request room : List ℕ) (s : State) where
   Due = Replies.Due cfg request s
 
   abbrev Negative : ℕ → Type 0
-  Negative = Replies.Negative cfg request s room
+  Negative = Replies.Negative cfg request s b
 
   abbrev Said : Outcome → Type 0
-  Said = Replies.Replies cfg request s room
+  Said = Replies.Replies cfg request s b
 
   abbrev here : Served
-  here = servedBy cfg request (length room) s
+  here = servedBy cfg request (length (b .room)) s
 
   -- a positive reply as the request and the room let it go
   abbrev fitting : List ℕ → Reply
-  fitting bytes = fitted (leb 128 second) (length room) (Reply.positive bytes)
+  fitting bytes = fitted (leb 128 second) (length (b .room)) (Reply.positive bytes)
 
   -- ---- the definitions' positive replies are the sentences' ones
 
@@ -81,7 +81,7 @@ module _ (cfg : Configuration) (request room : List ℕ) (s : State) where
 
   -- what this leaves is said
   abbrev SaidOf : Served → Type 0
-  SaidOf r = Said (replied cfg service room r)
+  SaidOf r = Said (replied cfg service b r)
 
   abbrev Said19 : Reply → Type 0
   Said19 reply = SaidOf (served reply s)
@@ -90,13 +90,13 @@ module _ (cfg : Configuration) (request room : List ℕ) (s : State) where
   unfolding fitted sent
   fitted-said bytes n =
       by (leb 128 second) Said19 (λ t. suppressed (bytes, n, leb-true _ _ t)) (λ f.
-      by (ltb (length room) (length bytes)) Said19
+      by (ltb (length (b .room)) (length bytes)) Said19
       (λ t. negative 0x14 (too-long bytes n (leb-false _ _ f) (ltb-true _ _ t)))
       (λ g. positive bytes n (leb-false _ _ f) (ltb-false _ _ g)))
 
   sub-said : (k size : ℕ) (reply : List ℕ → State → Reply) (bytes : List ℕ)
       → reply request s ≡ Reply.positive bytes → Names size bytes
-      → Said19 (subFunctionReply cfg (some (subFunction k size reply)) request (length room) s)
+      → Said19 (subFunctionReply cfg (some (subFunction k size reply)) request (length (b .room)) s)
   unfolding subFunctionReply sent
   sub-said k size reply bytes e n =
       by (not (eqb (length request) size)) Said19
@@ -108,7 +108,7 @@ module _ (cfg : Configuration) (request room : List ℕ) (s : State) where
     named a = record { service-19 = is19; more = more; asks = a }
 
     abbrev SaidSub : Option SubFunction → Type 0
-    SaidSub f = Said19 (subFunctionReply cfg f request (length room) s)
+    SaidSub f = Said19 (subFunctionReply cfg f request (length (b .room)) s)
 
     none-said : number ≢ 0x01 → number ≢ 0x02 → number ≢ 0x0A → SaidSub none
     unfolding subFunctionReply sent
@@ -128,7 +128,7 @@ module _ (cfg : Configuration) (request room : List ℕ) (s : State) where
         other : {k : ℕ} → eqb k number ≡ false → number ≢ k
         other f e = eqb-false _ _ f (sym e)
 
-  service19-said : service ≡ 0x19 → Said19 (service19 cfg request (length room) s)
+  service19-said : service ≡ 0x19 → Said19 (service19 cfg request (length (b .room)) s)
   unfolding service19 sent
   service19-said is19 =
       by (eqb (length request) 1) Said19 (λ t. negative 0x13 (alone is19 (eqb-true _ _ t)))
@@ -190,7 +190,7 @@ module _ (cfg : Configuration) (request room : List ℕ) (s : State) where
   clears-served a l k = rw (a, l, k)
 
   -- what is served and what is sent
-  said-served : (o : Outcome) → Said o → replied cfg service room (here) ≡ o
+  said-served : (o : Outcome) → Said o → replied cfg service b (here) ≡ o
   unfolding sent fitted
   said-served _ (negative k n) = rw (negative-served k n)
   said-served _ (suppressed q) = rw (due-served (q .1), le-leb _ _ (q .2))
@@ -199,13 +199,13 @@ module _ (cfg : Configuration) (request room : List ℕ) (s : State) where
 
   -- ---- the theorem
 
-  module _ (answered : requestReply cfg request room s .answer ≡ 0) where
-    pub reply-said : Said (requestReply cfg request room s)
-    reply-said = rw (accepted-is cfg request room s answered) served-said
+  module _ (answered : requestReply cfg request b s .answer ≡ 0) where
+    pub reply-said : Said (requestReply cfg request b s)
+    reply-said = rw (accepted-is cfg request b s answered) served-said
 
-    pub reply-is : (o : Outcome) → Said o → requestReply cfg request room s ≡ o
-    reply-is o h = accepted-is cfg request room s answered ∙ said-served o h
+    pub reply-is : (o : Outcome) → Said o → requestReply cfg request b s ≡ o
+    reply-is o h = accepted-is cfg request b s answered ∙ said-served o h
 
     -- exactly when
-    pub reply-exactly : (o : Outcome) → (requestReply cfg request room s ≡ o) ↔ Said o
+    pub reply-exactly : (o : Outcome) → (requestReply cfg request b s ≡ o) ↔ Said o
     reply-exactly o = (λ e. subst Said e reply-said, reply-is o)

@@ -13,7 +13,7 @@ use borrow.Author.Tests.{not-false, ltb-false, eqb-false, le-ltb, ne-eqb}
 use Rattle.manual.specs.Words.{countBelow, joinBelow, those}
 use Rattle.manual.specs.Configuration.{Configuration}
 use Rattle.manual.specs.State.{State}
-use Rattle.manual.specs.Answers.{Outcome, firstThatApplies}
+use Rattle.manual.specs.Answers.{Beside, Outcome, firstThatApplies}
 use Rattle.manual.specs.Diagnostics.{servedBy, sent, replied, requestRules, requestReply}
 use Rattle.manual.specs.Replies.{rising, fours, Accepted}
 use Rattle.manual.proofs.AnswersLaws.{none-applies, accepted, goes-through}
@@ -26,7 +26,7 @@ module _ {A : Type 0} where
   those-append p [] ys = refl
   those-append p (x ∷ xs) ys = go (p x) _ _ (those-append p xs ys)
     where
-      go : (b : Bool) (l m : List A) → l ≡ m ++ those p ys → cond b (x ∷ l) l ≡ cond b (x ∷ m) m ++ those p ys
+      go : (t : Bool) (l m : List A) → l ≡ m ++ those p ys → cond t (x ∷ l) l ≡ cond t (x ∷ m) m ++ those p ys
       go true l m ih = ap (λ (l : List A). x ∷ l) ih
       go false l m ih = ih
 
@@ -49,7 +49,7 @@ count-is p (suc n) =
     go (p n) _ _ (count-is p n)
     ∙ sym (ap length (those-append p (rising n) (n ∷ [])) ∙ length-append (those p (rising n)) (those p (n ∷ [])))
   where
-    go : (b : Bool) (k m : ℕ) → k ≡ m → cond b (suc k) k ≡ m + length (cond b (n ∷ []) [])
+    go : (t : Bool) (k m : ℕ) → k ≡ m → cond t (suc k) k ≡ m + length (cond t (n ∷ []) [])
     go true k m ih = omega arith
     go false k m ih = omega arith
 
@@ -63,7 +63,7 @@ join-is p f (suc n) =
     ∙ sym (ap (flatMap f) (those-append p (rising n) (n ∷ []))
     ∙ flat-append f (those p (rising n)) (those p (n ∷ [])))
   where
-    last : (b : Bool) → cond b (f n) [] ≡ flatMap f (cond b (n ∷ []) [])
+    last : (t : Bool) → cond t (f n) [] ≡ flatMap f (cond t (n ∷ []) [])
     last true = sym (append-nil (f n))
     last false = refl
 
@@ -111,17 +111,17 @@ module _ (f : ℕ → List ℕ) where
   those-map p [] = refl
   those-map p (x ∷ xs) = go (p (f x)) _ _ (those-map p xs)
     where
-      go : (b : Bool) (l : List (List ℕ)) (m : List ℕ) → l ≡ map f m → cond b (f x ∷ l) l ≡ map f (cond b (x ∷ m) m)
+      go : (t : Bool) (l : List (List ℕ)) (m : List ℕ) → l ≡ map f m → cond t (f x ∷ l) l ≡ map f (cond t (x ∷ m) m)
       go true l m ih = ap (λ (l : List (List ℕ)). f x ∷ l) ih
       go false l m ih = ih
 
 -- ---- an accepted request
 
-module _ (cfg : Configuration) (request room : List ℕ) (s : State) where
-  pub accepted-tells : requestReply cfg request room s .answer ≡ 0 → Accepted cfg request s room
+module _ (cfg : Configuration) (request : List ℕ) (b : Beside) (s : State) where
+  pub accepted-tells : requestReply cfg request b s .answer ≡ 0 → Accepted cfg request s b
   unfolding requestReply requestRules
   accepted-tells z =
-      let none = none-applies _ (accepted _ room s _ z .0) refl in
+      let none = none-applies _ (accepted _ b s _ z .0) refl in
       record {
         configuration = not-false _ (none 0);
         formed = not-false _ (none 1);
@@ -129,14 +129,14 @@ module _ (cfg : Configuration) (request room : List ℕ) (s : State) where
         not-empty = eqb-false _ _ (none 3);
       }
 
-  pub accepted-is : requestReply cfg request room s .answer ≡ 0
-      → requestReply cfg request room s ≡ replied cfg (getD request 0 0) room (servedBy cfg request (length room) s)
+  pub accepted-is : requestReply cfg request b s .answer ≡ 0
+      → requestReply cfg request b s ≡ replied cfg (getD request 0 0) b (servedBy cfg request (length (b .room)) s)
   unfolding requestReply
-  accepted-is z = accepted _ room s _ z .1
+  accepted-is z = accepted _ b s _ z .1
 
-  pub accepted-told : Accepted cfg request s room → requestReply cfg request room s .answer ≡ 0
+  pub accepted-told : Accepted cfg request s b → requestReply cfg request b s .answer ≡ 0
   unfolding requestReply requestRules sent firstThatApplies
   accepted-told a =
-      let none-first : firstThatApplies (requestRules cfg request room s) ≡ 0 =
+      let none-first : firstThatApplies (requestRules cfg request b s) ≡ 0 =
       rw (a .configuration, a .formed, le-ltb _ _ (a .room-least), ne-eqb _ _ (a .not-empty)) in
-      ap (λ (o : Outcome). o .answer) (goes-through _ room s _ none-first)
+      ap (λ (o : Outcome). o .answer) (goes-through _ b s _ none-first)

@@ -9,7 +9,7 @@ use lib.Seq.{take-at}
 use borrow.Author.Tests.{not-false}
 use Rattle.manual.specs.Configuration.{Configuration, configOk}
 use Rattle.manual.specs.State.{State}
-use Rattle.manual.specs.Answers.{done, firstThatApplies, _if_}
+use Rattle.manual.specs.Answers.{Beside, done, firstThatApplies, _if_}
 use Rattle.manual.specs.WellFormed.{lengthsFit, wellFormed}
 use Rattle.manual.specs.Image.{Still, imageOf, stateOf, acceptable, saveRules, save, restoreRules, restore}
 use Rattle.manual.specs.Sequences.{savedImage}
@@ -22,28 +22,35 @@ three-pass a b c p q r = rw (p, q, r)
 
 module _ (cfg : Configuration) where
   -- what a save that was accepted tells of the state
-  pub saved-still : (room : List ℕ) (s : State) → length (s .board .running) ≡ 4 → save cfg room s .answer ≡ 0 → Still cfg s
+  pub saved-still : (b : Beside) (s : State) → length (s .board .running) ≡ 4 → save cfg b s .answer ≡ 0 → Still cfg s
   unfolding save saveRules
-  saved-still room s four z =
-      let none = none-applies _ (accepted _ room s _ z .0) refl in
+  saved-still b s four z =
+      let none = none-applies _ (accepted _ b s _ z .0) refl in
       record { formed = not-false (wellFormed cfg s) (none 1); four = four; stopped = none 2 }
 
   -- and of the configuration
-  saved-configured : (room : List ℕ) (s : State) → save cfg room s .answer ≡ 0 → configOk cfg ≡ true
+  saved-configured : (b : Beside) (s : State) → save cfg b s .answer ≡ 0 → configOk cfg ≡ true
   unfolding save saveRules
-  saved-configured room s z = not-false (configOk cfg) (none-applies _ (accepted _ room s _ z .0) refl 0)
+  saved-configured b s z = not-false (configOk cfg) (none-applies _ (accepted _ b s _ z .0) refl 0)
 
   -- save wrote the image
-  pub written-image : (room : List ℕ) (s : State) → save cfg room s .answer ≡ 0 → savedImage (save cfg room s) ≡ imageOf cfg s
+  pub written-image : (b : Beside) (s : State) → save cfg b s .answer ≡ 0 → savedImage (save cfg b s) ≡ imageOf cfg s
   unfolding save
-  written-image room s z = ap savedImage (accepted _ room s _ z .1) ∙ take-at (imageOf cfg s) _ (length (imageOf cfg s)) refl
+  written-image b s z = ap savedImage (accepted _ b s _ z .1) ∙ take-at (imageOf cfg s) _ (length (imageOf cfg s)) refl
 
-  pub restore-after-save : (s s′ : State) → length (s .board .running) ≡ 4 → lengthsFit cfg s′ ≡ true → (room : List ℕ)
-      → save cfg room s .answer ≡ 0 → restore cfg (savedImage (save cfg room s)) s′ ≡ done s
+  pub restore-after-save : (s s′ : State) → length (s .board .running) ≡ 4 → lengthsFit cfg s′ ≡ true → (b b′ : Beside)
+      → save cfg b s .answer ≡ 0 → restore cfg (savedImage (save cfg b s)) b′ s′ ≡ done b′ s
   unfolding restore restoreRules
-  restore-after-save s s′ four fits room z =
-      let still = saved-still room s four z in
-      ap (λ (l : List ℕ). restore cfg l s′) (written-image room s z)
-      ∙ goes-through _ [] s′ (done (stateOf cfg (imageOf cfg s)))
-      (three-pass (configOk cfg) (lengthsFit cfg s′) (acceptable cfg (imageOf cfg s)) (saved-configured room s z) fits (own-image-acceptable cfg s still))
-      ∙ ap done (state-of-own-image cfg s still)
+  restore-after-save s s′ four fits b b′ z =
+      let still = saved-still b s four z in
+      ap (λ (l : List ℕ). restore cfg l b′ s′) (written-image b s z)
+      ∙ goes-through _ b′ s′ (done b′ (stateOf cfg (imageOf cfg s)))
+      (three-pass (configOk cfg) (lengthsFit cfg s′) (acceptable cfg (imageOf cfg s)) (saved-configured b s z) fits (own-image-acceptable cfg s still))
+      ∙ ap (done b′) (state-of-own-image cfg s still)
+
+  -- an accepted restore of a saved image makes the saved state
+  pub restored-is-saved : (s s′ : State) → length (s .board .running) ≡ 4 → (b b′ : Beside) → save cfg b s .answer ≡ 0
+      → restore cfg (savedImage (save cfg b s)) b′ s′ .answer ≡ 0 → restore cfg (savedImage (save cfg b s)) b′ s′ ≡ done b′ s
+  unfolding restore restoreRules
+  restored-is-saved s s′ four b b′ z r =
+      restore-after-save s s′ four (not-false (lengthsFit cfg s′) (none-applies _ (accepted _ b′ s′ _ r .0) refl 1)) b b′ z

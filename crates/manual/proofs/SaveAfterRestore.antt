@@ -9,7 +9,7 @@ use lib.ListN.{length}
 use borrow.Author.Tests.{not-false, le-ltb}
 use Rattle.manual.specs.Configuration.{Configuration, configOk}
 use Rattle.manual.specs.State.{State}
-use Rattle.manual.specs.Answers.{Outcome, firstThatApplies, _if_}
+use Rattle.manual.specs.Answers.{Beside, Outcome, firstThatApplies, _if_}
 use Rattle.manual.specs.WellFormed.{wellFormed}
 use Rattle.manual.specs.Image.{Still, imageOf, stateOf, acceptable, anyRuns, saveRules, saved, save, restoreRules, restore}
 use Rattle.manual.proofs.AnswersLaws.{none-applies, accepted, goes-through}
@@ -19,34 +19,34 @@ four-pass : (a b c d : Bool) → a ≡ true → b ≡ true → c ≡ false → d
 unfolding firstThatApplies
 four-pass a b c d p q r t = rw (p, q, r, t)
 
-module _ (cfg : Configuration) (image : List ℕ) (s : State) (z : restore cfg image s .answer ≡ 0) where
+module _ (cfg : Configuration) (image : List ℕ) (b : Beside) (s : State) (z : restore cfg image b s .answer ≡ 0) where
   configured : configOk cfg ≡ true
   unfolding restore restoreRules
-  configured = not-false (configOk cfg) (none-applies _ (accepted _ [] s _ z .0) refl 0)
+  configured = not-false (configOk cfg) (none-applies _ (accepted _ b s _ z .0) refl 0)
 
   pub restored-accepts : acceptable cfg image ≡ true
   unfolding restore restoreRules
-  restored-accepts = not-false (acceptable cfg image) (none-applies _ (accepted _ [] s _ z .0) refl 2)
+  restored-accepts = not-false (acceptable cfg image) (none-applies _ (accepted _ b s _ z .0) refl 2)
 
-  pub restored-state : restore cfg image s .state ≡ stateOf cfg image
+  pub restored-state : restore cfg image b s .state ≡ stateOf cfg image
   unfolding restore
-  restored-state = ap (λ (o : Outcome). o .state) (accepted _ [] s _ z .1)
+  restored-state = ap (λ (o : Outcome). o .state) (accepted _ b s _ z .1)
 
   -- the image of the restored state is the image
-  pub same-image : imageOf cfg (restore cfg image s .state) ≡ image
+  pub same-image : imageOf cfg (restore cfg image b s .state) ≡ image
   same-image = ap (imageOf cfg) restored-state ∙ accepted-image cfg image restored-accepts
 
   -- saved into any room that holds it, it is written there, with its length, and nothing else is changed
-  pub save-after-restore : (room : List ℕ) → length image ≤ length room → save cfg room (restore cfg image s .state) ≡ saved cfg image room (restore cfg image s .state)
+  pub save-after-restore : (b′ : Beside) → length image ≤ length (b′ .room) → save cfg b′ (restore cfg image b s .state) ≡ saved cfg image b′ (restore cfg image b s .state)
   unfolding save saveRules
-  save-after-restore room fits =
-      goes-through _ room t (saved cfg (imageOf cfg t) room t)
-      (four-pass (configOk cfg) (wellFormed cfg t) (anyRuns (t .board)) (ltb (length room) (length (imageOf cfg t))) configured (still .formed) (still .stopped)
-      (le-ltb (length room) (length (imageOf cfg t)) (let e = ap length same-image in omega arith)))
-      ∙ ap (λ (l : List ℕ). saved cfg l room t) same-image
+  save-after-restore b′ fits =
+      goes-through _ b′ t (saved cfg (imageOf cfg t) b′ t)
+      (four-pass (configOk cfg) (wellFormed cfg t) (anyRuns (t .board)) (ltb (length (b′ .room)) (length (imageOf cfg t))) configured (still .formed) (still .stopped)
+      (le-ltb (length (b′ .room)) (length (imageOf cfg t)) (let e = ap length same-image in omega arith)))
+      ∙ ap (λ (l : List ℕ). saved cfg l b′ t) same-image
     where
       t : State
-      t = restore cfg image s .state
+      t = restore cfg image b s .state
 
       still : Still cfg t
       still = subst (Still cfg) (sym restored-state) (accepted-state cfg image restored-accepts)

@@ -12,12 +12,12 @@ use Rattle.history.proofs.WordsLaws.{and-right}
 use Rattle.manual.specs.Words.{threeAt}
 use Rattle.manual.specs.Configuration.{Configuration}
 use Rattle.manual.specs.State.{State, D, withCycle}
-use Rattle.manual.specs.Answers.{Outcome, refused, Rule, firstThatApplies, judged}
+use Rattle.manual.specs.Answers.{Beside, Outcome, refused, Rule, firstThatApplies, judged}
 use Rattle.manual.specs.OneEvent.{happens, stops, forThose}
 use Rattle.manual.specs.Calls.{fresh, reportRules, applied, debouncedBy, report, tickRules, timeRuns, ticks, tick, ofCycle, startRules, startCycle, stopRules, stopCycle, covers, unknownCode, cleared, clearRules, clearCode, readStatus, readFrame}
 use Rattle.manual.specs.Image.{save, restore}
 use Rattle.manual.specs.Diagnostics.{positive, negative, Served, served, service14, servedBy, sent, requestRules, requestReply}
-use Rattle.manual.specs.Sequences.{Call, Fresh, Report, Tick, Start, Stop, Clear, ReadStatus, ReadFrame, Save, Restore, Request, onlyIf, outcome, asksClear, gives, tokens, tokensAt, goesOn}
+use Rattle.manual.specs.Sequences.{Query, ReadStatus, ReadFrame, Save, Call, Fresh, Report, Tick, Start, Stop, Clear, Read, Restore, Request, answerTo, onlyIf, outcome, asksClear, gives, tokens, tokensAt, goesOn}
 use Rattle.manual.proofs.WordsLaws.{clash, by}
 use Rattle.manual.proofs.AnswersLaws.{none-applies, goes-through}
 
@@ -31,19 +31,23 @@ Histories = ℕ → History
 abbrev pub Either : (State → Type 0) → State → Outcome → Type 0
 Either P s o = ((o .answer ≢ 0) × (o .state ≡ s)) ⊎ ((o .answer ≡ 0) × P (o .state))
 
-judged-either : (P : State → Type 0) (rules : List Rule) (room : List ℕ) (s : State) (o : Outcome) → o .answer ≡ 0
-    → (firstThatApplies rules ≡ 0 → P (o .state)) → Either P s (judged rules room s o)
+judged-either : (P : State → Type 0) (rules : List Rule) (b : Beside) (s : State) (o : Outcome) → o .answer ≡ 0
+    → (firstThatApplies rules ≡ 0 → P (o .state)) → Either P s (judged rules b s o)
 unfolding judged
-judged-either P rules room s o z f = go (eqb (firstThatApplies rules) 0) refl
+judged-either P rules b s o z f = go (eqb (firstThatApplies rules) 0) refl
   where
-    go : (b : Bool) → eqb (firstThatApplies rules) 0 ≡ b → Either P s (cond b o (refused (firstThatApplies rules) room s))
+    go : (t : Bool) → eqb (firstThatApplies rules) 0 ≡ t → Either P s (cond t o (refused (firstThatApplies rules) b s))
     go true e = inr (z, f (eqb-true (firstThatApplies rules) 0 e))
     go false e = inl (eqb-false (firstThatApplies rules) 0 e, refl)
 
+judged-leaves : (rules : List Rule) (b : Beside) (s : State) (o : Outcome) → o .state ≡ s → judged rules b s o .state ≡ s
+unfolding judged
+judged-leaves rules b s o q = by (eqb (firstThatApplies rules) 0) (λ (r : Outcome). r .state ≡ s) (λ e. q) (λ e. refl)
+
 -- a fresh or a restore that goes on was refused
-not-accepted : {A : Type 0} (rules : List Rule) (s : State) (o : Outcome) → o .answer ≡ 0
-    → not (eqb (judged rules [] s o .answer) 0) ≡ true → firstThatApplies rules ≡ 0 → A
-not-accepted rules s o n g z = clash (eqb (judged rules [] s o .answer) 0) (rw (goes-through rules [] s o z, n)) (not-true _ g)
+not-accepted : {A : Type 0} (rules : List Rule) (b : Beside) (s : State) (o : Outcome) → o .answer ≡ 0
+    → not (eqb (judged rules b s o .answer) 0) ≡ true → firstThatApplies rules ≡ 0 → A
+not-accepted rules b s o n g z = clash (eqb (judged rules b s o .answer) 0) (rw (goes-through rules b s o z, n)) (not-true _ g)
 
 module _ (cfg : Configuration) where
   -- a call that changes no block and not the board, where it is accepted
@@ -54,11 +58,9 @@ module _ (cfg : Configuration) where
   onlyReads (Start c) = false
   onlyReads (Stop c) = false
   onlyReads (Clear code) = false
-  onlyReads (ReadStatus k) = true
-  onlyReads (ReadFrame k) = true
-  onlyReads (Save room) = true
+  onlyReads (Read q) = true
   onlyReads (Restore image) = false
-  onlyReads (Request bytes room) = not (asksClear cfg bytes)
+  onlyReads (Request bytes) = not (asksClear cfg bytes)
 
   -- what an accepted call makes of state s; a fresh and a restore begin anew and have no place here
   pub data Does (s : State) : Call → State → Type 0 where
@@ -72,8 +74,8 @@ module _ (cfg : Configuration) where
         → Does s (Stop c) (withCycle c false (forThose cfg (ofCycle cfg c) (stops cfg) s))
     a-clear : (code : ℕ) → firstThatApplies (clearRules cfg code s) ≡ 0 → Does s (Clear code) (cleared cfg code s)
     -- service 14 with a known code does what the clear does
-    a-request : (bytes room : List ℕ) → asksClear cfg bytes ≡ true → firstThatApplies (clearRules cfg (threeAt 1 bytes) s) ≡ 0
-        → Does s (Request bytes room) (cleared cfg (threeAt 1 bytes) s)
+    a-request : (bytes : List ℕ) → asksClear cfg bytes ≡ true → firstThatApplies (clearRules cfg (threeAt 1 bytes) s) ≡ 0
+        → Does s (Request bytes) (cleared cfg (threeAt 1 bytes) s)
     a-reading : (c : Call) → onlyReads c ≡ true → Does s c s
 
   -- service 14 clears a known code, and nothing else changes the state
@@ -98,36 +100,48 @@ module _ (cfg : Configuration) where
       go false e = rw e (by (eqb (getD bytes 0 0) 0x19) (λ (r : Served). r .state ≡ s) (λ x. refl) (λ x. refl))
 
   -- where a request is accepted, so is a clear of a known code
-  request-clears : (bytes room : List ℕ) (s : State) → firstThatApplies (requestRules cfg bytes room s) ≡ 0 → asksClear cfg bytes ≡ true
+  request-clears : (bytes : List ℕ) (b : Beside) (s : State) → firstThatApplies (requestRules cfg bytes b s) ≡ 0 → asksClear cfg bytes ≡ true
       → firstThatApplies (clearRules cfg (threeAt 1 bytes) s) ≡ 0
   unfolding firstThatApplies requestRules clearRules
-  request-clears bytes room s z a =
-      rw (none-applies (requestRules cfg bytes room s) z refl 0, none-applies (requestRules cfg bytes room s) z refl 1, known)
+  request-clears bytes b s z a =
+      rw (none-applies (requestRules cfg bytes b s) z refl 0, none-applies (requestRules cfg bytes b s) z refl 1, known)
     where
       known : unknownCode cfg (threeAt 1 bytes) ≡ false
       known = not-true _ (and-right (eqb (getD bytes 0 0) 0x14 && eqb (length bytes) 4) (not (unknownCode cfg (threeAt 1 bytes))) a)
 
-  request-does : (bytes room : List ℕ) (s : State) → firstThatApplies (requestRules cfg bytes room s) ≡ 0
-      → Does s (Request bytes room) (servedBy cfg bytes (length room) s .state)
-  request-does bytes room s z =
-      subst (Does s (Request bytes room)) (sym (served-state bytes (length room) s))
-      (by (asksClear cfg bytes) (Does s (Request bytes room))
-      (λ a. a-request bytes room a (request-clears bytes room s z a))
-      (λ n. a-reading (Request bytes room) (ap not n)))
+  request-does : (bytes : List ℕ) (b : Beside) (s : State) → firstThatApplies (requestRules cfg bytes b s) ≡ 0
+      → Does s (Request bytes) (servedBy cfg bytes (length (b .room)) s .state)
+  request-does bytes b s z =
+      subst (Does s (Request bytes)) (sym (served-state bytes (length (b .room)) s))
+      (by (asksClear cfg bytes) (Does s (Request bytes))
+      (λ a. a-request bytes a (request-clears bytes b s z a))
+      (λ n. a-reading (Request bytes) (ap not n)))
 
-  pub call-does : (c : Call) (s : State) → goesOn cfg c s ≡ true → Either (Does s c) s (outcome cfg c s)
-  unfolding fresh report tick startCycle stopCycle clearCode readStatus readFrame save restore requestReply sent
-  call-does Fresh s g = judged-either (Does s Fresh) _ [] s _ refl (λ z. not-accepted _ s _ refl g z)
-  call-does (Report k code frame) s g = judged-either (Does s (Report k code frame)) _ [] s _ refl (a-report k code frame)
-  call-does (Tick ms frame) s g = judged-either (Does s (Tick ms frame)) _ [] s _ refl (a-tick ms frame)
-  call-does (Start c) s g = judged-either (Does s (Start c)) _ [] s _ refl (a-start c)
-  call-does (Stop c) s g = judged-either (Does s (Stop c)) _ [] s _ refl (a-stop c)
-  call-does (Clear code) s g = judged-either (Does s (Clear code)) _ [] s _ refl (a-clear code)
-  call-does (ReadStatus k) s g = judged-either (Does s (ReadStatus k)) _ [] s _ refl (λ z. a-reading (ReadStatus k) refl)
-  call-does (ReadFrame k) s g = judged-either (Does s (ReadFrame k)) _ [] s _ refl (λ z. a-reading (ReadFrame k) refl)
-  call-does (Save room) s g = judged-either (Does s (Save room)) _ room s _ refl (λ z. a-reading (Save room) refl)
-  call-does (Restore image) s g = judged-either (Does s (Restore image)) _ [] s _ refl (λ z. not-accepted _ s _ refl g z)
-  call-does (Request bytes room) s g = judged-either (Does s (Request bytes room)) _ room s _ refl (request-does bytes room s)
+  -- a call that only reads leaves the state as it was, accepted or refused
+  pub query-leaves : (q : Query) (b : Beside) (s : State) → answerTo cfg q b s .state ≡ s
+  unfolding readStatus readFrame save
+  query-leaves (ReadStatus k) b s = judged-leaves _ b s _ refl
+  query-leaves (ReadFrame k) b s = judged-leaves _ b s _ refl
+  query-leaves Save b s = judged-leaves _ b s _ refl
+
+  query-does : (q : Query) (b : Beside) (s : State) → Either (Does s (Read q)) s (answerTo cfg q b s)
+  query-does q b s = go (eqb (answerTo cfg q b s .answer) 0) refl
+    where
+      go : (t : Bool) → eqb (answerTo cfg q b s .answer) 0 ≡ t → Either (Does s (Read q)) s (answerTo cfg q b s)
+      go true e = inr (eqb-true _ 0 e, subst (Does s (Read q)) (sym (query-leaves q b s)) (a-reading (Read q) refl))
+      go false e = inl (eqb-false _ 0 e, query-leaves q b s)
+
+  pub call-does : (c : Call) (b : Beside) (s : State) → goesOn cfg c b s ≡ true → Either (Does s c) s (outcome cfg c b s)
+  unfolding fresh report tick startCycle stopCycle clearCode restore requestReply sent
+  call-does Fresh b s g = judged-either (Does s Fresh) _ b s _ refl (λ z. not-accepted _ b s _ refl g z)
+  call-does (Report k code frame) b s g = judged-either (Does s (Report k code frame)) _ b s _ refl (a-report k code frame)
+  call-does (Tick ms frame) b s g = judged-either (Does s (Tick ms frame)) _ b s _ refl (a-tick ms frame)
+  call-does (Start c) b s g = judged-either (Does s (Start c)) _ b s _ refl (a-start c)
+  call-does (Stop c) b s g = judged-either (Does s (Stop c)) _ b s _ refl (a-stop c)
+  call-does (Clear code) b s g = judged-either (Does s (Clear code)) _ b s _ refl (a-clear code)
+  call-does (Read q) b s g = query-does q b s
+  call-does (Restore image) b s g = judged-either (Does s (Restore image)) _ b s _ refl (λ z. not-accepted _ b s _ refl g z)
+  call-does (Request bytes) b s g = judged-either (Does s (Request bytes)) _ b s _ refl (request-does bytes b s)
 
   -- ---- what every call keeps, of a relation between state and histories
 
@@ -161,11 +175,9 @@ module _ (cfg : Configuration) where
     reading-keeps (Start c) r = clash true refl (sym r)
     reading-keeps (Stop c) r = clash true refl (sym r)
     reading-keeps (Clear code) r = clash true refl (sym r)
-    reading-keeps (ReadStatus e) r = q
-    reading-keeps (ReadFrame e) r = q
-    reading-keeps (Save room) r = q
+    reading-keeps (Read p) r = q
     reading-keeps (Restore image) r = q
-    reading-keeps (Request bytes room) r = asked false bytes s (not-true _ r) q
+    reading-keeps (Request bytes) r = asked false bytes s (not-true _ r) q
 
     does-keeps : (c : Call) (t : State) → Does s c t → Q t (given c s H)
     does-keeps _ _ (a-report e code frame z) = k .report e code frame z
@@ -173,13 +185,13 @@ module _ (cfg : Configuration) where
     does-keeps _ _ (a-start c z) = k .start c z
     does-keeps _ _ (a-stop c z) = k .stop c z
     does-keeps _ _ (a-clear code z) = k .clear code z
-    does-keeps _ _ (a-request bytes room a z) = asked true bytes _ a (k .clear (threeAt 1 bytes) z)
+    does-keeps _ _ (a-request bytes a z) = asked true bytes _ a (k .clear (threeAt 1 bytes) z)
     does-keeps _ _ (a-reading c r) = reading-keeps c r
 
     -- "Refused calls … count for nothing."
-    pub call-keeps : (c : Call) → goesOn cfg c s ≡ true → Q (outcome cfg c s .state) (λ e. tokensAt cfg c s e ++ H e)
+    pub call-keeps : (c : Call) (b : Beside) → goesOn cfg c b s ≡ true → Q (outcome cfg c b s .state) (λ e. tokensAt cfg c b s e ++ H e)
     unfolding tokens
-    call-keeps c g = go (outcome cfg c s) (call-does c s g)
+    call-keeps c b g = go (outcome cfg c b s) (call-does c b s g)
       where
         go : (o : Outcome) → Either (Does s c) s o → Q (o .state) (λ e. tokens cfg (o .answer) c (s .board) e (D s e) ++ H e)
         go o (inl (n, p)) = rw (p, ne-eqb (o .answer) 0 n) q

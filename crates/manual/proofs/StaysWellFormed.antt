@@ -26,10 +26,10 @@ use Rattle.manual.specs.Debouncing.{Debounced, reported, ticked}
 use Rattle.manual.specs.Memory.{Entry, eventOf, entryWidth, memoryLength, entryCount, bytesInUse, entriesOf, entriesBytes, memoryOf, noTwice}
 use Rattle.manual.specs.WellFormed.{recordOk, DOk, entries, entryOk, wellFormed}
 use Rattle.manual.specs.OneEvent.{happens, memoryTold, fails, qualifies, stops, clears, forThose}
-use Rattle.manual.specs.Answers.{Outcome, Rule, _if_, firstThatApplies}
-use Rattle.manual.specs.Calls.{freshState, freshRules, fresh, cycleRuns, reportRules, applied, tickRules, timeRuns, ticks, ofCycle, startRules, stopRules, covers, overflowCleared, cleared, clearRules}
+use Rattle.manual.specs.Answers.{Beside, Outcome, Rule, _if_, firstThatApplies}
+use Rattle.manual.specs.Calls.{freshState, freshRules, fresh, cycleRuns, reportRules, applied, tickRules, timeRuns, ticks, ofCycle, startRules, stopRules, covers, cleared, clearRules}
 use Rattle.manual.specs.Image.{restore}
-use Rattle.manual.specs.Sequences.{Call, Fresh, Report, Tick, Start, Stop, Clear, ReadStatus, ReadFrame, Save, Restore, Request, beginsAnew, outcome, goesOn}
+use Rattle.manual.specs.Sequences.{Call, Fresh, Report, Tick, Start, Stop, Clear, Read, Restore, Request, beginsAnew, outcome, goesOn}
 use Rattle.manual.specs.Words.{All, forBelow, threeAt}
 use Rattle.manual.proofs.WordsLaws.{clash, by, for-below-keeps, all-both, all-of-test, test-of-all, zeros-pass}
 use Rattle.manual.proofs.AnswersLaws.{numbered, none-applies, accepted}
@@ -336,50 +336,48 @@ module _ (cfg : Configuration) where
   does-sound _ s _ (a-start c z) o = start-sound (judged-config _ _ z refl) c s o z
   does-sound _ s _ (a-stop c z) o = stop-sound (judged-config _ _ z refl) c s o
   does-sound _ s _ (a-clear code z) o = cleared-sound (judged-config _ _ z refl) code s o
-  does-sound _ s _ (a-request bytes room a z) o = cleared-sound (judged-config _ _ z refl) (threeAt 1 bytes) s o
+  does-sound _ s _ (a-request bytes a z) o = cleared-sound (judged-config _ _ z refl) (threeAt 1 bytes) s o
   does-sound _ s _ (a-reading c r) o = o
 
-  fresh-begun : (s : State) → fresh cfg s .answer ≡ 0 → Sound (fresh cfg s .state)
+  fresh-begun : (b : Beside) (s : State) → fresh cfg b s .answer ≡ 0 → Sound (fresh cfg b s .state)
   unfolding fresh freshRules
-  fresh-begun s z =
-      let a = accepted _ [] s _ z in
+  fresh-begun b s z =
+      let a = accepted _ b s _ z in
       subst (λ (o : Outcome). Sound (o .state)) (sym (a .1)) (fresh-sound (judged-config _ _ (a .0) refl))
 
-  restore-begun : (image : List ℕ) (s : State) → restore cfg image s .answer ≡ 0 → Sound (restore cfg image s .state)
-  restore-begun image s z =
-      sound (restore cfg image s .state)
-      (subst (λ (r : State). wellFormed cfg r ≡ true) (sym (restored-state cfg image s z)) (accepted-state cfg image (restored-accepts cfg image s z) .formed))
+  restore-begun : (image : List ℕ) (b : Beside) (s : State) → restore cfg image b s .answer ≡ 0 → Sound (restore cfg image b s .state)
+  restore-begun image b s z =
+      sound (restore cfg image b s .state)
+      (subst (λ (r : State). wellFormed cfg r ≡ true) (sym (restored-state cfg image b s z)) (accepted-state cfg image (restored-accepts cfg image b s z) .formed))
 
   -- ---- every call
 
   -- a fresh or a restore that was accepted begins anew; any other call goes on
-  call-sound : (c : Call) (s : State) → Sound s → (b : Bool) → goesOn cfg c s ≡ b → Sound (outcome cfg c s .state)
-  call-sound c s o true g = go (call-does cfg c s g)
+  call-sound : (c : Call) (b : Beside) (s : State) → Sound s → (t : Bool) → goesOn cfg c b s ≡ t → Sound (outcome cfg c b s .state)
+  call-sound c b s o true g = go (call-does cfg c b s g)
     where
-      go : Either (Does cfg s c) s (outcome cfg c s) → Sound (outcome cfg c s .state)
+      go : Either (Does cfg s c) s (outcome cfg c b s) → Sound (outcome cfg c b s .state)
       go (inl (n, p)) = subst Sound (sym p) o
       go (inr (z, d)) = does-sound c s _ d o
-  call-sound c s o false g = begun c (not-false (beginsAnew c && eqb (outcome cfg c s .answer) 0) g)
+  call-sound c b s o false g = begun c (not-false (beginsAnew c && eqb (outcome cfg c b s .answer) 0) g)
     where
-      begun : (c : Call) → beginsAnew c && eqb (outcome cfg c s .answer) 0 ≡ true → Sound (outcome cfg c s .state)
-      begun Fresh e = fresh-begun s (eqb-true _ 0 e)
+      begun : (c : Call) → beginsAnew c && eqb (outcome cfg c b s .answer) 0 ≡ true → Sound (outcome cfg c b s .state)
+      begun Fresh e = fresh-begun b s (eqb-true _ 0 e)
       begun (Report k code frame) e = clash true refl (sym e)
       begun (Tick ms frame) e = clash true refl (sym e)
       begun (Start c) e = clash true refl (sym e)
       begun (Stop c) e = clash true refl (sym e)
       begun (Clear code) e = clash true refl (sym e)
-      begun (ReadStatus k) e = clash true refl (sym e)
-      begun (ReadFrame k) e = clash true refl (sym e)
-      begun (Save room) e = clash true refl (sym e)
-      begun (Restore image) e = restore-begun image s (eqb-true _ 0 e)
-      begun (Request bytes room) e = clash true refl (sym e)
+      begun (Read q) e = clash true refl (sym e)
+      begun (Restore image) e = restore-begun image b s (eqb-true _ 0 e)
+      begun (Request bytes) e = clash true refl (sym e)
 
-  pub stays-well-formed : (c : Call) (s : State) → wellFormed cfg s ≡ true → wellFormed cfg (outcome cfg c s .state) ≡ true
-  stays-well-formed c s w = sound-formed (outcome cfg c s .state) (call-sound c s (sound s w) (goesOn cfg c s) refl)
+  pub stays-well-formed : (c : Call) (b : Beside) (s : State) → wellFormed cfg s ≡ true → wellFormed cfg (outcome cfg c b s .state) ≡ true
+  stays-well-formed c b s w = sound-formed (outcome cfg c b s .state) (call-sound c b s (sound s w) (goesOn cfg c b s) refl)
 
   -- from any blocks, well formed or not
-  pub fresh-makes-well-formed : (s : State) → fresh cfg s .answer ≡ 0 → wellFormed cfg (fresh cfg s .state) ≡ true
-  fresh-makes-well-formed s z = sound-formed (fresh cfg s .state) (fresh-begun s z)
+  pub fresh-makes-well-formed : (b : Beside) (s : State) → fresh cfg b s .answer ≡ 0 → wellFormed cfg (fresh cfg b s .state) ≡ true
+  fresh-makes-well-formed b s z = sound-formed (fresh cfg b s .state) (fresh-begun b s z)
 
-  pub restore-makes-well-formed : (image : List ℕ) (s : State) → restore cfg image s .answer ≡ 0 → wellFormed cfg (restore cfg image s .state) ≡ true
-  restore-makes-well-formed image s z = sound-formed (restore cfg image s .state) (restore-begun image s z)
+  pub restore-makes-well-formed : (image : List ℕ) (b : Beside) (s : State) → restore cfg image b s .answer ≡ 0 → wellFormed cfg (restore cfg image b s .state) ≡ true
+  restore-makes-well-formed image b s z = sound-formed (restore cfg image b s .state) (restore-begun image b s z)

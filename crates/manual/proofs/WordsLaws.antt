@@ -1,8 +1,8 @@
 -- Laws of specs/Words.antt, in its order, and of the words on lists that it stands on.
 use mathlib.Core.Path.{_≡_, refl, sym, ap, subst, _∙_}
 use mathlib.Core.Logic.{_⊎_, inl, inr, ⊎-elim}
-use mathlib.Core.Bool.{Bool, true, false, not, _||_, cond, true≢false}
-use mathlib.Core.List.{List, [], _∷_, _++_, List·Memᴰ, List·Memᴰ·cases-cons, List·Memᴰ·append-cases, Memᴰ·append-left, Memᴰ·append-right}
+use mathlib.Core.Bool.{Bool, true, false, not, _&&_, _||_, cond, true≢false}
+use mathlib.Core.List.{List, [], _∷_, _++_, List·Memᴰ, List·Memᴰ·head, List·Memᴰ·tail, List·Memᴰ·cases-cons, List·Memᴰ·append-cases, Memᴰ·append-left, Memᴰ·append-right}
 use mathlib.Core.Option.{none, some, Option·none-ne-some}
 use Prim.Native.Nat.{ℕ, zero, suc, _+_, _≤_, _<_}
 use native.Mathlib.Nat.{eq-or-lt-of-le, le-of-suc-le-suc, not-suc-le-zero, le-refl}
@@ -93,6 +93,16 @@ module _ {A : Type 0} where
       go true t ih = absurd (let z : _≡_ {A = ℕ} 0 1 = cc in let w : ⊥ = omega arith in w)
       go false t ih = ih t
 
+  -- what is found passes
+  pub first-some : (p : A → Bool) (xs : List A) (v : A) → firstOf p xs ≡ some v → anyOf p xs ≡ true
+  unfolding firstOf
+  first-some p [] v e = absurd (Option·none-ne-some v e)
+  first-some p (x ∷ xs) v e = go (p x) e (λ t. first-some p xs v t)
+    where
+      go : (b : Bool) → cond b (some x) (firstOf p xs) ≡ some v → (firstOf p xs ≡ some v → anyOf p xs ≡ true) → b || anyOf p xs ≡ true
+      go true t ih = refl
+      go false t ih = ih t
+
   -- those
   pub all-those : (P Q : A → Type 0) (q : A → Bool) → ((x : A) → q x ≡ true → P x → Q x) → (xs : List A) → All P xs → All Q (those q xs)
   unfolding those
@@ -120,6 +130,51 @@ module _ {A : Type 0} where
       go : (b : Bool) → p x ≡ b → b || anyOf p xs ≡ false → (anyOf p xs ≡ false → anyOf p (those q xs) ≡ false) → anyOf p (cond (q x) (x ∷ those q xs) (those q xs)) ≡ false
       go true h t ih = clash true refl t
       go false h t ih = by (q x) (λ l. anyOf p l ≡ false) (λ u. rw h (ih t)) (λ u. ih t)
+
+  pub mem-those : (p : A → Bool) (xs : List A) (x : A) → p x ≡ true → List·Memᴰ x xs → List·Memᴰ x (those p xs)
+  unfolding those
+  mem-those p [] x h m = m
+  mem-those p (y ∷ xs) x h m = go (p y) refl (List·Memᴰ·cases-cons m) (λ t. mem-those p xs x h t)
+    where
+      go : (b : Bool) → p y ≡ b → (x ≡ y) ⊎ List·Memᴰ x xs → (List·Memᴰ x xs → List·Memᴰ x (those p xs))
+          → List·Memᴰ x (cond b (y ∷ those p xs) (those p xs))
+      go true q (inl e) ih = List·Memᴰ·head e
+      go true q (inr t) ih = List·Memᴰ·tail (ih t)
+      go false q (inl e) ih = clash (p y) (ap p (sym e) ∙ h) q
+      go false q (inr t) ih = ih t
+
+  pub those-mem : (p : A → Bool) (xs : List A) (x : A) → List·Memᴰ x (those p xs) → List·Memᴰ x xs
+  unfolding those
+  those-mem p [] x m = m
+  those-mem p (y ∷ xs) x m = go (p y) m (λ t. those-mem p xs x t)
+    where
+      go : (b : Bool) → List·Memᴰ x (cond b (y ∷ those p xs) (those p xs)) → (List·Memᴰ x (those p xs) → List·Memᴰ x xs) → List·Memᴰ x (y ∷ xs)
+      go true t ih = ⊎-elim List·Memᴰ·head (λ r. List·Memᴰ·tail (ih r)) (List·Memᴰ·cases-cons t)
+      go false t ih = List·Memᴰ·tail (ih t)
+
+  pub those-those : (p q : A → Bool) (xs : List A) → those p (those q xs) ≡ those (λ x. q x && p x) xs
+  unfolding those
+  those-those p q [] = refl
+  those-those p q (x ∷ xs) = go (q x) (those-those p q xs)
+    where
+      go : (b : Bool) → those p (those q xs) ≡ those (λ x. q x && p x) xs
+          → those p (cond b (x ∷ those q xs) (those q xs)) ≡ cond (b && p x) (x ∷ those (λ x. q x && p x) xs) (those (λ x. q x && p x) xs)
+      go true ih = rw ih
+      go false ih = ih
+
+  pub those-alike : (p q : A → Bool) (xs : List A) → All (λ x. p x ≡ q x) xs → those p xs ≡ those q xs
+  unfolding those
+  those-alike p q [] a = refl
+  those-alike p q (x ∷ xs) a = rw (a .0, those-alike p q xs (a .1))
+
+  pub those-each : (p : A → Bool) (xs : List A) → All (λ x. p x ≡ true) xs → those p xs ≡ xs
+  unfolding those
+  those-each p [] a = refl
+  those-each p (x ∷ xs) a = rw (a .0, those-each p xs (a .1))
+
+  pub all-so : (P : A → Type 0) → ((x : A) → P x) → (xs : List A) → All P xs
+  all-so P f [] = tt
+  all-so P f (x ∷ xs) = (f x, all-so P f xs)
 
 -- ---- lists cut at an element
 
@@ -173,6 +228,13 @@ module _ {A : Type 0} (xs older : List A) (v : A) (newer : List A) (s : xs ≡ o
 
   pub as-long : (y : A) → length (older ++ newer ++ (y ∷ [])) ≡ length xs
   as-long y = rw s (simp length-append (omega arith))
+
+  pub one-in : List·Memᴰ v xs
+  one-in = rw s (Memᴰ·append-right older (List·Memᴰ·head refl))
+
+  pub those-in : (y : A) → List·Memᴰ y (older ++ newer) → List·Memᴰ y xs
+  those-in y m =
+      rw s (⊎-elim (λ a. Memᴰ·append-left (v ∷ newer) a) (λ b. Memᴰ·append-right older (List·Memᴰ·tail b)) (List·Memᴰ·append-cases older m))
 
 -- ---- lists of bytes
 

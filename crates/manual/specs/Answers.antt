@@ -21,24 +21,38 @@ use Rattle.manual.specs.declared.LengthAnswer.{LengthAnswer}
 use Rattle.manual.specs.declared.LengthAnswer.the-variants.{Written}
 use Rattle.manual.specs.State.{State}
 
--- What a call answers and leaves: its number; a report's verdict; the status or length; the frame part; the output room; the blocks
--- and the board.
+-- What is lent beside the blocks and the board for a call to write: the output room. A call that is not lent it leaves it as it is.
+pub record Beside : Type 0 where
+  pub room : List ℕ
+
+abbrev pub lentRoom : List ℕ → Beside
+lentRoom room = record { room = room }
+
+-- nothing is lent beside the blocks and the board
+abbrev pub alone : Beside
+alone = lentRoom []
+
+abbrev pub withRoom : List ℕ → Beside → Beside
+withRoom room b = record { room = room }
+
+-- What a call answers and leaves: its number; a report's verdict; the status or length; the frame part; what was lent beside; the
+-- blocks and the board.
 pub record Outcome : Type 0 where
   pub answer : ℕ
   pub verdict : Verdict
   pub value : ℕ
   pub part : List ℕ
-  pub room : List ℕ
+  pub beside : Beside
   pub state : State
 
 -- "A refusal changes nothing lent and hands back the board it was given; any status, count or length it answers is 0, a frame part
 -- empty, a verdict none."
-abbrev pub refused : ℕ → List ℕ → State → Outcome
-refused number room s = record { answer = number; verdict = None; value = 0; part = []; room = room; state = s }
+abbrev pub refused : ℕ → Beside → State → Outcome
+refused number b s = record { answer = number; verdict = None; value = 0; part = []; beside = b; state = s }
 
 -- "0 | done"
-abbrev pub done : State → Outcome
-done s = record { answer = 0; verdict = None; value = 0; part = []; room = []; state = s }
+abbrev pub done : Beside → State → Outcome
+done b s = record { answer = 0; verdict = None; value = 0; part = []; beside = b; state = s }
 
 -- ---- "The first that applies, in the call's order, is given."
 
@@ -63,8 +77,8 @@ pub data Given : List Rule → ℕ → Type 0 where
   refusal-by : (earlier : List Rule) (r : Rule) (later : List Rule) → anyOf (λ r. r .applies) earlier ≡ false → r .applies ≡ true → Given (earlier ++ r ∷ later) (r .number)
 
 -- refused by the first that applies, and what the call does where none does
-unfoldable pub judged : List Rule → List ℕ → State → Outcome → Outcome
-judged rules room s accepted = cond (eqb (firstThatApplies rules) 0) accepted (refused (firstThatApplies rules) room s)
+unfoldable pub judged : List Rule → Beside → State → Outcome → Outcome
+judged rules b s accepted = cond (eqb (firstThatApplies rules) 0) accepted (refused (firstThatApplies rules) b s)
 
 -- ---- "Where an answer is an enum, a definition gives this paper's number and values for each of the enum's cases."
 
@@ -110,6 +124,6 @@ abbrev pub ofLength : LengthAnswer → Answered
 ofLength (Written length) = answered 0 None length
 ofLength (LengthAnswer.Refused r) = answered (numberOf r) None 0
 
--- an answer, with the frame part, the output room and the state that the call leaves
-abbrev pub leaves : Answered → List ℕ → List ℕ → State → Outcome
-leaves a part room s = record { answer = a .number; verdict = a .verdict; value = a .value; part = part; room = room; state = s }
+-- an answer, with the frame part, what was lent beside and the state that the call leaves
+abbrev pub leaves : Answered → List ℕ → Beside → State → Outcome
+leaves a part b s = record { answer = a .number; verdict = a .verdict; value = a .value; part = part; beside = b; state = s }

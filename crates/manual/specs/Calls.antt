@@ -12,13 +12,14 @@ use Rattle.history.specs.StatusByte.{freshRecord}
 use Rattle.history.specs.History.{start}
 use Rattle.manual.specs.declared.Board.{Board}
 use Rattle.manual.specs.declared.Verdict.the-variants.{None}
+use Rattle.manual.specs.declared.StoreAnswer.{StoreAnswer}
 use Rattle.manual.specs.Words.{allBelow}
 use Rattle.manual.specs.Configuration.{Configuration, events, places, frameBytes, codeOf, cycleOf, isInternal, isTime, configOk}
 use Rattle.manual.specs.State.{State, stored, runs, allStopped, statusByte, D, withD, withOverflow, withCycle}
 use Rattle.manual.specs.WellFormed.{lengthsFit, wellFormed, entries}
-use Rattle.manual.specs.Answers.{Outcome, done, Rule, _if_, judged}
+use Rattle.manual.specs.Answers.{Beside, Outcome, done, Rule, _if_, judged}
 use Rattle.manual.specs.Debouncing.{Debounced, reported, ticked}
-use Rattle.manual.specs.OneEvent.{happens, qualifies, stops, clears, forThose}
+use Rattle.manual.specs.OneEvent.{happens, qualifies, qualifiesDid, stops, clears, forThose}
 use Rattle.manual.specs.Memory.{Entry, memoryLength, isOf, entryFor}
 
 -- the bytes of n fresh records
@@ -35,13 +36,13 @@ frameOf (some x) = x .frame
 frameOf none = []
 
 module _ (cfg : Configuration) where
-  -- "Every call begins 2, 3."
-  abbrev pub begins : State → List Rule → List Rule
-  begins s rules = (2 if not (configOk cfg)) ∷ (3 if not (wellFormed cfg s)) ∷ rules
+  -- "Every call begins 2, 3."; "a block has the wrong length": `fits` says whether what is lent beside the state has the right one
+  abbrev pub begins : State → Bool → List Rule → List Rule
+  begins s fits rules = (2 if not (configOk cfg)) ∷ (3 if not (fits && wellFormed cfg s)) ∷ rules
 
   -- "For restore and for making a fresh state, 3 judges lengths only."
-  abbrev pub beginsWithLengths : State → List Rule → List Rule
-  beginsWithLengths s rules = (2 if not (configOk cfg)) ∷ (3 if not (lengthsFit cfg s)) ∷ rules
+  abbrev pub beginsWithLengths : State → Bool → List Rule → List Rule
+  beginsWithLengths s fits rules = (2 if not (configOk cfg)) ∷ (3 if not (fits && lengthsFit cfg s)) ∷ rules
 
   -- "4 | no such event, cycle (above 3)"
   abbrev pub noSuchEvent : ℕ → Bool
@@ -70,16 +71,16 @@ module _ (cfg : Configuration) where
   }
 
   unfoldable pub freshRules : State → List Rule
-  freshRules s = beginsWithLengths s []
+  freshRules s = beginsWithLengths s true []
 
-  unfoldable pub fresh : State → Outcome
-  fresh s = judged (freshRules s) [] s (done freshState)
+  unfoldable pub fresh : Beside → State → Outcome
+  fresh b s = judged (freshRules s) b s (done b freshState)
 
   -- ---- report: "report 4, 1, 6, 9, 5"
 
   unfoldable pub reportRules : ℕ → ℕ → List ℕ → State → List Rule
   reportRules e code frame s =
-      begins s
+      begins s true
       ((4 if noSuchEvent e)
       ∷ (1 if ltb 3 code)
       ∷ (6 if (isInternal cfg e && ltb 1 code))
@@ -91,26 +92,33 @@ module _ (cfg : Configuration) where
   unfoldable pub applied : List ℕ → ℕ → Debounced → State → State
   applied frame e d s = qualifies cfg frame e (d .verdict) (withD e (d .number) s)
 
+  -- what memory did at it
+  unfoldable pub appliedDid : List ℕ → ℕ → Debounced → State → StoreAnswer
+  appliedDid frame e d s = qualifiesDid cfg frame e (d .verdict) (withD e (d .number) s)
+
   abbrev pub debouncedBy : ℕ → ℕ → State → Debounced
   debouncedBy e code s = reported cfg e code (D s e)
 
-  abbrev pub reportDone : ℕ → ℕ → List ℕ → State → Outcome
-  reportDone e code frame s = record {
+  abbrev pub reportDone : ℕ → ℕ → List ℕ → Beside → State → Outcome
+  reportDone e code frame b s = record {
     answer = 0;
     verdict = debouncedBy e code s .verdict;
     value = 0;
     part = [];
-    room = [];
+    beside = b;
     state = applied frame e (debouncedBy e code s) s;
   }
 
-  unfoldable pub report : ℕ → ℕ → List ℕ → State → Outcome
-  report e code frame s = judged (reportRules e code frame s) [] s (reportDone e code frame s)
+  abbrev pub reportDid : ℕ → ℕ → List ℕ → State → StoreAnswer
+  reportDid e code frame s = appliedDid frame e (debouncedBy e code s) s
+
+  unfoldable pub report : ℕ → ℕ → List ℕ → Beside → State → Outcome
+  report e code frame b s = judged (reportRules e code frame s) b s (reportDone e code frame b s)
 
   -- ---- tick: "tick 1, 9"
 
   unfoldable pub tickRules : ℕ → List ℕ → State → List Rule
-  tickRules ms frame s = begins s ((1 if ltb 60000 ms) ∷ (9 if wrongFrame frame) ∷ [])
+  tickRules ms frame s = begins s true ((1 if ltb 60000 ms) ∷ (9 if wrongFrame frame) ∷ [])
 
   -- "events in rising number, only kind 2 with its cycle running"
   abbrev pub timeRuns : Board → ℕ → Bool
@@ -120,8 +128,11 @@ module _ (cfg : Configuration) where
   abbrev pub ticks : ℕ → List ℕ → ℕ → State → State
   ticks ms frame e s = applied frame e (ticked cfg e ms (D s e)) s
 
-  unfoldable pub tick : ℕ → List ℕ → State → Outcome
-  tick ms frame s = judged (tickRules ms frame s) [] s (done (forThose cfg (timeRuns (s .board)) (ticks ms frame) s))
+  abbrev pub ticksDid : ℕ → List ℕ → ℕ → State → StoreAnswer
+  ticksDid ms frame e s = appliedDid frame e (ticked cfg e ms (D s e)) s
+
+  unfoldable pub tick : ℕ → List ℕ → Beside → State → Outcome
+  tick ms frame b s = judged (tickRules ms frame s) b s (done b (forThose cfg (timeRuns (s .board)) (ticks ms frame) s))
 
   -- ---- start and stop of a cycle: "start and stop 4, 5"
 
@@ -129,16 +140,16 @@ module _ (cfg : Configuration) where
   ofCycle c e = eqb (cycleOf cfg e) c
 
   unfoldable pub startRules : ℕ → State → List Rule
-  startRules c s = begins s ((4 if noSuchCycle c) ∷ (5 if runs (s .board) c) ∷ [])
+  startRules c s = begins s true ((4 if noSuchCycle c) ∷ (5 if runs (s .board) c) ∷ [])
 
-  unfoldable pub startCycle : ℕ → State → Outcome
-  startCycle c s = judged (startRules c s) [] s (done (withCycle c true (forThose cfg (ofCycle c) (happens cfg start) s)))
+  unfoldable pub startCycle : ℕ → Beside → State → Outcome
+  startCycle c b s = judged (startRules c s) b s (done b (withCycle c true (forThose cfg (ofCycle c) (happens cfg start) s)))
 
   unfoldable pub stopRules : ℕ → State → List Rule
-  stopRules c s = begins s ((4 if noSuchCycle c) ∷ (5 if not (runs (s .board) c)) ∷ [])
+  stopRules c s = begins s true ((4 if noSuchCycle c) ∷ (5 if not (runs (s .board) c)) ∷ [])
 
-  unfoldable pub stopCycle : ℕ → State → Outcome
-  stopCycle c s = judged (stopRules c s) [] s (done (withCycle c false (forThose cfg (ofCycle c) (stops cfg) s)))
+  unfoldable pub stopCycle : ℕ → Beside → State → Outcome
+  stopCycle c b s = judged (stopRules c s) b s (done b (withCycle c false (forThose cfg (ofCycle c) (stops cfg) s)))
 
   -- ---- clear: "clear 4"
 
@@ -158,25 +169,29 @@ module _ (cfg : Configuration) where
   cleared code s = overflowCleared code (forThose cfg (covers code) (clears cfg) s)
 
   unfoldable pub clearRules : ℕ → State → List Rule
-  clearRules code s = begins s ((4 if unknownCode code) ∷ [])
+  clearRules code s = begins s true ((4 if unknownCode code) ∷ [])
 
-  unfoldable pub clearCode : ℕ → State → Outcome
-  clearCode code s = judged (clearRules code s) [] s (done (cleared code s))
+  unfoldable pub clearCode : ℕ → Beside → State → Outcome
+  clearCode code b s = judged (clearRules code s) b s (done b (cleared code s))
 
   -- ---- read status: "read status 4"
 
   unfoldable pub readStatusRules : ℕ → State → List Rule
-  readStatusRules e s = begins s ((4 if noSuchEvent e) ∷ [])
+  readStatusRules e s = begins s true ((4 if noSuchEvent e) ∷ [])
 
-  unfoldable pub readStatus : ℕ → State → Outcome
-  readStatus e s = judged (readStatusRules e s) [] s (record { answer = 0; verdict = None; value = statusByte s e; part = []; room = []; state = s })
+  unfoldable pub readStatus : ℕ → Beside → State → Outcome
+  readStatus e b s =
+      judged (readStatusRules e s) b s
+      (record { answer = 0; verdict = None; value = statusByte s e; part = []; beside = b; state = s })
 
   -- ---- read frame: "read frame 4, 10"
 
   -- "10 | event has no memory entry"
   unfoldable pub readFrameRules : ℕ → State → List Rule
-  readFrameRules e s = begins s ((4 if noSuchEvent e) ∷ (10 if not (anyOf (isOf e) (entries cfg s))) ∷ [])
+  readFrameRules e s = begins s true ((4 if noSuchEvent e) ∷ (10 if not (anyOf (isOf e) (entries cfg s))) ∷ [])
 
   -- "The stored frame is read as a part of the caller's own memory block"
-  unfoldable pub readFrame : ℕ → State → Outcome
-  readFrame e s = judged (readFrameRules e s) [] s (record { answer = 0; verdict = None; value = 0; part = frameOf (entryFor e (entries cfg s)); room = []; state = s })
+  unfoldable pub readFrame : ℕ → Beside → State → Outcome
+  readFrame e b s =
+      judged (readFrameRules e s) b s
+      (record { answer = 0; verdict = None; value = 0; part = frameOf (entryFor e (entries cfg s)); beside = b; state = s })

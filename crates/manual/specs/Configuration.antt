@@ -21,6 +21,15 @@ numberAt cfg i = getD cfg i (pos 0)
 abbrev pub inFront : ℕ
 inFront = 3
 
+abbrev pub mostEvents : ℕ
+mostEvents = 512
+
+abbrev pub mostPlaces : ℕ
+mostPlaces = 64
+
+abbrev pub mostFrame : ℕ
+mostFrame = 32
+
 unfoldable pub events : Configuration → ℕ
 events cfg = natOf (numberAt cfg 0)
 
@@ -33,6 +42,10 @@ frameBytes cfg = natOf (numberAt cfg 2)
 -- "Then 13 per event, event 0 first"
 abbrev pub rowWidth : ℕ
 rowWidth = 13
+
+-- the length of the longest configuration
+abbrev pub mostNumbers : ℕ
+mostNumbers = inFront + rowWidth * mostEvents
 
 -- number k of event e's row, counted from 1 as the table does
 unfoldable pub column : ℕ → Configuration → ℕ → ℤ
@@ -116,9 +129,9 @@ unfoldable pub configOk : Configuration → Bool
 configOk cfg =
     holds
     (leb inFront (length cfg)
-    ∷ between (pos 1) (pos 512) (numberAt cfg 0)
-    ∷ between (pos 1) (pos 64) (numberAt cfg 1)
-    ∷ between (pos 0) (pos 32) (numberAt cfg 2)
+    ∷ between (pos 1) (pos mostEvents) (numberAt cfg 0)
+    ∷ between (pos 1) (pos mostPlaces) (numberAt cfg 1)
+    ∷ between (pos 0) (pos mostFrame) (numberAt cfg 2)
     ∷ eqb (length cfg) (inFront + rowWidth * events cfg)
     ∷ allBelow (events cfg) (rowOk cfg)
     ∷ allBelow (events cfg - 1) (rises cfg)

@@ -10,7 +10,7 @@ use Rattle.manual.specs.declared.Verdict.the-variants.{None}
 use Rattle.manual.specs.Words.{countBelow, joinBelow, firstOf, two, three, threeAt}
 use Rattle.manual.specs.Configuration.{Configuration, events, codeOf}
 use Rattle.manual.specs.State.{State, statusByte}
-use Rattle.manual.specs.Answers.{Outcome, Rule, _if_, judged}
+use Rattle.manual.specs.Answers.{Beside, withRoom, Outcome, Rule, _if_, judged}
 use Rattle.manual.specs.Calls.{begins, unknownCode, cleared}
 
 -- a reply, and its bytes: "Negative reply: 7F, request's first byte, code"
@@ -107,15 +107,23 @@ module _ (cfg : Configuration) where
       (served (negative 0x11) s))
 
   -- "Bytes past the reply stay." "the answer is 0"
-  unfoldable pub sent : List ℕ → List ℕ → State → Outcome
-  sent bytes room s = record { answer = 0; verdict = None; value = length bytes; part = []; room = bytes ++ drop (length bytes) room; state = s }
+  unfoldable pub sent : List ℕ → Beside → State → Outcome
+  sent bytes b s = record {
+    answer = 0;
+    verdict = None;
+    value = length bytes;
+    part = [];
+    beside = withRoom (bytes ++ drop (length bytes) (b .room)) b;
+    state = s;
+  }
 
-  abbrev pub replied : ℕ → List ℕ → Served → Outcome
-  replied service room r = sent (replyBytes service (r .reply)) room (r .state)
+  abbrev pub replied : ℕ → Beside → Served → Outcome
+  replied service b r = sent (replyBytes service (r .reply)) b (r .state)
 
   -- "diagnostic request 7, 1": "The reply room must hold 3 bytes (else 7).", "1 | empty diagnostic request"
-  unfoldable pub requestRules : List ℕ → List ℕ → State → List Rule
-  requestRules request room s = begins cfg s ((7 if ltb (length room) 3) ∷ (1 if eqb (length request) 0) ∷ [])
+  unfoldable pub requestRules : List ℕ → Beside → State → List Rule
+  requestRules request b s = begins cfg s true ((7 if ltb (length (b .room)) 3) ∷ (1 if eqb (length request) 0) ∷ [])
 
-  unfoldable pub requestReply : List ℕ → List ℕ → State → Outcome
-  requestReply request room s = judged (requestRules request room s) room s (replied (getD request 0 0) room (servedBy request (length room) s))
+  unfoldable pub requestReply : List ℕ → Beside → State → Outcome
+  requestReply request b s =
+      judged (requestRules request b s) b s (replied (getD request 0 0) b (servedBy request (length (b .room)) s))

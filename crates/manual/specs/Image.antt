@@ -14,7 +14,7 @@ use Rattle.manual.specs.Configuration.{Configuration, events, places, fr
 use Rattle.manual.specs.State.{State, allStopped, recordWidth}
 use Rattle.manual.specs.Memory.{entryWidth, entryCount, bytesInUse}
 use Rattle.manual.specs.WellFormed.{wellFormed}
-use Rattle.manual.specs.Answers.{Outcome, done, Rule, _if_, judged}
+use Rattle.manual.specs.Answers.{Beside, withRoom, Outcome, done, Rule, _if_, judged}
 use Rattle.manual.specs.Calls.{begins, beginsWithLengths}
 
 -- "Byte 0 = 3 bodies, byte 1 = edition 1, then three rows of 6"
@@ -96,21 +96,28 @@ module _ (cfg : Configuration) where
 
   -- ---- save: "save 5, 7"
 
-  unfoldable pub saveRules : List ℕ → State → List Rule
-  saveRules room s = begins cfg s ((5 if anyRuns (s .board)) ∷ (7 if ltb (length room) (length (imageOf s))) ∷ [])
+  unfoldable pub saveRules : Beside → State → List Rule
+  saveRules b s = begins cfg s true ((5 if anyRuns (s .board)) ∷ (7 if ltb (length (b .room)) (length (imageOf s))) ∷ [])
 
   -- "Save writes the image, no more, and answers its length."
-  abbrev pub saved : List ℕ → List ℕ → State → Outcome
-  saved image room s = record { answer = 0; verdict = None; value = length image; part = []; room = image ++ drop (length image) room; state = s }
+  abbrev pub saved : List ℕ → Beside → State → Outcome
+  saved image b s = record {
+    answer = 0;
+    verdict = None;
+    value = length image;
+    part = [];
+    beside = withRoom (image ++ drop (length image) (b .room)) b;
+    state = s;
+  }
 
-  unfoldable pub save : List ℕ → State → Outcome
-  save room s = judged (saveRules room s) room s (saved (imageOf s) room s)
+  unfoldable pub save : Beside → State → Outcome
+  save b s = judged (saveRules b s) b s (saved (imageOf s) b s)
 
   -- ---- restore: "restore 8"
 
   unfoldable pub restoreRules : List ℕ → State → List Rule
-  restoreRules image s = beginsWithLengths cfg s ((8 if not (acceptable image)) ∷ [])
+  restoreRules image s = beginsWithLengths cfg s true ((8 if not (acceptable image)) ∷ [])
 
   -- "and makes that state"
-  unfoldable pub restore : List ℕ → State → Outcome
-  restore image s = judged (restoreRules image s) [] s (done (stateOf image))
+  unfoldable pub restore : List ℕ → Beside → State → Outcome
+  restore image b s = judged (restoreRules image s) b s (done b (stateOf image))

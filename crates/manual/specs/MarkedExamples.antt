@@ -12,7 +12,8 @@ use Rattle.manual.specs.State.{State, recordWidth, storedAt, statusByte,
 use Rattle.manual.specs.Memory.{memoryLength}
 use Rattle.manual.specs.Debouncing.{ticked}
 use Rattle.manual.specs.Calls.{report, timeRuns}
-use Rattle.manual.specs.Sequences.{Call, Fresh, Report, Tick, Start, Stop, Clear, ReadStatus, ReadFrame, Save, Restore, Request, outcome}
+use Rattle.manual.specs.Answers.{alone}
+use Rattle.manual.specs.Sequences.{Call, Fresh, Report, Tick, Start, Stop, Clear, Read, Restore, Request, outcome}
 
 -- what is seen after a call of event 0, the only one: the call's answer and verdict, status, D, g, and the memory of one place with no
 -- frame
@@ -42,16 +43,14 @@ pub record Story : Type 0 where
 -- of it is the verdict that debouncing gives
 abbrev pub verdictOf : Configuration → Call → State → Verdict
 verdictOf cfg Fresh s = None
-verdictOf cfg (Report k code frame) s = report cfg k code frame s .verdict
+verdictOf cfg (Report k code frame) s = report cfg k code frame alone s .verdict
 verdictOf cfg (Tick ms frame) s = cond (timeRuns cfg (s .board) 0) (ticked cfg 0 ms (D s 0) .verdict) None
 verdictOf cfg (Start c) s = None
 verdictOf cfg (Stop c) s = None
 verdictOf cfg (Clear code) s = None
-verdictOf cfg (ReadStatus k) s = None
-verdictOf cfg (ReadFrame k) s = None
-verdictOf cfg (Save room) s = None
+verdictOf cfg (Read q) s = None
 verdictOf cfg (Restore image) s = None
-verdictOf cfg (Request bytes room) s = None
+verdictOf cfg (Request bytes) s = None
 
 abbrev pub see : ℕ → Verdict → State → Seen
 see answer verdict s = record {
@@ -70,7 +69,7 @@ pub record After : Type 0 where
 
 module _ (cfg : Configuration) where
   abbrev pub afterCall : Call → State → After
-  afterCall c s = let o = outcome cfg c s in record { state = o .state; seen = see (o .answer) (verdictOf cfg c s) (o .state) }
+  afterCall c s = let o = outcome cfg c alone s in record { state = o .state; seen = see (o .answer) (verdictOf cfg c s) (o .state) }
 
   abbrev pub afterCalls : List Call → After → After
   afterCalls [] a = a

@@ -6,7 +6,10 @@ use Prim.Native.Nat.{ℕ, zero, suc, _+_, _-_, _*_, _/_, _%_, min}
 use lib.ListN.{length, getD, take, drop, replicate}
 use lib.Dec.{eqb, leb, ltb}
 use Rattle.history.specs.Words.{anyOf, allOf}
+use Rattle.manual.specs.declared.StoreAnswer.{StoreAnswer}
+use Rattle.manual.specs.declared.StoreAnswer.the-variants.{Untold, Renewed, Added, Displaced, NotStored}
 use Rattle.manual.specs.Words.{firstOf, orElse, those}
+use Rattle.manual.specs.Configuration.{mostPlaces, mostFrame}
 
 -- "event number (2 bytes, high first), occurrence count (1 to 255), F frame bytes"
 pub record Entry : Type 0 where
@@ -36,6 +39,10 @@ entryAt F m = record { high = getD m 0 0; low = getD m 1 0; count = getD m 2 0; 
 
 abbrev pub memoryLength : ℕ → ℕ → ℕ
 memoryLength M F = 1 + M * entryWidth F
+
+-- the length of the longest block
+abbrev pub mostMemory : ℕ
+mostMemory = memoryLength mostPlaces mostFrame
 
 abbrev pub entryCount : List ℕ → ℕ
 entryCount m = getD m 0 0
@@ -79,13 +86,25 @@ noTwice (x ∷ xs) = not (anyOf (isOf (eventOf x)) xs) && noTwice xs
 
 -- ---- "Fresh failure of e with the lent frame"
 
--- the entries after it, and whether it was "not stored; overflow is set"
+-- the entries after it, and by which rule
 pub record Kept : Type 0 where
   pub entries : List Entry
-  pub lost : Bool
+  pub did : StoreAnswer
 
-abbrev pub kept : List Entry → Kept
-kept xs = record { entries = xs; lost = false }
+abbrev pub kept : StoreAnswer → List Entry → Kept
+kept did xs = record { entries = xs; did = did }
+
+-- this entry was taken out
+abbrev pub displacing : Entry → StoreAnswer
+displacing v = Displaced (record { 0 = eventOf v })
+
+-- "not stored"
+abbrev pub isLost : StoreAnswer → Bool
+isLost Untold = false
+isLost Renewed = false
+isLost Added = false
+isLost (Displaced e) = false
+isLost NotStored = true
 
 -- M places; each event's priority number; whether an event has bit 0 clear
 module _ (M : ℕ) (priority : ℕ → ℕ) (quiet : ℕ → Bool) (e : ℕ) (frame : List ℕ) where
@@ -106,17 +125,17 @@ module _ (M : ℕ) (priority : ℕ → ℕ) (quiet : ℕ → Bool) (e : ℕ) (fr
   appended count xs = xs ++ (entryOf e count frame ∷ [])
 
   -- "The victim is taken out, e appended with count 1." "4. Else not stored; overflow is set."
-  unfoldable pub displaced : Option Entry → List Entry → Kept
-  displaced (some v) xs = kept (appended 1 (without (eventOf v) xs))
-  displaced none xs = record { entries = xs; lost = true }
+  unfoldable pub pushedOut : Option Entry → List Entry → Kept
+  pushedOut (some v) xs = kept (displacing v) (appended 1 (without (eventOf v) xs))
+  pushedOut none xs = kept NotStored xs
 
   -- "2. Else, fewer than M entries: appended with count 1."
   unfoldable pub admitted : List Entry → Kept
-  admitted xs = cond (ltb (length xs) M) (kept (appended 1 xs)) (displaced (victim xs) xs)
+  admitted xs = cond (ltb (length xs) M) (kept Added (appended 1 xs)) (pushedOut (victim xs) xs)
 
   -- "1. e has an entry: count up by one, at most 255; frame replaced; the entry moves to the end (newest)."
   unfoldable pub renewed : Option Entry → List Entry → Kept
-  renewed (some x) xs = kept (appended (min 255 (suc (x .count))) (without e xs))
+  renewed (some x) xs = kept Renewed (appended (min 255 (suc (x .count))) (without e xs))
   renewed none xs = admitted xs
 
   unfoldable pub store : List Entry → Kept

@@ -7,10 +7,12 @@ use Rattle.history.specs.StatusByte.{testFailed, freshFailure, agesAtStop}
 use Rattle.history.specs.History.{Token, passed, failed, stop, clear, step}
 use Rattle.manual.specs.declared.Verdict.{Verdict}
 use Rattle.manual.specs.declared.Verdict.the-variants.{None, Passed, Failed}
+use Rattle.manual.specs.declared.StoreAnswer.{StoreAnswer}
+use Rattle.manual.specs.declared.StoreAnswer.the-variants.{Untold}
 use Rattle.manual.specs.Words.{forBelow}
 use Rattle.manual.specs.Configuration.{Configuration, events, places, frameBytes, priorityOf, limitsOf}
 use Rattle.manual.specs.State.{State, recordOf, withRecord, withD, withMemory, withOverflow}
-use Rattle.manual.specs.Memory.{Entry, memoryOf, without, Kept, store}
+use Rattle.manual.specs.Memory.{Entry, memoryOf, without, Kept, isLost, store}
 use Rattle.manual.specs.WellFormed.{entries}
 
 module _ (cfg : Configuration) where
@@ -30,21 +32,33 @@ module _ (cfg : Configuration) where
   isQuiet s e = not (recordOf s e .status testFailed)
 
   unfoldable pub keeps : Kept → State → State
-  keeps k s = withOverflow (s .board .overflow || k .lost) (withEntries (k .entries) s)
+  keeps k s = withOverflow (s .board .overflow || isLost (k .did)) (withEntries (k .entries) s)
 
   -- "Fresh failure of e with the lent frame"
+  abbrev pub storedFor : List ℕ → ℕ → State → Kept
+  storedFor frame e s = store (places cfg) (priorityOf cfg) (isQuiet s) e frame (entries cfg s)
+
   unfoldable pub memoryTold : List ℕ → ℕ → State → State
-  memoryTold frame e s = keeps (store (places cfg) (priorityOf cfg) (isQuiet s) e frame (entries cfg s)) s
+  memoryTold frame e s = keeps (storedFor frame e s) s
 
   -- "Failed: … If bit 0 was clear before, it is a fresh failure and memory is told, last."
   unfoldable pub fails : List ℕ → ℕ → State → State
   fails frame e s = cond (freshFailure (recordOf s e)) (memoryTold frame e (happens failed e s)) (happens failed e s)
+
+  -- what memory did at it
+  unfoldable pub failsDid : List ℕ → ℕ → State → StoreAnswer
+  failsDid frame e s = cond (freshFailure (recordOf s e)) (storedFor frame e (happens failed e s) .did) Untold
 
   -- "A verdict other than none is a qualified result.": what the verdict does to the event
   abbrev pub qualifies : List ℕ → ℕ → Verdict → State → State
   qualifies frame e None s = s
   qualifies frame e Passed s = happens passed e s
   qualifies frame e Failed s = fails frame e s
+
+  abbrev pub qualifiesDid : List ℕ → ℕ → Verdict → State → StoreAnswer
+  qualifiesDid frame e None s = Untold
+  qualifiesDid frame e Passed s = Untold
+  qualifiesDid frame e Failed s = failsDid frame e s
 
   -- "Stop, for its events: (a) … (b) … at A the event ages: …, its entry leaves memory. (c) D = 0."
   unfoldable pub stops : ℕ → State → State

@@ -14,7 +14,7 @@ use Rattle.manual.specs.Words.{All, those, two, three, threeAt}
 use Rattle.manual.specs.Configuration.{Configuration, events, codeOf, configOk}
 use Rattle.manual.specs.State.{State, statusByte}
 use Rattle.manual.specs.WellFormed.{wellFormed}
-use Rattle.manual.specs.Answers.{Outcome}
+use Rattle.manual.specs.Answers.{Beside, withRoom, Outcome}
 use Rattle.manual.specs.Calls.{unknownCode, cleared}
 
 -- ---- the sentences
@@ -77,13 +77,13 @@ module _ (cfg : Configuration) (request : List ℕ) (s : State) where
   abbrev pub Suppressed : Type 0
   Suppressed = (bytes : List ℕ) × Due bytes × (128 ≤ secondByte)
 
-  -- the room for its reply
-  module _ (room : List ℕ) where
+  -- what is lent beside the state: the room for its reply
+  module _ (b : Beside) where
     -- "Every call begins 2, 3.", "The reply room must hold 3 bytes (else 7).", "1 | empty diagnostic request"
     pub record Accepted : Type 0 where
       pub configuration : configOk cfg ≡ true
       pub formed : wellFormed cfg s ≡ true
-      pub room-least : 3 ≤ length room
+      pub room-least : 3 ≤ length (b .room)
       pub not-empty : length request ≢ 0
 
     -- the negative codes
@@ -98,7 +98,7 @@ module _ (cfg : Configuration) (request : List ℕ) (s : State) where
       -- "Length must be 3, 3, 2: else 13."
       other-length : (size : ℕ) (bytes : List ℕ) → Names size bytes → length request ≢ size → Negative 0x13
       -- "Otherwise one longer than the room: code 14."
-      too-long : (bytes : List ℕ) → Due bytes → secondByte < 128 → length room < length bytes → Negative 0x14
+      too-long : (bytes : List ℕ) → Due bytes → secondByte < 128 → length (b .room) < length bytes → Negative 0x14
       -- "14: length must be 4 (else 13)"
       not-four : service ≡ 0x14 → length request ≢ 4 → Negative 0x13
       -- "unknown: code 31"
@@ -112,7 +112,7 @@ module _ (cfg : Configuration) (request : List ℕ) (s : State) where
       verdict = None;
       value = length bytes;
       part = [];
-      room = bytes ++ drop (length bytes) room;
+      beside = withRoom (bytes ++ drop (length bytes) (b .room)) b;
       state = after;
     }
 
@@ -125,7 +125,7 @@ module _ (cfg : Configuration) (request : List ℕ) (s : State) where
       -- "With the top bit set a positive reply has length 0 and the room stays untouched."
       suppressed : Suppressed → Replies (sends [] s)
       -- "01 mask: …", "02 mask: …", "0A: …"
-      positive : (bytes : List ℕ) → Due bytes → secondByte < 128 → length bytes ≤ length room → Replies (sends bytes s)
+      positive : (bytes : List ℕ) → Due bytes → secondByte < 128 → length bytes ≤ length (b .room) → Replies (sends bytes s)
       -- "else clear and `54`"
       clears : service ≡ 0x14 → length request ≡ 4 → unknownCode cfg troubleCode ≡ false
           → Replies (sends (0x54 ∷ []) (cleared cfg troubleCode s))
@@ -153,7 +153,7 @@ listAll = 0x19 ∷ 0x0A ∷ []
 
 -- the bytes of a reply: as many as the call answers
 abbrev pub replyIn : Outcome → List ℕ
-replyIn o = take (o .value) (o .room)
+replyIn o = take (o .value) (o .beside .room)
 
 -- two calls give the same reply, and leave the same state
 pub record SameReply (o o′ : Outcome) : Type 0 where

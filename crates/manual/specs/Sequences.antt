@@ -13,21 +13,25 @@ use Rattle.manual.specs.declared.Verdict.the-variants.{None, Passed, Fai
 use Rattle.manual.specs.Words.{threeAt}
 use Rattle.manual.specs.Configuration.{Configuration}
 use Rattle.manual.specs.State.{State, D}
-use Rattle.manual.specs.WellFormed.{lengthsFit}
-use Rattle.manual.specs.Answers.{Outcome, Rule}
+use Rattle.manual.specs.Answers.{Beside, Outcome, Rule}
 use Rattle.manual.specs.Debouncing.{reported, ticked}
 use Rattle.manual.specs.Calls.{freshRules, reportRules, tickRules, startRules, stopRules, clearRules, readStatusRules, readFrameRules, fresh, report, tick, startCycle, stopCycle, clearCode, readStatus, readFrame, timeRuns, ofCycle, covers, unknownCode}
 use Rattle.manual.specs.Image.{saveRules, restoreRules, save, restore}
 use Rattle.manual.specs.Diagnostics.{requestRules, requestReply}
 
--- the eleven calls with any arguments whatever
+-- the calls that only read the blocks and the board, with any arguments whatever
+pub data Query : Type 0 where
+  ReadStatus ReadFrame : ℕ → Query
+  Save : Query
+
+-- all eleven calls, with any arguments whatever
 pub data Call : Type 0 where
   Fresh : Call
   Report : ℕ → ℕ → List ℕ → Call
   Tick : ℕ → List ℕ → Call
-  Start Stop Clear ReadStatus ReadFrame : ℕ → Call
-  Save Restore : List ℕ → Call
-  Request : List ℕ → List ℕ → Call
+  Start Stop Clear : ℕ → Call
+  Read : Query → Call
+  Restore Request : List ℕ → Call
 
 -- "A verdict other than none is a qualified result."
 abbrev pub result : Verdict → List Token
@@ -40,21 +44,7 @@ onlyIf test tokens = cond test tokens []
 
 -- the image that a save wrote
 abbrev pub savedImage : Outcome → List ℕ
-savedImage o = take (o .value) (o .room)
-
--- the room that was lent to a call
-abbrev pub roomOf : Call → List ℕ
-roomOf Fresh = []
-roomOf (Report k code frame) = []
-roomOf (Tick ms frame) = []
-roomOf (Start c) = []
-roomOf (Stop c) = []
-roomOf (Clear code) = []
-roomOf (ReadStatus k) = []
-roomOf (ReadFrame k) = []
-roomOf (Save room) = room
-roomOf (Restore image) = []
-roomOf (Request bytes room) = room
+savedImage o = take (o .value) (o .beside .room)
 
 -- a fresh or a restore, which begins anew where it is accepted
 abbrev pub beginsAnew : Call → Bool
@@ -64,39 +54,43 @@ beginsAnew (Tick ms frame) = false
 beginsAnew (Start c) = false
 beginsAnew (Stop c) = false
 beginsAnew (Clear code) = false
-beginsAnew (ReadStatus k) = false
-beginsAnew (ReadFrame k) = false
-beginsAnew (Save room) = false
+beginsAnew (Read q) = false
 beginsAnew (Restore image) = true
-beginsAnew (Request bytes room) = false
+beginsAnew (Request bytes) = false
 
 module _ (cfg : Configuration) where
-  abbrev pub outcome : Call → State → Outcome
-  outcome Fresh s = fresh cfg s
-  outcome (Report k code frame) s = report cfg k code frame s
-  outcome (Tick ms frame) s = tick cfg ms frame s
-  outcome (Start c) s = startCycle cfg c s
-  outcome (Stop c) s = stopCycle cfg c s
-  outcome (Clear code) s = clearCode cfg code s
-  outcome (ReadStatus k) s = readStatus cfg k s
-  outcome (ReadFrame k) s = readFrame cfg k s
-  outcome (Save room) s = save cfg room s
-  outcome (Restore image) s = restore cfg image s
-  outcome (Request bytes room) s = requestReply cfg bytes room s
+  abbrev pub answerTo : Query → Beside → State → Outcome
+  answerTo (ReadStatus k) b s = readStatus cfg k b s
+  answerTo (ReadFrame k) b s = readFrame cfg k b s
+  answerTo Save b s = save cfg b s
+
+  abbrev pub outcome : Call → Beside → State → Outcome
+  outcome Fresh b s = fresh cfg b s
+  outcome (Report k code frame) b s = report cfg k code frame b s
+  outcome (Tick ms frame) b s = tick cfg ms frame b s
+  outcome (Start c) b s = startCycle cfg c b s
+  outcome (Stop c) b s = stopCycle cfg c b s
+  outcome (Clear code) b s = clearCode cfg code b s
+  outcome (Read q) b s = answerTo q b s
+  outcome (Restore image) b s = restore cfg image b s
+  outcome (Request bytes) b s = requestReply cfg bytes b s
 
   -- the list of refusals of a call, in its order
-  abbrev pub rulesOf : Call → State → List Rule
-  rulesOf Fresh s = freshRules cfg s
-  rulesOf (Report k code frame) s = reportRules cfg k code frame s
-  rulesOf (Tick ms frame) s = tickRules cfg ms frame s
-  rulesOf (Start c) s = startRules cfg c s
-  rulesOf (Stop c) s = stopRules cfg c s
-  rulesOf (Clear code) s = clearRules cfg code s
-  rulesOf (ReadStatus k) s = readStatusRules cfg k s
-  rulesOf (ReadFrame k) s = readFrameRules cfg k s
-  rulesOf (Save room) s = saveRules cfg room s
-  rulesOf (Restore image) s = restoreRules cfg image s
-  rulesOf (Request bytes room) s = requestRules cfg bytes room s
+  abbrev pub queryRules : Query → Beside → State → List Rule
+  queryRules (ReadStatus k) b s = readStatusRules cfg k s
+  queryRules (ReadFrame k) b s = readFrameRules cfg k s
+  queryRules Save b s = saveRules cfg b s
+
+  abbrev pub rulesOf : Call → Beside → State → List Rule
+  rulesOf Fresh b s = freshRules cfg s
+  rulesOf (Report k code frame) b s = reportRules cfg k code frame s
+  rulesOf (Tick ms frame) b s = tickRules cfg ms frame s
+  rulesOf (Start c) b s = startRules cfg c s
+  rulesOf (Stop c) b s = stopRules cfg c s
+  rulesOf (Clear code) b s = clearRules cfg code s
+  rulesOf (Read q) b s = queryRules q b s
+  rulesOf (Restore image) b s = restoreRules cfg image s
+  rulesOf (Request bytes) b s = requestRules cfg bytes b s
 
   -- service 14 with a trouble code that some event has, or with the one for all
   abbrev pub asksClear : List ℕ → Bool
@@ -110,31 +104,31 @@ module _ (cfg : Configuration) where
   gives (Start c) b e d = onlyIf (ofCycle cfg c e) (start ∷ [])
   gives (Stop c) b e d = onlyIf (ofCycle cfg c e) (stop ∷ [])
   gives (Clear code) b e d = onlyIf (covers cfg code e) (clear ∷ [])
-  gives (ReadStatus k) b e d = []
-  gives (ReadFrame k) b e d = []
-  gives (Save room) b e d = []
+  gives (Read q) b e d = []
   gives (Restore image) b e d = []
-  gives (Request bytes room) b e d = onlyIf (asksClear bytes && covers cfg (threeAt 1 bytes) e) (clear ∷ [])
+  gives (Request bytes) b e d = onlyIf (asksClear bytes && covers cfg (threeAt 1 bytes) e) (clear ∷ [])
 
   -- "Refused calls and other events' reports count for nothing."
   unfoldable pub tokens : ℕ → Call → Board → ℕ → ℤ → List Token
   tokens answer c b e d = onlyIf (eqb answer 0) (gives c b e d)
 
-  -- the tokens that a call on state s gives each event
-  abbrev pub tokensAt : Call → State → ℕ → List Token
-  tokensAt c s e = tokens (outcome c s .answer) c (s .board) e (D s e)
+  -- the tokens that a call on state s, with this lent beside it, gives each event
+  abbrev pub tokensAt : Call → Beside → State → ℕ → List Token
+  tokensAt c b s e = tokens (outcome c b s .answer) c (s .board) e (D s e)
 
   -- the call neither makes a second fresh state nor restores one
-  abbrev pub goesOn : Call → State → Bool
-  goesOn c s = not (beginsAnew c && eqb (outcome c s .answer) 0)
+  abbrev pub goesOn : Call → Beside → State → Bool
+  goesOn c b s = not (beginsAnew c && eqb (outcome c b s .answer) 0)
 
-  -- A state that calls lead to, with each event's history.
+  -- A state that calls lead to, with each event's history. Whatever is lent beside it may be anything at each call.
   pub data Reached : State → (ℕ → History) → Type 0 where
     -- "From a fresh state": the public fresh on any blocks and board that it accepts
-    begun : (s : State) → fresh cfg s .answer ≡ 0 → Reached (fresh cfg s .state) (λ e. [])
+    begun : (b : Beside) (s : State) → fresh cfg b s .answer ≡ 0 → Reached (fresh cfg b s .state) (λ e. [])
     -- any call with any arguments, accepted or refused, "without a restore or a second fresh state"
-    called : {s : State} {H : ℕ → History} → Reached s H → (c : Call) → goesOn c s ≡ true → Reached (outcome c s .state) (λ e. tokensAt c s e ++ H e)
+    called : {s : State} {H : ℕ → History} → Reached s H → (c : Call) (b : Beside) → goesOn c b s ≡ true
+        → Reached (outcome c b s .state) (λ e. tokensAt c b s e ++ H e)
     -- "After restoring an image saved in that sequence, the history is the one up to that save, then what follows.": restored into any
-    -- state of the lengths that restore asks for, as after a power cut blocks and board may hold anything
-    restored : {s : State} {H : ℕ → History} → Reached s H → (room : List ℕ) → save cfg room s .answer ≡ 0
-        → (s′ : State) → lengthsFit cfg s′ ≡ true → Reached (restore cfg (savedImage (save cfg room s)) s′ .state) H
+    -- blocks that restore accepts, as after a power cut they and the board may hold anything
+    restored : {s : State} {H : ℕ → History} → Reached s H → (b : Beside) → save cfg b s .answer ≡ 0
+        → (b′ : Beside) (s′ : State) → restore cfg (savedImage (save cfg b s)) b′ s′ .answer ≡ 0
+        → Reached (restore cfg (savedImage (save cfg b s)) b′ s′ .state) H

@@ -12,8 +12,23 @@ pub enum Verdict {
     Failed,
 }
 
+// "n events (1 to 512), M memory places (1 to 64), F frame bytes (0 to 32)"
+pub const MOST_EVENTS: usize = 512;
+
+pub const MOST_PLACES: usize = 64;
+
+pub const MOST_FRAME: usize = 32;
+
+// "the length is exactly 3 + 13n": of the longest configuration.
+pub const MOST_NUMBERS: usize = 3 + 13 * MOST_EVENTS;
+
 // "Records: 4n lent bytes; per event status, K (failed cycles), h (healing count), g (ageing count)."
 pub const RECORD_WIDTH: usize = 4;
+
+// The lengths of the longest blocks: "Records: 4n lent bytes", "Memory: 1 + M(3 + F) lent bytes".
+pub const MOST_RECORDS: usize = RECORD_WIDTH * MOST_EVENTS;
+
+pub const MOST_MEMORY: usize = 1 + MOST_PLACES * (3 + MOST_FRAME);
 
 // "which of the four cycles run"
 pub const CYCLES: usize = 4;
@@ -22,6 +37,17 @@ pub const CYCLES: usize = 4;
 pub struct Board {
     pub running: [bool; CYCLES],
     pub overflow: bool,
+}
+
+// What memory did at an event's part of a call: it was not told, since there was no fresh failure; or, by rules 1 to 4 of a fresh
+// failure, the event's entry was renewed, one was added, one was displaced (the event is that of the entry that rule 3 takes out), or the
+// failure was not stored.
+pub enum StoreAnswer {
+    Untold,
+    Renewed,
+    Added,
+    Displaced(EventNumber),
+    NotStored,
 }
 
 // Why a call was refused: document 01's numbers 1 to 10, in their order.

@@ -9,15 +9,15 @@ use lib.Dec.{ltb}
 use lib.ListN.{length}
 use borrow.Author.Tests.{eqb-true, ltb-true, lt-ltb, le-ltb}
 use Rattle.manual.specs.declared.Place.{Place}
+use Rattle.manual.specs.declared.StoreAnswer.the-variants.{Renewed, Added, NotStored}
 use Rattle.manual.specs.Configuration.{Configuration, events, places, frameBytes, priorityOf}
-use Rattle.manual.specs.Memory.{Entry, eventOf, entryOf, entryCount, entriesOf, memoryOf, isOf, without, victim, displaced, admitted, renewed, store}
+use Rattle.manual.specs.Memory.{Entry, eventOf, entryOf, entryCount, entriesOf, memoryOf, isOf, without, kept, displacing, victim, pushedOut, admitted, renewed, store}
 use Rattle.memory.specs.declared.Find.the-variants.{At, Nothing}
-use Rattle.memory.specs.declared.StoreAnswer.the-variants.{Stored, Displaced, NotStored}
 use Rattle.memory.specs.Block.{removed, added, replaced}
 use Rattle.memory.specs.Places.{atPlace, placeOf, victimPlace}
 use Rattle.memory.specs.Fits.{EntriesFit, PlaceFits, RoomAt, EventsFit}
 use Rattle.memory.specs.InOrder.{InOrder}
-use Rattle.memory.specs.Store.{MayStore, quietIn, Left, leftWith, displacing, isLost, admittedAnswer, renewedAnswer, storeAnswer, admits, stores}
+use Rattle.memory.specs.Store.{MayStore, quietIn, Left, leftWith, leftBy, admits, stores}
 use Rattle.memory.proofs.PlacesLaws.{entries-are-count, found, found-nothing, all-places, at-each-place}
 use Rattle.memory.proofs.SurgeryLaws.{entries-fit, room-at-end, added-at, replaced-at, place-fits, forgotten-at, forgotten-nothing}
 use Rattle.memory.proofs.VictimLaws.{entryIn, victim-entry, victim-inside}
@@ -64,36 +64,35 @@ module _ (n M F : ℕ) (m : List ℕ) (o : InOrder n M F m) (priority : ℕ → 
   }
 
   -- rule 1: "e has an entry: count up by one, at most 255; frame replaced; the entry moves to the end (newest)."
-  rule-1 : (p : Place) → placeOf e xs ≡ At p → leftWith (replaced (p .0) e (min 255 (suc (atPlace (p .0) xs .count))) frame m) Stored ≡ storesAll
+  rule-1 : (p : Place) → placeOf e xs ≡ At p → leftWith (replaced (p .0) e (min 255 (suc (atPlace (p .0) xs .count))) frame m) Renewed ≡ storesAll
   unfolding stores store renewed
   rule-1 p h =
       let f = found (isOf e) xs p h in
       let c = min 255 (suc (atPlace (p .0) xs .count)) in
-      ap (λ (b : List ℕ). leftWith b Stored)
+      ap (λ (b : List ℕ). leftWith b Renewed)
       (replaced-at n M F m o (p .0) (place-fits n M F m o (isOf e) p h .below) e c frame framed
       ∙ ap (λ (k : ℕ). memoryOf M F (without k xs ++ (entryOf e c frame ∷ []))) (eqb-true _ _ (f .passes)))
-      ∙ ap (λ (x : Option Entry). leftWith (memoryOf M F (renewed M priority quiet e frame x xs .entries)) (renewedAnswer M F priority quiet e frame x xs)) (sym (f .first))
+      ∙ ap (λ (x : Option Entry). leftBy M F priority quiet e frame (renewed M priority quiet e frame x xs)) (sym (f .first))
 
   -- rules 2 to 4: e has no entry
   rules-2-to-4 : placeOf e xs ≡ Nothing → admitsAll ≡ storesAll
   unfolding admits stores store renewed
   rules-2-to-4 h =
-      ap (λ (x : Option Entry). leftWith (memoryOf M F (renewed M priority quiet e frame x xs .entries)) (renewedAnswer M F priority quiet e frame x xs)) (sym (found-nothing (isOf e) xs h))
+      ap (λ (x : Option Entry). leftBy M F priority quiet e frame (renewed M priority quiet e frame x xs)) (sym (found-nothing (isOf e) xs h))
 
   -- what they leave, by whether there are fewer than M entries and by the victim
   abbrev by-room : Bool → Option Entry → Left
-  by-room b v = leftWith
-      (memoryOf M F (cond b (record { entries = xs ++ (entryOf e 1 frame ∷ []); lost = false }) (displaced M priority quiet e frame v xs) .entries))
-      (cond b Stored (displacing v))
+  by-room b v =
+      leftBy M F priority quiet e frame (cond b (kept Added (xs ++ (entryOf e 1 frame ∷ []))) (pushedOut M priority quiet e frame v xs))
 
   admits-is : (b : Bool) (v : Option Entry) → ltb (length xs) M ≡ b → victim M priority quiet e frame xs ≡ v → by-room b v ≡ admitsAll
-  unfolding admits admitted admittedAnswer
+  unfolding admits admitted
   admits-is b v p q = λ i. by-room (sym p i) (sym q i)
 
   -- rule 2: "Else, fewer than M entries: appended with count 1."
-  rule-2 : entryCount m < M → leftWith (added e 1 frame m) Stored ≡ admitsAll
+  rule-2 : entryCount m < M → leftWith (added e 1 frame m) Added ≡ admitsAll
   rule-2 h =
-      ap (λ (b : List ℕ). leftWith b Stored) (added-at n M F m o e 1 frame framed h)
+      ap (λ (b : List ℕ). leftWith b Added) (added-at n M F m o e 1 frame framed h)
       ∙ admits-is true (victim M priority quiet e frame xs) (lt-ltb (length xs) M (omega (arith, entries-are-count F m))) refl
 
   full : M ≤ entryCount m → ltb (length xs) M ≡ false
@@ -104,15 +103,15 @@ module _ (n M F : ℕ) (m : List ℕ) (o : InOrder n M F m) (priority : ℕ → 
 
   -- rule 3: "The victim is taken out, e appended with count 1."
   rule-3 : M ≤ entryCount m → (p : Place) → victimPlace priority quiet e xs ≡ At p
-      → leftWith (replaced (p .0) e 1 frame m) (Displaced (record { 0 = eventOf (atPlace (p .0) xs) })) ≡ admitsAll
-  unfolding displaced
+      → leftWith (replaced (p .0) e 1 frame m) (displacing (atPlace (p .0) xs)) ≡ admitsAll
+  unfolding pushedOut
   rule-3 h p v =
-      ap (λ (b : List ℕ). leftWith b (Displaced (record { 0 = eventOf (atPlace (p .0) xs) }))) (replaced-at n M F m o (p .0) (victim-fits p v .below) e 1 frame framed)
+      ap (λ (b : List ℕ). leftWith b (displacing (atPlace (p .0) xs))) (replaced-at n M F m o (p .0) (victim-fits p v .below) e 1 frame framed)
       ∙ admits-is false (some (atPlace (p .0) xs)) (full h) (victim-entry M priority quiet e frame xs ∙ ap (entryIn xs) v)
 
   -- rule 4: "Else not stored; overflow is set."
   rule-4 : M ≤ entryCount m → victimPlace priority quiet e xs ≡ Nothing → leftWith m NotStored ≡ admitsAll
-  unfolding displaced
+  unfolding pushedOut
   rule-4 h v =
       ap (λ (b : List ℕ). leftWith b NotStored) (o .block)
       ∙ admits-is false none (full h) (victim-entry M priority quiet e frame xs ∙ ap (entryIn xs) v)
@@ -151,7 +150,7 @@ module _ (cfg : Configuration) (records m : List ℕ) (e : ℕ) (frame : List �
   may-displace p h = (victim-fits (events cfg) (places cfg) F₁ m order (priorityOf cfg) (quietIn records) e frame refl p h, two-bytes)
 
   pub renews : (p : Place) → placeOf e (entriesOf F₁ m) ≡ At p
-      → leftWith (replaced (p .0) e (min 255 (suc (atPlace (p .0) (entriesOf F₁ m) .count))) frame m) Stored ≡ storesAt (frameBytes cfg)
+      → leftWith (replaced (p .0) e (min 255 (suc (atPlace (p .0) (entriesOf F₁ m) .count))) frame m) Renewed ≡ storesAt (frameBytes cfg)
   renews p h = rule-1 (events cfg) (places cfg) F₁ m order (priorityOf cfg) (quietIn records) e frame refl p h ∙ ap storesAt (r .frame-fits)
 
   pub has-none : placeOf e (entriesOf F₁ m) ≡ Nothing → admitsAt (frameBytes cfg) ≡ storesAt (frameBytes cfg)
@@ -159,38 +158,12 @@ module _ (cfg : Configuration) (records m : List ℕ) (e : ℕ) (frame : List �
       ap admitsAt (sym (r .frame-fits)) ∙ rules-2-to-4 (events cfg) (places cfg) F₁ m order (priorityOf cfg) (quietIn records) e frame refl h
       ∙ ap storesAt (r .frame-fits)
 
-  pub appends : entryCount m < places cfg → leftWith (added e 1 frame m) Stored ≡ admitsAt (frameBytes cfg)
+  pub appends : entryCount m < places cfg → leftWith (added e 1 frame m) Added ≡ admitsAt (frameBytes cfg)
   appends h = rule-2 (events cfg) (places cfg) F₁ m order (priorityOf cfg) (quietIn records) e frame refl h ∙ ap admitsAt (r .frame-fits)
 
   pub displaces : places cfg ≤ entryCount m → (p : Place) → victimPlace (priorityOf cfg) (quietIn records) e (entriesOf F₁ m) ≡ At p
-      → leftWith (replaced (p .0) e 1 frame m) (Displaced (record { 0 = eventOf (atPlace (p .0) (entriesOf F₁ m)) })) ≡ admitsAt (frameBytes cfg)
+      → leftWith (replaced (p .0) e 1 frame m) (displacing (atPlace (p .0) (entriesOf F₁ m))) ≡ admitsAt (frameBytes cfg)
   displaces h p v = rule-3 (events cfg) (places cfg) F₁ m order (priorityOf cfg) (quietIn records) e frame refl h p v ∙ ap admitsAt (r .frame-fits)
 
   pub loses : places cfg ≤ entryCount m → victimPlace (priorityOf cfg) (quietIn records) e (entriesOf F₁ m) ≡ Nothing → leftWith m NotStored ≡ admitsAt (frameBytes cfg)
   loses h v = rule-4 (events cfg) (places cfg) F₁ m order (priorityOf cfg) (quietIn records) e frame refl h v ∙ ap admitsAt (r .frame-fits)
-
--- ---- the answer says "not stored" exactly where the manual's store does
-
-lost-displaced : (M F : ℕ) (priority : ℕ → ℕ) (quiet : ℕ → Bool) (e : ℕ) (frame : List ℕ) (xs : List Entry) (v : Option Entry) → isLost (displacing v) ≡ displaced M priority quiet e frame v xs .lost
-unfolding displaced
-lost-displaced M F priority quiet e frame xs (some v) = refl
-lost-displaced M F priority quiet e frame xs none = refl
-
-module _ (M F : ℕ) (priority : ℕ → ℕ) (quiet : ℕ → Bool) (e : ℕ) (frame : List ℕ) (xs : List Entry) where
-  lost-admitted : isLost (admittedAnswer M F priority quiet e frame xs) ≡ admitted M priority quiet e frame xs .lost
-  unfolding admittedAnswer admitted
-  lost-admitted = go (ltb (length xs) M)
-    where
-      go : (b : Bool)
-          → isLost (cond b Stored (displacing (victim M priority quiet e frame xs))) ≡ cond b (record { entries = xs ++ (entryOf e 1 frame ∷ []); lost = false }) (displaced M priority quiet e frame (victim M priority quiet e frame xs) xs) .lost
-      go true = refl
-      go false = lost-displaced M F priority quiet e frame xs (victim M priority quiet e frame xs)
-
-  lost-renewed : (x : Option Entry) → isLost (renewedAnswer M F priority quiet e frame x xs) ≡ renewed M priority quiet e frame x xs .lost
-  unfolding renewed
-  lost-renewed (some x) = refl
-  lost-renewed none = lost-admitted
-
-  pub answer-is-lost : isLost (storeAnswer M F priority quiet e frame xs) ≡ store M priority quiet e frame xs .lost
-  unfolding store
-  answer-is-lost = lost-renewed _

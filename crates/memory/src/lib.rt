@@ -1,6 +1,7 @@
 // Document 01, "Memory": the entries of events that failed, in the lent block of bytes.
 use manual::EventNumber;
 use manual::Place;
+use manual::StoreAnswer;
 
 mod block;
 mod readings;
@@ -12,11 +13,10 @@ ghost use Prim.Native.Nat.{suc, min, _≤_, _<_};
 ghost use lib.ListN.{length, drop};
 ghost use Rattle.history.specs.Words.{anyOf, allOf};
 ghost use Rattle.manual.specs.Configuration.{events, places, frameBytes, priorityOf};
-ghost use Rattle.manual.specs.Memory.{eventOf, memoryLength, entryCount, bytesInUse, entriesOf, memoryOf, isOf, without, noTwice};
+ghost use Rattle.manual.specs.Memory.{eventOf, displacing, memoryLength, entryCount, bytesInUse, entriesOf, memoryOf, isOf, without, noTwice};
 ghost use Rattle.memory.specs.Places.{frameAt, atPlace, firstPlace, placeOf, outranks, rests, victimPlace};
 ghost use Rattle.memory.specs.Fits.{EntriesFit, PlaceFits, RoomAt, EventsFit};
 ghost use Rattle.memory.specs.InOrder.{InOrder};
-ghost use Rattle.memory.specs.declared.StoreAnswer.the-variants.{Displaced};
 ghost use Rattle.memory.specs.Judgement.{Small, soundNumbers, soundEntry, usedOk, zeros, blockOk};
 ghost use Rattle.memory.specs.Store.{MayStore, quietIn, leftWith, admits, stores};
 ghost use Rattle.memory.specs.Block.{gapClosed, entered, removed, added, replaced};
@@ -25,13 +25,6 @@ ghost use Rattle.memory.specs.Block.{gapClosed, entered, removed, added,
 pub enum Find {
     At(Place),
     Nothing,
-}
-
-// What became of a fresh failure. A displaced event is that of the entry that rule 3 takes out.
-pub enum StoreAnswer {
-    Stored,
-    Displaced(EventNumber),
-    NotStored,
 }
 
 // "event number (2 bytes, high first), occurrence count (1 to 255)": the bytes of an entry before its frame.
@@ -265,7 +258,7 @@ fn renew(memory: &mut [u8], place: Place, event: EventNumber, frame: &[u8])
 // Rule 3: "The victim is taken out, e appended with count 1."
 fn displace(memory: &mut [u8], place: Place, event: EventNumber, frame: &[u8]) -> StoreAnswer
     requires { ⌜ (PlaceFits (length (now frame)) (now memory) (place .0)) × (event .0 < 65536) ⌝ }
-    ensures { λ r. ⌜ leftWith (now (memory .exit)) r ≡ leftWith (replaced (place .0) (event .0) 1 (now (frame .entry)) (now (memory .entry))) (Displaced (record { 0 = eventOf (atPlace (place .0) (entriesOf (length (now (frame .entry))) (now (memory .entry)))) })) ⌝ }
+    ensures { λ r. ⌜ leftWith (now (memory .exit)) r ≡ leftWith (replaced (place .0) (event .0) 1 (now (frame .entry)) (now (memory .entry))) (displacing (atPlace (place .0) (entriesOf (length (now (frame .entry))) (now (memory .entry))))) ⌝ }
 {
     let out = event_at(memory, frame.len(), place);
     replace(memory, place, event, 1, frame);
@@ -285,7 +278,7 @@ fn admit(
 {
     if entry_count(memory) < config::places(cfg) {
         append(memory, event, 1, frame);
-        return StoreAnswer::Stored;
+        return StoreAnswer::Added;
     }
     let found = victim(cfg, records, memory, frame.len(), event);
     match found {
@@ -309,7 +302,7 @@ pub fn store(
     match own {
         Find::At(place) => {
             renew(memory, place, event, frame);
-            StoreAnswer::Stored
+            StoreAnswer::Renewed
         }
         Find::Nothing => admit(cfg, records, memory, event, frame),
     }

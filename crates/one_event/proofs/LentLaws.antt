@@ -10,13 +10,15 @@ use Rattle.history.specs.StatusByte as status
 use Rattle.history.specs.StatusByte.{freshRecord, freshFailure, agesAtStop}
 use Rattle.history.specs.History.{Token, failed, stop, step}
 use Rattle.manual.specs.declared.Board.{Board}
+use Rattle.manual.specs.declared.StoreAnswer.{StoreAnswer}
+use Rattle.manual.specs.declared.StoreAnswer.the-variants.{Untold}
 use Rattle.manual.specs.declared.Verdict.{Verdict}
 use Rattle.manual.specs.Configuration.{Configuration, events, places, frameBytes, priorityOf, limitsOf}
 use Rattle.manual.specs.State.{State, recordWidth, Stored, opened, stored, storedAt, withStored, D, withD, lent}
-use Rattle.manual.specs.Memory.{entriesOf, memoryOf, without, store}
-use Rattle.manual.specs.OneEvent.{happens, entryLeaves, keeps, memoryTold, fails, qualifies, stops, clears}
+use Rattle.manual.specs.Memory.{entriesOf, memoryOf, without, isLost, store}
+use Rattle.manual.specs.OneEvent.{happens, entryLeaves, keeps, storedFor, memoryTold, fails, failsDid, stops, clears}
 use Rattle.manual.specs.Debouncing.{Debounced, reported, ticked}
-use Rattle.manual.specs.Calls.{applied, reportDone, ticks}
+use Rattle.manual.specs.Calls.{applied, appliedDid}
 use Rattle.manual.proofs.ConfigurationLaws.{config-tells}
 use Rattle.config.specs.declared.Limits.{Limits}
 use Rattle.config.specs.Rows.{limitsIs}
@@ -28,10 +30,9 @@ use Rattle.status.specs.declared.AfterFailed.{AfterFailed}
 use Rattle.status.specs.declared.AfterStop.{AfterStop}
 use Rattle.status.specs.Records.{storedIs, recordIs, limits, FailedIs, RoomToRise, StoppedIs}
 use Rattle.status.proofs.RecordsLaws.{step-written, has-room}
-use Rattle.memory.specs.declared.StoreAnswer.{StoreAnswer}
-use Rattle.memory.specs.Store.{MayStore, quietIn, Left, leftWith, isLost, stores}
-use Rattle.memory.proofs.StoreLaws.{answer-is-lost}
+use Rattle.memory.specs.Store.{MayStore, quietIn, Left, leftWith, stores}
 use Rattle.one_event.specs.Ready.{accepts, BlocksFit, EventFits, Ready}
+use Rattle.one_event.specs.Steps.{Stepped, stepped, tellsMemory, failing, qualifying, applying, reporting, ticking}
 
 -- ---- what the functions of the crates below ask
 
@@ -94,12 +95,12 @@ module _ (cfg : Configuration) (e : ℕ) (frame records memory : List ℕ) (boar
   abbrev told : Left
   told = stores (places cfg) (frameBytes cfg) (priorityOf cfg) (quietIn records) e frame (entriesOf (frameBytes cfg) memory)
 
-  pub told-is : {memory′ : List ℕ} (answer : StoreAnswer) {lost : Bool} → leftWith memory′ answer ≡ told → lost ≡ isLost answer
-      → (d : List ℤ) → lent records d memory′ (record { running = board .running; overflow = board .overflow || lost }) ≡ memoryTold cfg frame e (lent records d memory board)
+  pub told-is : {memory′ : List ℕ} (did : StoreAnswer) {lost : Bool} → leftWith memory′ did ≡ told → lost ≡ isLost did
+      → (d : List ℤ) → stepped (lent records d memory′ (record { running = board .running; overflow = board .overflow || lost })) did ≡ tellsMemory cfg frame e (lent records d memory board)
   unfolding memoryTold keeps stores storedAt
-  told-is answer p q d =
-      let lost-is = q ∙ ap (λ (x : Left). isLost (x .answer)) p ∙ answer-is-lost (places cfg) (frameBytes cfg) (priorityOf cfg) (quietIn records) e frame (entriesOf (frameBytes cfg) memory) in
-      λ i. lent records d (p i .block) (record { running = board .running; overflow = board .overflow || lost-is i })
+  told-is did p q d =
+      let lost-is = q ∙ ap (λ (x : Left). isLost (x .did)) p in
+      λ i. stepped (lent records d (p i .block) (record { running = board .running; overflow = board .overflow || lost-is i })) (p i .did)
 
   module _ {records′ : List ℕ} (l : Limits) (r : Record) (f : AfterFailed) (p : limitsIs l ≡ limitsOf cfg e) (q : storedIs r ≡ storedAt e records)
       (s : (H A : ℕ) → FailedIs (limits (l .confirm) H A (l .indicator)) r f) (w : records′ ≡ withStored e (storedIs (f .«record»)) records) where
@@ -112,31 +113,36 @@ module _ (cfg : Configuration) (e : ℕ) (frame records memory : List ℕ) (boar
     after : (d : List ℤ) → lent records′ d memory board ≡ happens cfg failed e (lent records d memory board)
     after d = happens-is cfg e records failed r (f .«record») q (is .after) w d memory board
 
-    pub fails-told : {memory′ : List ℕ} {board′ : Board} → f .«fresh_failure» ≡ true
-        → ((d : List ℤ) → lent records′ d memory′ board′ ≡ memoryTold cfg frame e (lent records′ d memory board))
-        → (d : List ℤ) → lent records′ d memory′ board′ ≡ fails cfg frame e (lent records d memory board)
-    unfolding fails
-    fails-told t m d = m d ∙ (λ i. cond ((sym t ∙ fresh) i) (memoryTold cfg frame e (after d i)) (after d i))
+    abbrev failsBy : Bool → State → Stepped State
+    failsBy b u = stepped (cond b (memoryTold cfg frame e u) u) (cond b (storedFor cfg frame e u .did) Untold)
 
-    pub fails-untold : f .«fresh_failure» ≡ false → (d : List ℤ) → lent records′ d memory board ≡ fails cfg frame e (lent records d memory board)
-    unfolding fails
-    fails-untold t d = λ i. cond ((sym t ∙ fresh) i) (memoryTold cfg frame e (after d i)) (after d i)
+    fails-is : {b : Bool} → f .«fresh_failure» ≡ b → (d : List ℤ) → failsBy b (lent records′ d memory board) ≡ failing cfg frame e (lent records d memory board)
+    unfolding fails failsDid
+    fails-is t d = λ i. failsBy ((sym t ∙ fresh) i) (after d i)
+
+    pub fails-told : {records″ memory″ : List ℕ} {board″ : Board} {did : StoreAnswer} → f .«fresh_failure» ≡ true
+        → ((d : List ℤ) → stepped (lent records″ d memory″ board″) did ≡ tellsMemory cfg frame e (lent records′ d memory board))
+        → (d : List ℤ) → stepped (lent records″ d memory″ board″) did ≡ failing cfg frame e (lent records d memory board)
+    fails-told t m d = m d ∙ fails-is t d
+
+    pub fails-untold : f .«fresh_failure» ≡ false → (d : List ℤ) → stepped (lent records′ d memory board) Untold ≡ failing cfg frame e (lent records d memory board)
+    fails-untold t d = fails-is t d
 
 -- ---- a verdict, and a report or a tick
 
 module _ (cfg : Configuration) (e : ℕ) (frame records memory : List ℕ) (board : Board) where
-  -- these blocks and this board are left, whatever the debounce numbers are
-  abbrev Qualified : List ℕ → List ℕ → Board → Verdict → Type 0
-  Qualified records′ memory′ board′ v = (d : List ℤ) → lent records′ d memory′ board′ ≡ qualifies cfg frame e v (lent records d memory board)
+  -- these blocks and this board are left, and memory did this, whatever the debounce numbers are
+  abbrev Qualified : List ℕ → List ℕ → Board → StoreAnswer → Verdict → Type 0
+  Qualified records′ memory′ board′ did v = (d : List ℤ) → stepped (lent records′ d memory′ board′) did ≡ qualifying cfg frame e v (lent records d memory board)
 
-  module _ {records′ memory′ : List ℕ} {board′ : Board} where
-    pub qualifies-by : {verdict : Verdict} (v : Verdict) → verdict ≡ v → Qualified records′ memory′ board′ v → Qualified records′ memory′ board′ verdict
-    qualifies-by v p q = subst (Qualified records′ memory′ board′) (sym p) q
+  module _ {records′ memory′ : List ℕ} {board′ : Board} {did : StoreAnswer} where
+    pub qualifies-by : {verdict : Verdict} (v : Verdict) → verdict ≡ v → Qualified records′ memory′ board′ did v → Qualified records′ memory′ board′ did verdict
+    qualifies-by v p q = subst (Qualified records′ memory′ board′ did) (sym p) q
 
-    pub applied-is : (debounce : List ℤ) {debounce′ : List ℤ} (x : Debounced) → debounce′ ≡ set debounce e (x .number) → Qualified records′ memory′ board′ (x .verdict)
-        → lent records′ debounce′ memory′ board′ ≡ applied cfg frame e x (lent records debounce memory board)
-    unfolding applied
-    applied-is debounce {debounce′} x p q = q debounce′ ∙ ap (λ (l : List ℤ). qualifies cfg frame e (x .verdict) (lent records l memory board)) p
+    pub applied-is : (debounce : List ℤ) {debounce′ : List ℤ} (x : Debounced) → debounce′ ≡ set debounce e (x .number) → Qualified records′ memory′ board′ did (x .verdict)
+        → stepped (lent records′ debounce′ memory′ board′) did ≡ applying cfg frame e x (lent records debounce memory board)
+    unfolding applied appliedDid
+    applied-is debounce {debounce′} x p q = q debounce′ ∙ ap (λ (l : List ℤ). qualifying cfg frame e (x .verdict) (lent records l memory board)) p
 
 module _ (cfg : Configuration) (e : ℕ) (s : State) where
   module _ (f : Ready cfg s e) (row : Row) (o : RowOf cfg e row) {n : ℤ} (p : n ≡ D s e) where
@@ -146,11 +152,15 @@ module _ (cfg : Configuration) (e : ℕ) (s : State) where
     pub may-tick : (ms : ℕ) → ms ≤ 60000 → SmallTick row ms n
     may-tick ms h = subst (SmallTick row ms) (sym p) (small-tick cfg e row o (f .event .configured) (f .event .blocks .below) _ (D s e) (f .number) ms h)
 
-  module _ (frame : List ℕ) (row : Row) (o : RowOf cfg e row) {n : ℤ} (p : n ≡ D s e) (x : Debounced) {t : State} (a : t ≡ applied cfg frame e x s) where
-    pub reports-is : (code : ℕ) → x ≡ reportedBy row code n → accepts (x .verdict) t ≡ reportDone cfg e code frame s
+  module _ (frame : List ℕ) (row : Row) (o : RowOf cfg e row) {n : ℤ} (p : n ≡ D s e) (x : Debounced) {t : State} {did : StoreAnswer}
+      (a : stepped t did ≡ applying cfg frame e x s) where
+    by-row : {y : Debounced} → x ≡ y → stepped t did ≡ applying cfg frame e y s
+    by-row q = a ∙ ap (λ (y : Debounced). applying cfg frame e y s) q
+
+    pub reports-is : (code : ℕ) → x ≡ reportedBy row code n → stepped (accepts (x .verdict) t) did ≡ reporting cfg frame e code s
     reports-is code q =
         let is : x ≡ reported cfg e code (D s e) = q ∙ ap (reportedBy row code) p ∙ reported-is cfg e row o code (D s e) in
-        λ i. accepts (is i .verdict) ((a ∙ ap (λ (y : Debounced). applied cfg frame e y s) is) i)
+        λ i. stepped (accepts (is i .verdict) (by-row is i .left)) (by-row is i .did)
 
-    pub ticks-is : (ms : ℕ) → x ≡ tickedBy row ms n → t ≡ ticks cfg ms frame e s
-    ticks-is ms q = a ∙ ap (λ (y : Debounced). applied cfg frame e y s) (q ∙ ap (tickedBy row ms) p ∙ ticked-is cfg e row o ms (D s e))
+    pub ticks-is : (ms : ℕ) → x ≡ tickedBy row ms n → stepped t did ≡ ticking cfg frame e ms s
+    ticks-is ms q = by-row (q ∙ ap (tickedBy row ms) p ∙ ticked-is cfg e row o ms (D s e))

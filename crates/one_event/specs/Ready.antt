@@ -9,12 +9,12 @@ use Rattle.manual.specs.declared.Verdict.{Verdict}
 use Rattle.manual.specs.Configuration.{Configuration, events, places, frameBytes, configOk}
 use Rattle.manual.specs.State.{State, recordWidth, opened, storedAt, D}
 use Rattle.manual.specs.WellFormed.{recordOk, DOk}
-use Rattle.manual.specs.Answers.{Outcome}
+use Rattle.manual.specs.Answers.{Outcome, alone}
 use Rattle.memory.specs.InOrder.{InOrder}
 
 -- an accepted report's verdict, and the state that it leaves, as the manual has them
 abbrev pub accepts : Verdict → State → Outcome
-accepts verdict s = record { answer = 0; verdict = verdict; value = 0; part = []; room = []; state = s }
+accepts verdict s = record { answer = 0; verdict = verdict; value = 0; part = []; beside = alone; state = s }
 
 -- the records have room for event e, and memory is in order
 pub record BlocksFit (cfg : Configuration) (records memory : List ℕ) (e : ℕ) : Type 0 where

@@ -1,6 +1,7 @@
 // Document 01, "Status byte" and "Memory": what happens to one event, in the lent blocks.
 use manual::Board;
 use manual::EventNumber;
+use manual::StoreAnswer;
 use manual::Verdict;
 ghost use mathlib.Core.Path.{_≡_};
 ghost use mathlib.Core.Bool.{cond};
@@ -11,12 +12,13 @@ ghost use lib.ListN.{length, set};
 ghost use Rattle.history.specs.History.{passed, start};
 ghost use Rattle.manual.specs.Configuration.{Configuration, events, places, frameBytes};
 ghost use Rattle.manual.specs.State.{recordWidth, lent};
-ghost use Rattle.manual.specs.OneEvent.{happens, entryLeaves, memoryTold, fails, qualifies, stops, clears};
-ghost use Rattle.manual.specs.Calls.{applied, reportDone, ticks};
+ghost use Rattle.manual.specs.Memory.{isLost};
+ghost use Rattle.manual.specs.OneEvent.{happens, entryLeaves, stops, clears};
 ghost use Rattle.debounce.specs.Rows.{answered};
 ghost use Rattle.memory.specs.InOrder.{InOrder};
-ghost use Rattle.memory.specs.Store.{MayStore, isLost};
+ghost use Rattle.memory.specs.Store.{MayStore};
 ghost use Rattle.one_event.specs.Ready.{accepts, BlocksFit, EventFits, Ready};
+ghost use Rattle.one_event.specs.Steps.{stepped, tellsMemory, failing, qualifying, applying, reporting, ticking};
 
 // "Start of a stopped cycle: for its events clears 1, sets 6."
 pub fn starts(records: &mut [u8], event: EventNumber)
@@ -89,15 +91,23 @@ pub fn clears(
     reset_number(debounce, event);
 }
 
-// Whether the answer is "not stored".
-fn is_lost(answer: memory::StoreAnswer) -> bool
-    ensures { λ r. ⌜ r ≡ isLost answer ⌝ }
+// Whether a fresh failure was "not stored".
+fn is_lost(did: StoreAnswer) -> bool
+    ensures { λ r. ⌜ r ≡ isLost did ⌝ }
 {
-    match answer {
-        memory::StoreAnswer::Stored => false,
-        memory::StoreAnswer::Displaced(_) => false,
-        memory::StoreAnswer::NotStored => true,
+    match did {
+        StoreAnswer::Untold => false,
+        StoreAnswer::Renewed => false,
+        StoreAnswer::Added => false,
+        StoreAnswer::Displaced(_) => false,
+        StoreAnswer::NotStored => true,
     }
+}
+
+// What an event's part of a call leaves beside the lent blocks: the board, and what memory did.
+pub struct Part {
+    pub board: Board,
+    pub did: StoreAnswer,
 }
 
 // "Fresh failure of e with the lent frame": memory is told. "Else not stored; overflow is set."
@@ -108,15 +118,16 @@ fn tell_memory(
     board: Board,
     event: EventNumber,
     frame: &[u8],
-) -> Board
+) -> Part
     requires { ⌜ MayStore (now cfg) (now memory) (event .0) (now frame) ⌝ }
-    ensures { λ r. ⌜ ((d : List ℤ) → lent (now (records .entry)) d (now (memory .exit)) r ≡ memoryTold (now (cfg .entry)) (now (frame .entry)) (event .0) (lent (now (records .entry)) d (now (memory .entry)) board)) ⌝ }
+    ensures { λ r. ⌜ ((d : List ℤ) → stepped (lent (now (records .entry)) d (now (memory .exit)) (r .board)) (r .did) ≡ tellsMemory (now (cfg .entry)) (now (frame .entry)) (event .0) (lent (now (records .entry)) d (now (memory .entry)) board)) ⌝ }
 {
-    let answer = memory::store(cfg, records, memory, event, frame);
+    let did = memory::store(cfg, records, memory, event, frame);
     let running = board.running;
-    Board {
-        running,
-        overflow: board.overflow | is_lost(answer),
+    let overflow = board.overflow | is_lost(did);
+    Part {
+        board: Board { running, overflow },
+        did,
     }
 }
 
@@ -128,9 +139,9 @@ pub fn fails(
     board: Board,
     event: EventNumber,
     frame: &[u8],
-) -> Board
+) -> Part
     requires { ⌜ (BlocksFit (now cfg) (now records) (now memory) (event .0)) × (length (now frame) ≡ frameBytes (now cfg)) ⌝ }
-    ensures { λ r. ⌜ ((d : List ℤ) → lent (now (records .exit)) d (now (memory .exit)) r ≡ fails (now (cfg .entry)) (now (frame .entry)) (event .0) (lent (now (records .entry)) d (now (memory .entry)) board)) ⌝ }
+    ensures { λ r. ⌜ ((d : List ℤ) → stepped (lent (now (records .exit)) d (now (memory .exit)) (r .board)) (r .did) ≡ failing (now (cfg .entry)) (now (frame .entry)) (event .0) (lent (now (records .entry)) d (now (memory .entry)) board)) ⌝ }
 {
     let limits = config::limits_of(cfg, event);
     let before = status::read_record(records, event);
@@ -139,7 +150,10 @@ pub fn fails(
     if after.fresh_failure {
         tell_memory(cfg, records, memory, board, event, frame)
     } else {
-        board
+        Part {
+            board,
+            did: StoreAnswer::Untold,
+        }
     }
 }
 
@@ -152,15 +166,21 @@ pub fn qualifies(
     event: EventNumber,
     frame: &[u8],
     verdict: Verdict,
-) -> Board
+) -> Part
     requires { ⌜ (BlocksFit (now cfg) (now records) (now memory) (event .0)) × (length (now frame) ≡ frameBytes (now cfg)) ⌝ }
-    ensures { λ r. ⌜ ((d : List ℤ) → lent (now (records .exit)) d (now (memory .exit)) r ≡ qualifies (now (cfg .entry)) (now (frame .entry)) (event .0) verdict (lent (now (records .entry)) d (now (memory .entry)) board)) ⌝ }
+    ensures { λ r. ⌜ ((d : List ℤ) → stepped (lent (now (records .exit)) d (now (memory .exit)) (r .board)) (r .did) ≡ qualifying (now (cfg .entry)) (now (frame .entry)) (event .0) verdict (lent (now (records .entry)) d (now (memory .entry)) board)) ⌝ }
 {
     match verdict {
-        Verdict::None => board,
+        Verdict::None => Part {
+            board,
+            did: StoreAnswer::Untold,
+        },
         Verdict::Passed => {
             passes(records, event);
-            board
+            Part {
+                board,
+                did: StoreAnswer::Untold,
+            }
         }
         Verdict::Failed => fails(cfg, records, memory, board, event, frame),
     }
@@ -176,19 +196,20 @@ pub fn applies(
     event: EventNumber,
     frame: &[u8],
     d: debounce::Debounced,
-) -> Board
+) -> Part
     requires { ⌜ (EventFits (now cfg) (now records) (now debounce) (now memory) (event .0)) × (length (now frame) ≡ frameBytes (now cfg)) ⌝ }
-    ensures { λ r. ⌜ lent (now (records .exit)) (now (debounce .exit)) (now (memory .exit)) r ≡ applied (now (cfg .entry)) (now (frame .entry)) (event .0) (answered d) (lent (now (records .entry)) (now (debounce .entry)) (now (memory .entry)) board) ⌝ }
+    ensures { λ r. ⌜ stepped (lent (now (records .exit)) (now (debounce .exit)) (now (memory .exit)) (r .board)) (r .did) ≡ applying (now (cfg .entry)) (now (frame .entry)) (event .0) (answered d) (lent (now (records .entry)) (now (debounce .entry)) (now (memory .entry)) board) ⌝ }
 {
     let verdict = d.verdict;
     status::write_number(debounce, event, d.number);
     qualifies(cfg, records, memory, board, event, frame, verdict)
 }
 
-// The verdict of a report, and the board after it.
+// The same of a report, with its verdict.
 pub struct Reported {
     pub verdict: Verdict,
     pub board: Board,
+    pub did: StoreAnswer,
 }
 
 // "Each accepted report gives a verdict": the new D of the event, and what the verdict does to it.
@@ -203,15 +224,18 @@ pub fn reports(
     frame: &[u8],
 ) -> Reported
     requires { ⌜ (Ready (now cfg) (lent (now records) (now debounce) (now memory) board) (event .0)) × (length (now frame) ≡ frameBytes (now cfg)) ⌝ }
-    ensures { λ r. ⌜ accepts (r .verdict) (lent (now (records .exit)) (now (debounce .exit)) (now (memory .exit)) (r .board)) ≡ reportDone (now (cfg .entry)) (event .0) code (now (frame .entry)) (lent (now (records .entry)) (now (debounce .entry)) (now (memory .entry)) board) ⌝ }
+    ensures { λ r. ⌜ stepped (accepts (r .verdict) (lent (now (records .exit)) (now (debounce .exit)) (now (memory .exit)) (r .board))) (r .did) ≡ reporting (now (cfg .entry)) (now (frame .entry)) (event .0) code (lent (now (records .entry)) (now (debounce .entry)) (now (memory .entry)) board) ⌝ }
 {
     let row = debounce::row_of(cfg, event);
     let d = debounce::report_step(row, code, status::read_number(debounce, event));
     let verdict = d.verdict;
-    let after = applies(cfg, records, debounce, memory, board, event, frame, d);
+    let part = applies(cfg, records, debounce, memory, board, event, frame, d);
+    let board_after = part.board;
+    let did = part.did;
     Reported {
         verdict,
-        board: after,
+        board: board_after,
+        did,
     }
 }
 
@@ -225,9 +249,9 @@ pub fn ticks(
     event: EventNumber,
     ms: u32,
     frame: &[u8],
-) -> Board
+) -> Part
     requires { ⌜ (Ready (now cfg) (lent (now records) (now debounce) (now memory) board) (event .0)) × ((length (now frame) ≡ frameBytes (now cfg)) × (ms ≤ 60000)) ⌝ }
-    ensures { λ r. ⌜ lent (now (records .exit)) (now (debounce .exit)) (now (memory .exit)) r ≡ ticks (now (cfg .entry)) ms (now (frame .entry)) (event .0) (lent (now (records .entry)) (now (debounce .entry)) (now (memory .entry)) board) ⌝ }
+    ensures { λ r. ⌜ stepped (lent (now (records .exit)) (now (debounce .exit)) (now (memory .exit)) (r .board)) (r .did) ≡ ticking (now (cfg .entry)) (now (frame .entry)) (event .0) ms (lent (now (records .entry)) (now (debounce .entry)) (now (memory .entry)) board) ⌝ }
 {
     let row = debounce::row_of(cfg, event);
     let d = debounce::tick_step(row, ms, status::read_number(debounce, event));

@@ -6,6 +6,7 @@ use Prim.Native.Nat.{ℕ}
 use lib.IntN.{ℤ}
 use Rattle.manual.specs.Configuration.{Configuration}
 use Rattle.manual.specs.State.{State, lent}
+use Rattle.manual.specs.Answers.{lentRoom, alone}
 use Rattle.manual.specs.Calls.{fresh, report, tick, startCycle, stopCycle, clearCode, readStatus}
 use Rattle.manual.specs.Image.{save, restore}
 use Rattle.manual.specs.Diagnostics.{requestReply}
@@ -58,61 +59,61 @@ module _ (cfg : Configuration) (records₀ : List ℕ) (debounce₀ : List ℤ) 
   module _ (records records′ : List ℕ) (debounce debounce′ : List ℤ) (memory memory′ : List ℕ) where
     module _ (r r′ : PanelAnswer) where
       pub one-fresh :
-          withAnswer records debounce memory r ≡ crosses (fresh cfg given) board
-          → withAnswer records′ debounce′ memory′ r′ ≡ crosses (fresh cfg given) board
+          withAnswer records debounce memory r ≡ crosses (fresh cfg alone given) board
+          → withAnswer records′ debounce′ memory′ r′ ≡ crosses (fresh cfg alone given) board
           → (r ≡ r′) × ((records ≡ records′) × ((debounce ≡ debounce′) × (memory ≡ memory′)))
       one-fresh p q = (one-outcome answerIn refl refl p q, same-blocks p q)
 
       pub one-tick : (ms : ℕ) (frame : List ℕ)
-          → withAnswer records debounce memory r ≡ crosses (tick cfg ms frame given) board
-          → withAnswer records′ debounce′ memory′ r′ ≡ crosses (tick cfg ms frame given) board
+          → withAnswer records debounce memory r ≡ crosses (tick cfg ms frame alone given) board
+          → withAnswer records′ debounce′ memory′ r′ ≡ crosses (tick cfg ms frame alone given) board
           → (r ≡ r′) × ((records ≡ records′) × ((debounce ≡ debounce′) × (memory ≡ memory′)))
       one-tick ms frame p q = (one-outcome answerIn refl refl p q, same-blocks p q)
 
       pub one-stop : (cycle : ℕ)
-          → withAnswer records debounce memory r ≡ crosses (stopCycle cfg cycle given) board
-          → withAnswer records′ debounce′ memory′ r′ ≡ crosses (stopCycle cfg cycle given) board
+          → withAnswer records debounce memory r ≡ crosses (stopCycle cfg cycle alone given) board
+          → withAnswer records′ debounce′ memory′ r′ ≡ crosses (stopCycle cfg cycle alone given) board
           → (r ≡ r′) × ((records ≡ records′) × ((debounce ≡ debounce′) × (memory ≡ memory′)))
       one-stop cycle p q = (one-outcome answerIn refl refl p q, same-blocks p q)
 
       pub one-clear : (code : ℕ)
-          → withAnswer records debounce memory r ≡ crosses (clearCode cfg code given) board
-          → withAnswer records′ debounce′ memory′ r′ ≡ crosses (clearCode cfg code given) board
+          → withAnswer records debounce memory r ≡ crosses (clearCode cfg code alone given) board
+          → withAnswer records′ debounce′ memory′ r′ ≡ crosses (clearCode cfg code alone given) board
           → (r ≡ r′) × ((records ≡ records′) × ((debounce ≡ debounce′) × (memory ≡ memory′)))
       one-clear code p q = (one-outcome answerIn refl refl p q, same-blocks p q)
 
       pub one-restore : (image : List ℕ)
-          → withAnswer records debounce memory r ≡ crosses (restore cfg image given) board
-          → withAnswer records′ debounce′ memory′ r′ ≡ crosses (restore cfg image given) board
+          → withAnswer records debounce memory r ≡ crosses (restore cfg image alone given) board
+          → withAnswer records′ debounce′ memory′ r′ ≡ crosses (restore cfg image alone given) board
           → (r ≡ r′) × ((records ≡ records′) × ((debounce ≡ debounce′) × (memory ≡ memory′)))
       one-restore image p q = (one-outcome answerIn refl refl p q, same-blocks p q)
 
     pub one-report : (event code : ℕ) (frame : List ℕ) (r r′ : PanelReport)
-        → withReport records debounce memory r ≡ crosses (report cfg event code frame given) board
-        → withReport records′ debounce′ memory′ r′ ≡ crosses (report cfg event code frame given) board
+        → withReport records debounce memory r ≡ crosses (report cfg event code frame alone given) board
+        → withReport records′ debounce′ memory′ r′ ≡ crosses (report cfg event code frame alone given) board
         → (r ≡ r′) × ((records ≡ records′) × ((debounce ≡ debounce′) × (memory ≡ memory′)))
     one-report event code frame r r′ p q = (one-outcome reportIn refl refl p q, same-blocks p q)
 
     -- the room too
     pub one-request : (request before room room′ : List ℕ) (r r′ : PanelRequest)
-        → withRequest records debounce memory room r ≡ crosses (requestReply cfg request before given) board
-        → withRequest records′ debounce′ memory′ room′ r′ ≡ crosses (requestReply cfg request before given) board
+        → withRequest records debounce memory room r ≡ crosses (requestReply cfg request (lentRoom before) given) board
+        → withRequest records′ debounce′ memory′ room′ r′ ≡ crosses (requestReply cfg request (lentRoom before) given) board
         → (r ≡ r′) × (((records ≡ records′) × ((debounce ≡ debounce′) × (memory ≡ memory′))) × (room ≡ room′))
     one-request request before room room′ r r′ p q = (one-outcome requestIn refl refl p q, (same-blocks p q, same-room p q))
 
   -- ---- start may write the records alone
 
   pub one-start : (cycle : ℕ) (records records′ : List ℕ) (r r′ : PanelAnswer)
-      → withAnswer records debounce₀ memory₀ r ≡ crosses (startCycle cfg cycle given) board
-      → withAnswer records′ debounce₀ memory₀ r′ ≡ crosses (startCycle cfg cycle given) board
+      → withAnswer records debounce₀ memory₀ r ≡ crosses (startCycle cfg cycle alone given) board
+      → withAnswer records′ debounce₀ memory₀ r′ ≡ crosses (startCycle cfg cycle alone given) board
       → (r ≡ r′) × (records ≡ records′)
   one-start cycle records records′ r r′ p q = (one-outcome answerIn refl refl p q, same-blocks p q .0)
 
   -- ---- calls that may write no block of the state, and hand back no board
 
   pub one-read-status : (event : ℕ) (r r′ : PanelStatus)
-      → withStatus records₀ debounce₀ memory₀ board r ≡ crossesWithoutBoard (readStatus cfg event given) board
-      → withStatus records₀ debounce₀ memory₀ board r′ ≡ crossesWithoutBoard (readStatus cfg event given) board
+      → withStatus records₀ debounce₀ memory₀ board r ≡ crossesWithoutBoard (readStatus cfg event alone given) board
+      → withStatus records₀ debounce₀ memory₀ board r′ ≡ crossesWithoutBoard (readStatus cfg event alone given) board
       → r ≡ r′
   one-read-status event r r′ p q = one-outcome statusIn refl refl p q
 
@@ -124,7 +125,7 @@ module _ (cfg : Configuration) (records₀ : List ℕ) (debounce₀ : List ℤ) 
 
   -- save writes the room
   pub one-save : (before room room′ : List ℕ) (r r′ : PanelLength)
-      → withLength records₀ debounce₀ memory₀ room board r ≡ crossesWithoutBoard (save cfg before given) board
-      → withLength records₀ debounce₀ memory₀ room′ board r′ ≡ crossesWithoutBoard (save cfg before given) board
+      → withLength records₀ debounce₀ memory₀ room board r ≡ crossesWithoutBoard (save cfg (lentRoom before) given) board
+      → withLength records₀ debounce₀ memory₀ room′ board r′ ≡ crossesWithoutBoard (save cfg (lentRoom before) given) board
       → (r ≡ r′) × (room ≡ room′)
   one-save before room room′ r r′ p q = (one-outcome lengthIn refl refl p q, same-room p q)

@@ -16,7 +16,7 @@ use Rattle.manual.specs.declared.ReportAnswer.the-variants.{Accepted}
 use Rattle.manual.specs.declared.StatusAnswer.{StatusAnswer}
 use Rattle.manual.specs.declared.StatusAnswer.the-variants.{Status}
 use Rattle.manual.specs.State.{State}
-use Rattle.manual.specs.Answers.{Answered, ofAnswer, ofReport, ofStatus, ofFrame, ofLength, leaves}
+use Rattle.manual.specs.Answers.{lentRoom, Answered, ofAnswer, ofReport, ofStatus, ofFrame, ofLength, leaves}
 use Rattle.reading.specs.Reading.{startIn, lengthIn, says}
 use Rattle.panel.specs.declared.PanelBoard.{PanelBoard}
 use Rattle.panel.specs.Panel.{boardOf, bytesOf, verdictNumber, Crossing, crosses, crossesWithoutBoard, crossesWithFrame, made}
@@ -52,7 +52,7 @@ length-verdict (LengthAnswer.Refused r) = refl
 module _ (x : Answered) (room : List ℕ) (s : State) (found : PanelBoard) {n v k : ℕ} where
   -- with the board that is handed back
   pub crossed : {back : PanelBoard} → n ≡ x .number → v ≡ verdictNumber (x .verdict) → k ≡ x .value → back ≡ cond (eqb n 0) (bytesOf (s .board)) found
-      → made n v k 0 (s .records) (s .debounce) (s .memory) room back ≡ crosses (leaves x [] room s) found
+      → made n v k 0 (s .records) (s .debounce) (s .memory) room back ≡ crosses (leaves x [] (lentRoom room) s) found
   unfolding crosses
   crossed number verdict value back =
       let board = back ∙ ap (λ (m : ℕ). cond (eqb m 0) (bytesOf (s .board)) found) number in
@@ -60,7 +60,7 @@ module _ (x : Answered) (room : List ℕ) (s : State) (found : PanelBoard) {n v 
 
   -- with none
   pub crossed-without-board : n ≡ x .number → v ≡ verdictNumber (x .verdict) → k ≡ x .value
-      → made n v k 0 (s .records) (s .debounce) (s .memory) room found ≡ crossesWithoutBoard (leaves x [] room s) found
+      → made n v k 0 (s .records) (s .debounce) (s .memory) room found ≡ crossesWithoutBoard (leaves x [] (lentRoom room) s) found
   unfolding crossesWithoutBoard
   crossed-without-board number verdict value = λ i. made (number i) (verdict i) (value i) 0 (s .records) (s .debounce) (s .memory) room found
 

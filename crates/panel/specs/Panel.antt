@@ -85,7 +85,7 @@ made number verdict value start records debounce memory room board = record {
 -- a call's outcome, with this value, this start, and this board for the caller
 abbrev pub crossing : Outcome → ℕ → ℕ → PanelBoard → Crossing
 crossing o value start board =
-    made (o .answer) (verdictNumber (o .verdict)) value start (o .state .records) (o .state .debounce) (o .state .memory) (o .room) board
+    made (o .answer) (verdictNumber (o .verdict)) value start (o .state .records) (o .state .debounce) (o .state .memory) (o .beside .room) board
 
 -- the outcome of a call that hands back a board, where these bytes were given
 unfoldable pub crosses : Outcome → PanelBoard → Crossing

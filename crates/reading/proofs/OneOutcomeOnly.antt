@@ -8,15 +8,15 @@ use Rattle.manual.specs.declared.FrameAnswer.the-variants.{At}
 use Rattle.manual.specs.declared.StatusAnswer.{StatusAnswer}
 use Rattle.manual.specs.Configuration.{Configuration}
 use Rattle.manual.specs.State.{State}
-use Rattle.manual.specs.Answers.{answered, ofStatus, ofFrame, leaves}
+use Rattle.manual.specs.Answers.{alone, answered, ofStatus, ofFrame, leaves}
 use Rattle.manual.specs.Calls.{readStatus}
 use Rattle.manual.proofs.OneOutcomeOnly.{answerAt, refused-back, one-outcome, same-status}
 use Rattle.reading.specs.Reading.{FrameRead, partOf, says, frameRead}
 
 module _ (cfg : Configuration) (event : ℕ) (s : State) where
   pub one-read-status : (r r′ : StatusAnswer)
-      → leaves (ofStatus r) [] [] s ≡ readStatus cfg event s
-      → leaves (ofStatus r′) [] [] s ≡ readStatus cfg event s
+      → leaves (ofStatus r) [] alone s ≡ readStatus cfg event alone s
+      → leaves (ofStatus r′) [] alone s ≡ readStatus cfg event alone s
       → r ≡ r′
   one-read-status r r′ p q = same-status r r′ p q
 

@@ -1,30 +1,27 @@
 -- Laws of specs/Reading.antt: a part of a block, what a passed judgement gives, and what each call answers.
 use mathlib.Core.Path.{_≡_, refl, sym, ap, _∙_}
-use mathlib.Core.Bool.{Bool, true, false, not, _||_, cond}
-use mathlib.Core.List.{List, [], _∷_, _++_}
-use mathlib.Core.Option.{some, Option·none-ne-some}
+use mathlib.Core.Bool.{true, not, cond}
+use mathlib.Core.List.{List, [], _∷_}
 use Prim.Native.Nat.{ℕ, _+_, _≤_, _<_}
 use native.Mathlib.Omega.{arith}
-use lib.Dec.{eqb, ltb}
+use lib.Dec.{eqb}
 use lib.ListN.{length, take, drop}
-use borrow.Author.Tests.{le-leb, lt-leb, ltb-true, ne-eqb, not-false}
+use borrow.Author.Tests.{le-leb, lt-leb, not-false}
 use Rattle.history.specs.Words.{anyOf}
-use Rattle.history.proofs.WordsLaws.{and-left, and-right}
 use Rattle.manual.specs.declared.FrameAnswer.{FrameAnswer}
 use Rattle.manual.specs.declared.FrameAnswer.the-variants.{At}
 use Rattle.manual.specs.declared.Place.{Place}
 use Rattle.manual.specs.declared.Refusal.{Refusal}
 use Rattle.manual.specs.declared.Refusal.the-variants.{NoEntry}
 use Rattle.manual.specs.declared.Verdict.the-variants.{None}
-use Rattle.manual.specs.Words.{firstOf}
 use Rattle.manual.specs.Configuration.{Configuration, frameBytes, configOk}
 use Rattle.manual.specs.State.{State, statusByte}
 use Rattle.manual.specs.Memory.{entriesOf, isOf, entryFor}
 use Rattle.manual.specs.WellFormed.{entries, wellFormed}
-use Rattle.manual.specs.Answers.{Outcome, refused, Rule, _if_, firstThatApplies, numberOf, answered, leaves}
+use Rattle.manual.specs.Answers.{alone, Outcome, refused, Rule, _if_, firstThatApplies, numberOf, answered, leaves}
 use Rattle.manual.specs.Calls.{frameOf, begins, noSuchEvent, readStatusRules, readStatus, readFrameRules, readFrame}
-use Rattle.manual.proofs.WordsLaws.{first-none}
-use Rattle.manual.proofs.AnswersLaws.{numbered, none-applies, goes-through, stops-with}
+use Rattle.manual.proofs.WordsLaws.{first-none, first-some}
+use Rattle.manual.proofs.AnswersLaws.{first-of-both, none-applies, goes-through, stops-with}
 use Rattle.manual.proofs.OneOutcomeOnly.{not-done}
 use Rattle.manual.proofs.ConfigurationLaws.{config-tells}
 use Rattle.manual.proofs.WellFormedLaws.{StateTells, state-tells, used-fits}
@@ -46,32 +43,6 @@ module _ (start size : ℕ) (m : List ℕ) where
   unfolding partAt
   part-beyond h = rw (lt-leb (start + size) (length m) h)
 
--- ---- rules behind others
-
--- the first of some rules and then of more
-pub first-of-more : (a b : List Rule) → numbered a ≡ true → firstThatApplies (a ++ b) ≡ cond (eqb (firstThatApplies a) 0) (firstThatApplies b) (firstThatApplies a)
-unfolding firstThatApplies
-first-of-more [] b n = refl
-first-of-more (r ∷ rs) b n = go (r .applies) (first-of-more rs b (and-right (ltb 0 (r .number)) (numbered rs) n))
-  where
-    above : eqb (r .number) 0 ≡ false
-    above = ne-eqb _ _ (λ (z : r .number ≡ 0). let h = ltb-true 0 (r .number) (and-left (ltb 0 (r .number)) (numbered rs) n) in let w : ⊥ = omega arith in w)
-
-    go : (t : Bool) → firstThatApplies (rs ++ b) ≡ cond (eqb (firstThatApplies rs) 0) (firstThatApplies b) (firstThatApplies rs)
-        → cond t (r .number) (firstThatApplies (rs ++ b)) ≡ cond (eqb (cond t (r .number) (firstThatApplies rs)) 0) (firstThatApplies b) (cond t (r .number) (firstThatApplies rs))
-    go true ih = rw above
-    go false ih = ih
-
--- what is found passes
-pub first-some : {A : Type 0} (p : A → Bool) (xs : List A) (v : A) → firstOf p xs ≡ some v → anyOf p xs ≡ true
-unfolding firstOf
-first-some p [] v e = absurd (Option·none-ne-some v e)
-first-some {A} p (x ∷ xs) v e = go (p x) e (λ t. first-some p xs v t)
-  where
-    go : (b : Bool) → cond b (some x) (firstOf p xs) ≡ some v → (firstOf p xs ≡ some v → anyOf p xs ≡ true) → b || anyOf p xs ≡ true
-    go true t ih = refl
-    go false t ih = ih t
-
 -- ---- the answer of a search
 
 module _ (F e : ℕ) (m : List ℕ) {F′ : ℕ} (f : F′ ≡ F) where
@@ -92,20 +63,20 @@ module _ (F e : ℕ) (m : List ℕ) {F′ : ℕ} (f : F′ ≡ F) where
 abbrev ten : Configuration → State → ℕ → List Rule
 ten cfg s e = (10 if not (anyOf (isOf e) (entries cfg s))) ∷ []
 
-then-ten : (cfg : Configuration) (s : State) (e : ℕ) → let first = firstThatApplies (begins cfg s (four (noSuchEvent cfg e))) in
+then-ten : (cfg : Configuration) (s : State) (e : ℕ) → let first = firstThatApplies (begins cfg s true (four (noSuchEvent cfg e))) in
     firstThatApplies (readFrameRules cfg e s) ≡ cond (eqb first 0) (firstThatApplies (ten cfg s e)) first
 unfolding readFrameRules
-then-ten cfg s e = first-of-more (begins cfg s (four (noSuchEvent cfg e))) (ten cfg s e) refl
+then-ten cfg s e = first-of-both (begins cfg s true (four (noSuchEvent cfg e))) (ten cfg s e) refl
 
 -- a refused read says no place
-refused-is : (r : Refusal) (s : State) (o : Outcome) (start size : ℕ) → refused (numberOf r) [] s ≡ o → says (FrameAnswer.Refused r) s ≡ placed o start size
+refused-is : (r : Refusal) (s : State) (o : Outcome) (start size : ℕ) → refused (numberOf r) alone s ≡ o → says (FrameAnswer.Refused r) s ≡ placed o start size
 refused-is r s o start size q =
-    let here : says (FrameAnswer.Refused r) s ≡ placed (refused (numberOf r) [] s) start size = rw (not-done r) in
+    let here : says (FrameAnswer.Refused r) s ≡ placed (refused (numberOf r) alone s) start size = rw (not-done r) in
     here ∙ ap (λ (o : Outcome). placed o start size) q
 
 -- ---- where 2, 3 and 4 do not apply
 
-module _ (cfg : Configuration) (s : State) (e : ℕ) (z : firstThatApplies (begins cfg s (four (noSuchEvent cfg e))) ≡ 0) where
+module _ (cfg : Configuration) (s : State) (e : ℕ) (z : firstThatApplies (begins cfg s true (four (noSuchEvent cfg e))) ≡ 0) where
   tells : StateTells cfg s
   tells = state-tells cfg s (not-false (wellFormed cfg s) (none-applies _ z refl 1))
 
@@ -116,16 +87,16 @@ module _ (cfg : Configuration) (s : State) (e : ℕ) (z : firstThatApplies (begi
       let few = tells .few in
       record { frame-most = t .F-most; count-most = omega arith; within = used-fits cfg s tells }
 
-  pub status-is : {byte : ℕ} → byte ≡ statusByte s e → leaves (answered 0 None byte) [] [] s ≡ readStatus cfg e s
+  pub status-is : {byte : ℕ} → byte ≡ statusByte s e → leaves (answered 0 None byte) [] alone s ≡ readStatus cfg e alone s
   unfolding readStatus readStatusRules
-  status-is q = ap (λ (b : ℕ). leaves (answered 0 None b) [] [] s) q ∙ sym (goes-through _ [] s _ z)
+  status-is q = ap (λ (b : ℕ). leaves (answered 0 None b) [] alone s) q ∙ sym (goes-through _ alone s _ z)
 
   only-ten : firstThatApplies (readFrameRules cfg e s) ≡ firstThatApplies (ten cfg s e)
   only-ten = then-ten cfg s e ∙ rw z
 
   -- the event has an entry
   frame-there : (p : Place) → placeOf e (entries cfg s) ≡ Find.At p
-      → leaves (answered 0 None 0) (partAt (frameAt (frameBytes cfg) p) (frameBytes cfg) (s .memory)) [] s ≡ readFrame cfg e s
+      → leaves (answered 0 None 0) (partAt (frameAt (frameBytes cfg) p) (frameBytes cfg) (s .memory)) alone s ≡ readFrame cfg e alone s
   unfolding readFrame firstThatApplies
   frame-there p q =
       let own = found (isOf e) (entries cfg s) p q in
@@ -134,30 +105,30 @@ module _ (cfg : Configuration) (s : State) (e : ℕ) (z : firstThatApplies (begi
       sym (part-within _ _ _ (omega (arith, entry-within (frameBytes cfg) (p .0) (s .memory) fits)))
       ∙ sym (frame-is-at (frameBytes cfg) (s .memory) (p .0) (fits .below))
       ∙ ap frameOf (sym (own .first)) in
-      ap (λ (l : List ℕ). leaves (answered 0 None 0) l [] s) part
-      ∙ sym (goes-through _ [] s _ (only-ten ∙ rw (first-some (isOf e) (entries cfg s) _ (own .first))))
+      ap (λ (l : List ℕ). leaves (answered 0 None 0) l alone s) part
+      ∙ sym (goes-through _ alone s _ (only-ten ∙ rw (first-some (isOf e) (entries cfg s) _ (own .first))))
 
   -- it has none
-  frame-nowhere : placeOf e (entries cfg s) ≡ Nothing → refused 10 [] s ≡ readFrame cfg e s
+  frame-nowhere : placeOf e (entries cfg s) ≡ Nothing → refused 10 alone s ≡ readFrame cfg e alone s
   unfolding readFrame firstThatApplies
-  frame-nowhere q = stops-with _ [] s _ NoEntry (sym (only-ten ∙ rw (first-none (isOf e) (entries cfg s) (found-nothing (isOf e) (entries cfg s) q))))
+  frame-nowhere q = stops-with _ alone s _ NoEntry (sym (only-ten ∙ rw (first-none (isOf e) (entries cfg s) (found-nothing (isOf e) (entries cfg s) q))))
 
   pub frame-is : says (entryAnswer (frameBytes cfg) (placeOf e (entries cfg s))) s ≡ frameRead cfg e s
   unfolding frameRead
   frame-is = go (placeOf e (entries cfg s)) refl
     where
       go : (f : Find) → placeOf e (entries cfg s) ≡ f
-          → says (entryAnswer (frameBytes cfg) f) s ≡ placed (readFrame cfg e s) (frameStart (frameBytes cfg) (placeOf e (entries cfg s))) (frameBytes cfg)
+          → says (entryAnswer (frameBytes cfg) f) s ≡ placed (readFrame cfg e alone s) (frameStart (frameBytes cfg) (placeOf e (entries cfg s))) (frameBytes cfg)
       go (Find.At p) q = λ i. placed (frame-there p q i) (frameStart (frameBytes cfg) (sym q i)) (frameBytes cfg)
       go Nothing q = refused-is NoEntry s _ _ _ (frame-nowhere q)
 
 -- ---- where 2, 3 or 4 applies
 
-module _ (cfg : Configuration) (s : State) (e : ℕ) (r : Refusal) (q : numberOf r ≡ firstThatApplies (begins cfg s (four (noSuchEvent cfg e)))) where
-  pub status-refused : refused (numberOf r) [] s ≡ readStatus cfg e s
+module _ (cfg : Configuration) (s : State) (e : ℕ) (r : Refusal) (q : numberOf r ≡ firstThatApplies (begins cfg s true (four (noSuchEvent cfg e)))) where
+  pub status-refused : refused (numberOf r) alone s ≡ readStatus cfg e alone s
   unfolding readStatus readStatusRules
-  status-refused = stops-with _ [] s _ r q
+  status-refused = stops-with _ alone s _ r q
 
   pub frame-refused : says (FrameAnswer.Refused r) s ≡ frameRead cfg e s
   unfolding frameRead readFrame
-  frame-refused = refused-is r s _ _ _ (stops-with _ [] s _ r (sym (then-ten cfg s e ∙ rw (← q, not-done r))))
+  frame-refused = refused-is r s _ _ _ (stops-with _ alone s _ r (sym (then-ten cfg s e ∙ rw (← q, not-done r))))

@@ -10,7 +10,7 @@ use Rattle.manual.specs.declared.Refusal.the-variants.{NoEntry}
 use Rattle.manual.specs.Configuration.{Configuration, frameBytes}
 use Rattle.manual.specs.State.{State}
 use Rattle.manual.specs.WellFormed.{entries}
-use Rattle.manual.specs.Answers.{Outcome, Rule, _if_, ofFrame, leaves}
+use Rattle.manual.specs.Answers.{alone, Outcome, Rule, _if_, ofFrame, leaves}
 use Rattle.manual.specs.Calls.{readFrame}
 use Rattle.memory.specs.declared.Find.{Find}
 use Rattle.memory.specs.declared.Find.the-variants.{Nothing}
@@ -48,7 +48,7 @@ pub record FrameRead : Type 0 where
 
 -- what an answer says of a state that is left as found
 abbrev pub says : FrameAnswer → State → FrameRead
-says a s = record { outcome = leaves (ofFrame a) (partOf a (s .memory)) [] s; start = startIn a; length = lengthIn a }
+says a s = record { outcome = leaves (ofFrame a) (partOf a (s .memory)) alone s; start = startIn a; length = lengthIn a }
 
 abbrev pub frameStart : ℕ → Find → ℕ
 frameStart F (Find.At p) = frameAt F p
@@ -65,4 +65,4 @@ placed o start size = record { outcome = o; start = cond (eqb (o .answer) 0) sta
 
 -- "The stored frame is read as a part of the caller's own memory block, no copy.": the F bytes that stand in the event's own entry
 unfoldable pub frameRead : Configuration → ℕ → State → FrameRead
-frameRead cfg e s = placed (readFrame cfg e s) (frameStart (frameBytes cfg) (placeOf e (entries cfg s))) (frameBytes cfg)
+frameRead cfg e s = placed (readFrame cfg e alone s) (frameStart (frameBytes cfg) (placeOf e (entries cfg s))) (frameBytes cfg)

@@ -7,12 +7,13 @@ use manual::Refusal;
 use manual::StatusAnswer;
 use memory::Find;
 use state::Check;
+ghost use mathlib.Core.Bool.{true};
 ghost use mathlib.Core.Path.{_≡_};
 ghost use mathlib.Core.List.{[]};
 ghost use Rattle.manual.specs.Configuration.{frameBytes};
 ghost use Rattle.manual.specs.State.{lent};
 ghost use Rattle.manual.specs.Memory.{entriesOf};
-ghost use Rattle.manual.specs.Answers.{firstThatApplies, ofStatus, leaves};
+ghost use Rattle.manual.specs.Answers.{alone, firstThatApplies, ofStatus, leaves};
 ghost use Rattle.manual.specs.Calls.{begins, noSuchEvent, readStatus};
 ghost use Rattle.state.specs.Checks.{checkNumber};
 ghost use Rattle.memory.specs.Fits.{EntriesFit};
@@ -40,9 +41,9 @@ fn judge(
     board: Board,
     event: EventNumber,
 ) -> Check
-    ensures { λ r. ⌜ checkNumber r ≡ firstThatApplies (begins (now (cfg .entry)) (lent (now (records .entry)) (now (debounce .entry)) (now (memory .entry)) board) (four (noSuchEvent (now (cfg .entry)) (event .0)))) ⌝ }
+    ensures { λ r. ⌜ checkNumber r ≡ firstThatApplies (begins (now (cfg .entry)) (lent (now (records .entry)) (now (debounce .entry)) (now (memory .entry)) board) true (four (noSuchEvent (now (cfg .entry)) (event .0)))) ⌝ }
 {
-    match state::begin(cfg, records, debounce, memory, board) {
+    match state::begin(cfg, records, debounce, memory, board, true) {
         Check::Go => four(config::events(cfg) <= event.0),
         Check::Stop(refusal) => Check::Stop(refusal),
     }
@@ -59,7 +60,7 @@ pub fn read_status(
     board: Board,
     event: EventNumber,
 ) -> StatusAnswer
-    ensures { λ r. ⌜ leaves (ofStatus r) [] [] (lent (now (records .entry)) (now (debounce .entry)) (now (memory .entry)) board) ≡ readStatus (now (cfg .entry)) (event .0) (lent (now (records .entry)) (now (debounce .entry)) (now (memory .entry)) board) ⌝ }
+    ensures { λ r. ⌜ leaves (ofStatus r) [] alone (lent (now (records .entry)) (now (debounce .entry)) (now (memory .entry)) board) ≡ readStatus (now (cfg .entry)) (event .0) alone (lent (now (records .entry)) (now (debounce .entry)) (now (memory .entry)) board) ⌝ }
 {
     match judge(cfg, records, debounce, memory, board, event) {
         Check::Go => StatusAnswer::Status(status::status_of(records, event).0),

@@ -13,7 +13,7 @@ use Rattle.manual.specs.declared.Board.{Board}
 use Rattle.manual.specs.Configuration.{Configuration, events, places, frameBytes}
 use Rattle.manual.specs.State.{State, lent, recordWidth}
 use Rattle.manual.specs.Memory.{entryWidth, memoryLength}
-use Rattle.manual.specs.Answers.{Outcome, Answered, leaves}
+use Rattle.manual.specs.Answers.{alone, Outcome, Answered, leaves}
 use Rattle.manual.specs.Sequences.{outcome}
 use Rattle.manual.proofs.ConfigurationLaws.{config-tells}
 use Rattle.writing.specs.Writing.{Written, written, filled}
@@ -28,17 +28,17 @@ use Rattle.replay_step.specs.Asked.{askedAt}
 use Rattle.replay_step.specs.Turn.{Made, made, madeBy, callIs, Turned, turned, withLine, zeroFrame, lineAfter, lined, turnBy, turn, Buffers}
 
 pub made-by : {answer : ℕ} (a : Answered) {records : List ℕ} {debounce : List ℤ} {memory : List ℕ} {b b′ : Board} {o : Outcome} → answer ≡ a .number → b ≡ b′
-    → leaves a [] [] (lent records debounce memory b′) ≡ o → made answer (lent records debounce memory b) ≡ madeBy o
+    → leaves a [] alone (lent records debounce memory b′) ≡ o → made answer (lent records debounce memory b) ≡ madeBy o
 made-by a {records} {debounce} {memory} p q e = (λ i. made (p i) (lent records debounce memory (q i))) ∙ ap madeBy e
 
 module _ (cfg : Configuration) (call : Call) (next : Cursor) (buffer : List ℕ) (s : State) where
   pub line-made : {frame : List ℕ} {answer n size : ℕ} {buffer′ : List ℕ} {s′ : State} → frame ≡ zeroFrame cfg → n ≡ events cfg
-      → made answer s′ ≡ madeBy (outcome cfg (callIs frame call) s) → written size buffer′ ≡ filled (line answer (statusBytes n (s′ .records))) buffer
+      → made answer s′ ≡ madeBy (outcome cfg (callIs frame call) alone s) → written size buffer′ ≡ filled (line answer (statusBytes n (s′ .records))) buffer
       → turned (Line size next) buffer′ s′ ≡ turnBy cfg buffer s (Makes call next)
   unfolding lined
   line-made {answer = answer} {s′ = s′} f p m w =
       ap (λ (x : Written). withLine next x s′) (w ∙ ap (λ (k : ℕ). filled (line answer (statusBytes k (s′ .records))) buffer) p)
-      ∙ ap (lined cfg next buffer) (m ∙ ap (λ (l : List ℕ). madeBy (outcome cfg (callIs l call) s)) f)
+      ∙ ap (lined cfg next buffer) (m ∙ ap (λ (l : List ℕ). madeBy (outcome cfg (callIs l call) alone s)) f)
 
 -- the front of 32 zeros
 pub zeros-front : (k : ℕ) (n : ℕ) {f : ℕ} → f ≡ n → n ≤ k → take {A = ℕ} f (replicate k 0) ≡ replicate n 0
@@ -68,7 +68,7 @@ module _ (cfg : Configuration) (buffer : List ℕ) (s : State) where
       le-leb (length l) (length (l ++ drop (length l) buffer)) (omega arith)
 
   asked-fits : (a : Asked) → fits (turnBy cfg buffer s a) ≡ true
-  asked-fits (Makes call next) = lined-fits next (madeBy (outcome cfg (callIs (zeroFrame cfg) call) s))
+  asked-fits (Makes call next) = lined-fits next (madeBy (outcome cfg (callIs (zeroFrame cfg) call) alone s))
   asked-fits Nothing = refl
   asked-fits Asked.Unreadable = refl
 

@@ -7,7 +7,7 @@ use lib.IntN.{ℤ}
 use lib.ListN.{length, replicate}
 use Rattle.manual.specs.Configuration.{Configuration, events, frameBytes, configOk}
 use Rattle.manual.specs.State.{State, recordWidth}
-use Rattle.manual.specs.Answers.{Outcome}
+use Rattle.manual.specs.Answers.{alone, Outcome}
 use Rattle.manual.specs.Sequences as sequences
 use Rattle.manual.specs.Sequences.{outcome}
 use Rattle.writing.specs.Writing.{Written, filled}
@@ -66,7 +66,7 @@ module _ (cfg : Configuration) where
 
   -- "At anything else unreadable, incomplete, or an argument with a minus: that line and stop."
   abbrev pub turnBy : List ℕ → State → Asked → Turned
-  turnBy buffer s (Makes call next) = lined next buffer (madeBy (outcome cfg (callIs zeroFrame call) s))
+  turnBy buffer s (Makes call next) = lined next buffer (madeBy (outcome cfg (callIs zeroFrame call) alone s))
   turnBy buffer s Nothing = turned End buffer s
   turnBy buffer s Asked.Unreadable = turned BadInput buffer s
 

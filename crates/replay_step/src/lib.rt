@@ -12,7 +12,7 @@ ghost use lib.IntN.{pos};
 ghost use lib.ListN.{length, take};
 ghost use Rattle.manual.specs.Words.{between, natOf};
 ghost use Rattle.manual.specs.State.{lent};
-ghost use Rattle.manual.specs.Answers.{ofAnswer, ofReport};
+ghost use Rattle.manual.specs.Answers.{alone, ofAnswer, ofReport};
 ghost use Rattle.manual.specs.Sequences.{outcome};
 ghost use Rattle.transcript.specs.Text.{nextRead};
 ghost use Rattle.replay_step.specs.Asked.{argumentOf, argumentAt, reportAsked, callAsked, callWith, askedAt};
@@ -294,7 +294,7 @@ fn make(
     ensures { λ r.
         ⌜
         made (r .answer) (lent (now (records .exit)) (now (debounce .exit)) (now (memory .exit)) (r .board))
-        ≡ madeBy (outcome (now (cfg .entry)) (callIs (now (frame .entry)) call) (lent (now (records .entry)) (now (debounce .entry)) (now (memory .entry)) board))
+        ≡ madeBy (outcome (now (cfg .entry)) (callIs (now (frame .entry)) call) alone (lent (now (records .entry)) (now (debounce .entry)) (now (memory .entry)) board))
         ⌝ }
 {
     match call {

@@ -7,19 +7,19 @@ use Rattle.manual.specs.declared.ReportReturned.{ReportReturned}
 use Rattle.manual.specs.declared.Returned.{Returned}
 use Rattle.manual.specs.Configuration.{Configuration}
 use Rattle.manual.specs.State.{State, lent}
-use Rattle.manual.specs.Answers.{ofAnswer, ofReport, leaves}
+use Rattle.manual.specs.Answers.{alone, ofAnswer, ofReport, leaves}
 use Rattle.manual.specs.Calls.{report, tick}
 use Rattle.manual.proofs.OneOutcomeOnly.{same-report, same-board, same-returned, same-blocks}
 
 module _ (cfg : Configuration) (frame : List ℕ) (s : State) (records records′ : List ℕ) (debounce debounce′ : List ℤ) (memory memory′ : List ℕ) where
   pub one-report : (e code : ℕ) (r r′ : ReportReturned)
-      → leaves (ofReport (r .answer)) [] [] (lent records debounce memory (r .board)) ≡ report cfg e code frame s
-      → leaves (ofReport (r′ .answer)) [] [] (lent records′ debounce′ memory′ (r′ .board)) ≡ report cfg e code frame s
+      → leaves (ofReport (r .answer)) [] alone (lent records debounce memory (r .board)) ≡ report cfg e code frame alone s
+      → leaves (ofReport (r′ .answer)) [] alone (lent records′ debounce′ memory′ (r′ .board)) ≡ report cfg e code frame alone s
       → (r ≡ r′) × ((records ≡ records′) × ((debounce ≡ debounce′) × (memory ≡ memory′)))
   one-report e code r r′ p q = (λ i. record { answer = same-report (r .answer) (r′ .answer) p q i; board = same-board p q i }, same-blocks p q)
 
   pub one-tick : (ms : ℕ) (r r′ : Returned)
-      → leaves (ofAnswer (r .answer)) [] [] (lent records debounce memory (r .board)) ≡ tick cfg ms frame s
-      → leaves (ofAnswer (r′ .answer)) [] [] (lent records′ debounce′ memory′ (r′ .board)) ≡ tick cfg ms frame s
+      → leaves (ofAnswer (r .answer)) [] alone (lent records debounce memory (r .board)) ≡ tick cfg ms frame alone s
+      → leaves (ofAnswer (r′ .answer)) [] alone (lent records′ debounce′ memory′ (r′ .board)) ≡ tick cfg ms frame alone s
       → (r ≡ r′) × ((records ≡ records′) × ((debounce ≡ debounce′) × (memory ≡ memory′)))
   one-tick ms r r′ p q = (same-returned r r′ p q, same-blocks p q)

@@ -16,7 +16,7 @@ ghost use lib.IntN.{ℤ};
 ghost use lib.ListN.{length};
 ghost use Rattle.manual.specs.Configuration.{frameBytes, isInternal, configOk};
 ghost use Rattle.manual.specs.State.{lent};
-ghost use Rattle.manual.specs.Answers.{refused, firstThatApplies, numberOf, ofAnswer, ofReport, leaves};
+ghost use Rattle.manual.specs.Answers.{alone, refused, firstThatApplies, numberOf, ofAnswer, ofReport, leaves};
 ghost use Rattle.manual.specs.OneEvent.{forThose};
 ghost use Rattle.manual.specs.Calls.{wrongFrame, cycleRuns, reportRules, reportDone, report, tickRules, timeRuns, ticks, tick};
 ghost use Rattle.state.specs.Checks.{checkNumber};
@@ -101,7 +101,7 @@ fn judge_report(
 ) -> Check
     ensures { λ r. ⌜ checkNumber r ≡ firstThatApplies (reportRules (now (cfg .entry)) (event .0) code (now (frame .entry)) (lent (now (records .entry)) (now (debounce .entry)) (now (memory .entry)) board)) ⌝ }
 {
-    match state::begin(cfg, records, debounce, memory, board) {
+    match state::begin(cfg, records, debounce, memory, board, true) {
         Check::Go => report_tests(cfg, board, event, code, frame),
         Check::Stop(r) => Check::Stop(r),
     }
@@ -119,7 +119,7 @@ fn accept_report(
     frame: &[u8],
 ) -> ReportReturned
     requires { ⌜ (Ready (now cfg) (lent (now records) (now debounce) (now memory) board) (event .0)) × (length (now frame) ≡ frameBytes (now cfg)) ⌝ }
-    ensures { λ r. ⌜ leaves (ofReport (r .answer)) [] [] (lent (now (records .exit)) (now (debounce .exit)) (now (memory .exit)) (r .board)) ≡ reportDone (now (cfg .entry)) (event .0) code (now (frame .entry)) (lent (now (records .entry)) (now (debounce .entry)) (now (memory .entry)) board) ⌝ }
+    ensures { λ r. ⌜ leaves (ofReport (r .answer)) [] alone (lent (now (records .exit)) (now (debounce .exit)) (now (memory .exit)) (r .board)) ≡ reportDone (now (cfg .entry)) (event .0) code (now (frame .entry)) alone (lent (now (records .entry)) (now (debounce .entry)) (now (memory .entry)) board) ⌝ }
 {
     let after = one_event::reports(cfg, records, debounce, memory, board, event, code, frame);
     let verdict = after.verdict;
@@ -132,7 +132,7 @@ fn accept_report(
 
 // "A refusal changes nothing lent and hands back the board it was given; …, a verdict none."
 fn refuse_report(refusal: Refusal, board: Board) -> ReportReturned
-    ensures { λ r. ⌜ ((records : List ℕ) (debounce : List ℤ) (memory : List ℕ) → leaves (ofReport (r .answer)) [] [] (lent records debounce memory (r .board)) ≡ refused (numberOf refusal) [] (lent records debounce memory board)) ⌝ }
+    ensures { λ r. ⌜ ((records : List ℕ) (debounce : List ℤ) (memory : List ℕ) → leaves (ofReport (r .answer)) [] alone (lent records debounce memory (r .board)) ≡ refused (numberOf refusal) alone (lent records debounce memory board)) ⌝ }
 {
     let answer = ReportAnswer::Refused(refusal);
     ReportReturned { answer, board }
@@ -150,7 +150,7 @@ pub fn report(
     code: u32,
     frame: &[u8],
 ) -> ReportReturned
-    ensures { λ r. ⌜ leaves (ofReport (r .answer)) [] [] (lent (now (records .exit)) (now (debounce .exit)) (now (memory .exit)) (r .board)) ≡ report (now (cfg .entry)) (event .0) code (now (frame .entry)) (lent (now (records .entry)) (now (debounce .entry)) (now (memory .entry)) board) ⌝ }
+    ensures { λ r. ⌜ leaves (ofReport (r .answer)) [] alone (lent (now (records .exit)) (now (debounce .exit)) (now (memory .exit)) (r .board)) ≡ report (now (cfg .entry)) (event .0) code (now (frame .entry)) alone (lent (now (records .entry)) (now (debounce .entry)) (now (memory .entry)) board) ⌝ }
 {
     match judge_report(cfg, records, debounce, memory, board, event, code, frame) {
         Check::Go => accept_report(cfg, records, debounce, memory, board, event, code, frame),
@@ -187,7 +187,7 @@ fn judge_tick(
 ) -> Check
     ensures { λ r. ⌜ checkNumber r ≡ firstThatApplies (tickRules (now (cfg .entry)) ms (now (frame .entry)) (lent (now (records .entry)) (now (debounce .entry)) (now (memory .entry)) board)) ⌝ }
 {
-    match state::begin(cfg, records, debounce, memory, board) {
+    match state::begin(cfg, records, debounce, memory, board, true) {
         Check::Go => tick_tests(cfg, ms, frame),
         Check::Stop(r) => Check::Stop(r),
     }
@@ -217,7 +217,8 @@ fn tick_event(
     ensures { λ r. ⌜ lent (now (records .exit)) (now (debounce .exit)) (now (memory .exit)) r ≡ cond (timeRuns (now (cfg .entry)) «at_start» (event .0)) (ticks (now (cfg .entry)) ms (now (frame .entry)) (event .0) (lent (now (records .entry)) (now (debounce .entry)) (now (memory .entry)) board)) (lent (now (records .entry)) (now (debounce .entry)) (now (memory .entry)) board) ⌝ }
 {
     if time_runs(cfg, at_start, event) {
-        one_event::ticks(cfg, records, debounce, memory, board, event, ms, frame)
+        let part = one_event::ticks(cfg, records, debounce, memory, board, event, ms, frame);
+        part.board
     } else {
         board
     }
@@ -256,7 +257,7 @@ fn tick_events(
 
 // "A refusal changes nothing lent and hands back the board it was given"
 fn refuse_tick(refusal: Refusal, board: Board) -> Returned
-    ensures { λ r. ⌜ ((records : List ℕ) (debounce : List ℤ) (memory : List ℕ) → leaves (ofAnswer (r .answer)) [] [] (lent records debounce memory (r .board)) ≡ refused (numberOf refusal) [] (lent records debounce memory board)) ⌝ }
+    ensures { λ r. ⌜ ((records : List ℕ) (debounce : List ℤ) (memory : List ℕ) → leaves (ofAnswer (r .answer)) [] alone (lent records debounce memory (r .board)) ≡ refused (numberOf refusal) alone (lent records debounce memory board)) ⌝ }
 {
     let answer = Answer::Refused(refusal);
     Returned { answer, board }
@@ -273,7 +274,7 @@ pub fn tick(
     ms: u32,
     frame: &[u8],
 ) -> Returned
-    ensures { λ r. ⌜ leaves (ofAnswer (r .answer)) [] [] (lent (now (records .exit)) (now (debounce .exit)) (now (memory .exit)) (r .board)) ≡ tick (now (cfg .entry)) ms (now (frame .entry)) (lent (now (records .entry)) (now (debounce .entry)) (now (memory .entry)) board) ⌝ }
+    ensures { λ r. ⌜ leaves (ofAnswer (r .answer)) [] alone (lent (now (records .exit)) (now (debounce .exit)) (now (memory .exit)) (r .board)) ≡ tick (now (cfg .entry)) ms (now (frame .entry)) alone (lent (now (records .entry)) (now (debounce .entry)) (now (memory .entry)) board) ⌝ }
 {
     match judge_tick(cfg, records, debounce, memory, board, ms, frame) {
         Check::Go => {

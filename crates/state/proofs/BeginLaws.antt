@@ -20,11 +20,11 @@ abbrev head : Bool → Bool → ℕ
 head a b = firstThatApplies (twoThree a b [])
 
 -- 3 need not be judged where 2 applies
-pub judged-in-turn : {a p : Bool} (b q : Bool) → a ≡ p → b ≡ a && q → firstThatApplies (twoThree a b []) ≡ firstThatApplies (twoThree p q [])
+pub judged-in-turn : {a p : Bool} (fits b q : Bool) → a ≡ p → b ≡ a && q → head a (fits && b) ≡ head p (fits && q)
 unfolding firstThatApplies
-judged-in-turn {a} {p} b q e f = ap (λ (x : Bool). firstThatApplies (twoThree a x [])) f ∙ go a ∙ ap (λ (x : Bool). firstThatApplies (twoThree x q [])) e
+judged-in-turn {a} fits b q e f = ap (λ (x : Bool). head a (fits && x)) f ∙ go a ∙ ap (λ (x : Bool). head x (fits && q)) e
   where
-    go : (a : Bool) → firstThatApplies (twoThree a (a && q) []) ≡ firstThatApplies (twoThree a q [])
+    go : (a : Bool) → head a (fits && (a && q)) ≡ head a (fits && q)
     go true = refl
     go false = refl
 
@@ -51,24 +51,24 @@ stops false b rules r e = sym e
 
 -- ---- a call's judge is the beginning, then its own tests
 
-module _ (cfg : Configuration) (s : State) where
+module _ (cfg : Configuration) (s : State) (fits : Bool) where
   -- what Go gives
-  pub begun : firstThatApplies (begins cfg s []) ≡ 0 → (configOk cfg ≡ true) × (wellFormed cfg s ≡ true)
-  begun e = both-hold (configOk cfg) (wellFormed cfg s) e
+  pub begun : firstThatApplies (begins cfg s fits []) ≡ 0 → (configOk cfg ≡ true) × (fits && wellFormed cfg s ≡ true)
+  begun e = both-hold (configOk cfg) (fits && wellFormed cfg s) e
 
-  pub after-go : (rules : List Rule) → firstThatApplies (begins cfg s []) ≡ 0 → firstThatApplies (begins cfg s rules) ≡ firstThatApplies rules
-  after-go rules e = goes-on (configOk cfg) (wellFormed cfg s) rules e
+  pub after-go : (rules : List Rule) → firstThatApplies (begins cfg s fits []) ≡ 0 → firstThatApplies (begins cfg s fits rules) ≡ firstThatApplies rules
+  after-go rules e = goes-on (configOk cfg) (fits && wellFormed cfg s) rules e
 
   -- what Stop gives
-  pub after-stop : (rules : List Rule) (r : Refusal) → numberOf r ≡ firstThatApplies (begins cfg s []) → firstThatApplies (begins cfg s rules) ≡ numberOf r
-  after-stop rules r e = stops (configOk cfg) (wellFormed cfg s) rules r e
+  pub after-stop : (rules : List Rule) (r : Refusal) → numberOf r ≡ firstThatApplies (begins cfg s fits []) → firstThatApplies (begins cfg s fits rules) ≡ numberOf r
+  after-stop rules r e = stops (configOk cfg) (fits && wellFormed cfg s) rules r e
 
   -- the same for restore and for making a fresh state
-  pub begun-with-lengths : firstThatApplies (beginsWithLengths cfg s []) ≡ 0 → (configOk cfg ≡ true) × (lengthsFit cfg s ≡ true)
-  begun-with-lengths e = both-hold (configOk cfg) (lengthsFit cfg s) e
+  pub begun-with-lengths : firstThatApplies (beginsWithLengths cfg s fits []) ≡ 0 → (configOk cfg ≡ true) × (fits && lengthsFit cfg s ≡ true)
+  begun-with-lengths e = both-hold (configOk cfg) (fits && lengthsFit cfg s) e
 
-  pub after-lengths-go : (rules : List Rule) → firstThatApplies (beginsWithLengths cfg s []) ≡ 0 → firstThatApplies (beginsWithLengths cfg s rules) ≡ firstThatApplies rules
-  after-lengths-go rules e = goes-on (configOk cfg) (lengthsFit cfg s) rules e
+  pub after-lengths-go : (rules : List Rule) → firstThatApplies (beginsWithLengths cfg s fits []) ≡ 0 → firstThatApplies (beginsWithLengths cfg s fits rules) ≡ firstThatApplies rules
+  after-lengths-go rules e = goes-on (configOk cfg) (fits && lengthsFit cfg s) rules e
 
-  pub after-lengths-stop : (rules : List Rule) (r : Refusal) → numberOf r ≡ firstThatApplies (beginsWithLengths cfg s []) → firstThatApplies (beginsWithLengths cfg s rules) ≡ numberOf r
-  after-lengths-stop rules r e = stops (configOk cfg) (lengthsFit cfg s) rules r e
+  pub after-lengths-stop : (rules : List Rule) (r : Refusal) → numberOf r ≡ firstThatApplies (beginsWithLengths cfg s fits []) → firstThatApplies (beginsWithLengths cfg s fits rules) ≡ numberOf r
+  after-lengths-stop rules r e = stops (configOk cfg) (fits && lengthsFit cfg s) rules r e

@@ -134,20 +134,33 @@ fn first_of(config_ok: bool, state_ok: bool) -> Check
     Check::Go
 }
 
-// "Every call begins 2, 3."
-pub fn begin(cfg: &[i32], records: &[u8], debounce: &[i32], memory: &[u8], board: Board) -> Check
-    ensures { λ r. ⌜ checkNumber r ≡ firstThatApplies (begins (now (cfg .entry)) (lent (now (records .entry)) (now (debounce .entry)) (now (memory .entry)) board) []) ⌝ }
+// "Every call begins 2, 3." `fits` says whether what is lent beside the state has the right lengths.
+pub fn begin(
+    cfg: &[i32],
+    records: &[u8],
+    debounce: &[i32],
+    memory: &[u8],
+    board: Board,
+    fits: bool,
+) -> Check
+    ensures { λ r. ⌜ checkNumber r ≡ firstThatApplies (begins (now (cfg .entry)) (lent (now (records .entry)) (now (debounce .entry)) (now (memory .entry)) board) fits []) ⌝ }
 {
     let config_ok = config::config_ok(cfg);
     let state_ok = config_ok && well_formed(cfg, records, debounce, memory, board);
-    first_of(config_ok, state_ok)
+    first_of(config_ok, fits & state_ok)
 }
 
 // "For restore and for making a fresh state, 3 judges lengths only."
-pub fn begin_with_lengths(cfg: &[i32], records: &[u8], debounce: &[i32], memory: &[u8]) -> Check
-    ensures { λ r. ⌜ ((b : Board) → checkNumber r ≡ firstThatApplies (beginsWithLengths (now (cfg .entry)) (lent (now (records .entry)) (now (debounce .entry)) (now (memory .entry)) b) [])) ⌝ }
+pub fn begin_with_lengths(
+    cfg: &[i32],
+    records: &[u8],
+    debounce: &[i32],
+    memory: &[u8],
+    fits: bool,
+) -> Check
+    ensures { λ r. ⌜ ((b : Board) → checkNumber r ≡ firstThatApplies (beginsWithLengths (now (cfg .entry)) (lent (now (records .entry)) (now (debounce .entry)) (now (memory .entry)) b) fits [])) ⌝ }
 {
     let config_ok = config::config_ok(cfg);
     let state_ok = config_ok && lengths_fit(cfg, records, debounce, memory);
-    first_of(config_ok, state_ok)
+    first_of(config_ok, fits & state_ok)
 }

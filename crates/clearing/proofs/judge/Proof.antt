@@ -1,3 +1,4 @@
+use mathlib.Core.Bool.{true}
 use Rattle.manual.specs.Calls.{clearRules}
 use Rattle.state.proofs.JudgedLaws.{begun-by, judged-by, stopped-by}
 use borrow.Author.Needs.{needs}
@@ -11,18 +12,18 @@ enum-told : tie.Need-enum-told
 enum-told c = search needs
 
 judge-code-requires : tie.Need-judge-code-requires
-judge-code-requires c κs = begun-by _ _ (c .before .before .begin .ensures) (c .enum-told .given .1)
+judge-code-requires c κs = begun-by _ _ true (c .before .before .begin .ensures) (c .enum-told .given .1)
 
 enum-known-refusal : tie.Need-enum-known-refusal
 enum-known-refusal c = search needs
 
 returns : tie.Need-returns
 unfolding clearRules
-returns c = judged-by _ _ (c .before .before .before .begin .ensures) _ (c .before .enum-told .given .1) (c .judge-code .ensures)
+returns c = judged-by _ _ true (c .before .before .before .begin .ensures) _ (c .before .enum-told .given .1) (c .judge-code .ensures)
 
 returns-2 : tie.Need-returns-2
 unfolding clearRules
-returns-2 c = stopped-by _ _ (c .before .before .before .begin .ensures) _ _ (c .before .refusal .given .1)
+returns-2 c = stopped-by _ _ true (c .before .before .before .begin .ensures) _ _ (c .before .refusal .given .1)
 
 pub judge-spec : {M : Type 1} → statement M
 judge-spec =

@@ -1,4 +1,5 @@
 -- `judge` meets its contract.
+use mathlib.Core.Bool.{true}
 use Rattle.state.proofs.JudgedLaws.{judged-by, stopped-by}
 use borrow.Author.Needs.{needs}
 use Rattle.cycles.proofs.judge.Statement.{statement}
@@ -17,10 +18,10 @@ enum-known-refusal : tie.Need-enum-known-refusal
 enum-known-refusal c = search needs
 
 returns : tie.Need-returns
-returns c = judged-by _ _ (c .before .before .before .begin .ensures) _ (c .before .enum-told .given .1) (c .four-five .ensures)
+returns c = judged-by _ _ true (c .before .before .before .begin .ensures) _ (c .before .enum-told .given .1) (c .four-five .ensures)
 
 returns-2 : tie.Need-returns-2
-returns-2 c = stopped-by _ _ (c .before .before .before .begin .ensures) _ _ (c .before .refusal .given .1)
+returns-2 c = stopped-by _ _ true (c .before .before .before .begin .ensures) _ _ (c .before .refusal .given .1)
 
 pub judge-spec : {M : Type 1} → statement M
 judge-spec =

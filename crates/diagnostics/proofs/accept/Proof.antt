@@ -1,4 +1,3 @@
-use mathlib.Core.Path.{refl}
 use Rattle.diagnostics.proofs.RequestLaws.{replied-is, cleared-is}
 use borrow.Author.Needs.{needs}
 use Rattle.diagnostics.proofs.accept.Statement.{statement}
@@ -22,14 +21,14 @@ same-length c = search needs
 same-length-2 : tie.Need-same-length-2
 same-length-2 c = search needs
 
-returns : tie.Need-returns
-returns c = replied-is _ _ (c .before .before .before .before .before .before .before .before .before .before .before .before .args .room .now) _ _ (c .before .size .given .1) (c .before .before .before .before .before .serve .ensures _ refl)
-
 same-length-3 : tie.Need-same-length-3
 same-length-3 c = search needs
 
 same-length-4 : tie.Need-same-length-4
 same-length-4 c = search needs
+
+returns : tie.Need-returns
+returns c = replied-is _ _ (c .before .before .before .before .before .before .before .before .before .before .before .before .before .before .args .room .now) _ _ (c .before .size .given .1) (c .before .before .before .before .before .serve .ensures _)
 
 same-length-5 : tie.Need-same-length-5
 same-length-5 c = search needs
@@ -37,8 +36,14 @@ same-length-5 c = search needs
 same-length-6 : tie.Need-same-length-6
 same-length-6 c = search needs
 
+same-length-7 : tie.Need-same-length-7
+same-length-7 c = search needs
+
+same-length-8 : tie.Need-same-length-8
+same-length-8 c = search needs
+
 returns-2 : tie.Need-returns-2
-returns-2 c = cleared-is _ _ (c .before .before .before .before .before .before .before .before .before .before .before .before .before .before .before .before .before .before .before .before .before .args .room .now) _ _ (c .before .before .before .before .before .before .before .before .before .before .code .given .1) (c .before .before .before .before .before .clear-covered .ensures) (c .before .before .before .before .before .before .before .before .before .before .before .before .before .before .serve .ensures _ refl)
+returns-2 c = cleared-is _ _ (c .before .before .before .before .before .before .before .before .before .before .before .before .before .before .before .before .before .before .before .before .before .before .before .args .room .now) _ _ (c .before .before .before .before .before .before .before .before .before .before .code .given .1) (c .before .before .before .before .before .clear-covered .ensures) (c .before .before .before .before .before .before .before .before .before .before .before .before .before .before .serve .ensures _)
 
 pub accept-spec : {M : Type 1} → statement M
 accept-spec =
@@ -50,9 +55,11 @@ accept-spec =
     clear-covered-requires
     same-length
     same-length-2
-    returns
     same-length-3
     same-length-4
+    returns
     same-length-5
     same-length-6
+    same-length-7
+    same-length-8
     returns-2)

@@ -1,3 +1,4 @@
+use mathlib.Core.Bool.{true}
 use Rattle.manual.specs.Diagnostics.{requestRules}
 use Rattle.state.proofs.JudgedLaws.{judged-by, stopped-by}
 use borrow.Author.Needs.{needs}
@@ -18,11 +19,11 @@ enum-known-refusal c = search needs
 
 returns : tie.Need-returns
 unfolding requestRules
-returns c = judged-by _ _ (c .before .before .before .begin .ensures) _ (c .before .enum-told .given .1) (c .judge-sizes .ensures)
+returns c = judged-by _ _ true (c .before .before .before .begin .ensures) _ (c .before .enum-told .given .1) (c .judge-sizes .ensures)
 
 returns-2 : tie.Need-returns-2
 unfolding requestRules
-returns-2 c = stopped-by _ _ (c .before .before .before .begin .ensures) _ _ (c .before .refusal .given .1)
+returns-2 c = stopped-by _ _ true (c .before .before .before .begin .ensures) _ _ (c .before .refusal .given .1)
 
 pub judge-spec : {M : Type 1} → statement M
 judge-spec =

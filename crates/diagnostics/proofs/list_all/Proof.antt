@@ -10,9 +10,9 @@ same-length : tie.Need-same-length
 same-length c = search needs
 
 returns : tie.Need-returns
-returns c s q =
-    let a = c .before .before .before .before .before .before .before .args in
-    by-reply _ (a .room .now) s (list-all-is (a .cfg .now) (a .request .now) s _) (c .before .before .list-asked .ensures s q)
+returns c b =
+    let a = c .before .before .before .before .before .before .before .before .args in
+    by-reply _ (a .room .now) _ (list-all-is (a .cfg .now) (a .request .now) _ _) (c .before .before .list-asked .ensures b)
 
 pub list-all-spec : {M : Type 1} → statement M
 list-all-spec = tie.close (tie.spec list-asked-requires same-length returns)

@@ -4,6 +4,7 @@ use lib.ListN.{length}
 use borrow.Author.Tests.{ltb-false}
 use borrow.Author.Needs.{needs}
 use Rattle.writing.proofs.WritingLaws.{append-then, append-next}
+use Rattle.manual.specs.State.{lent}
 use Rattle.diagnostics.specs.Replies.{holding}
 use Rattle.diagnostics.proofs.RepliesLaws.{written-is-sent, nothing-is-sent, by-turn, number-most, lines-length, lines-in, list-length, list-tests}
 use Rattle.diagnostics.proofs.list_asked.Statement.{statement}
@@ -13,10 +14,10 @@ number-asked-requires : tie.Need-number-asked-requires
 number-asked-requires c κs = search needs
 
 mul-too-long : tie.Need-mul-too-long
-mul-too-long c = omega (arith, number-most _ (c .before .before .before .before .pre .config) _ (c .number-asked .ensures))
+mul-too-long c = omega (arith, number-most _ (c .before .before .before .before .before .pre .config) _ (c .number-asked .ensures))
 
 add-too-long : tie.Need-add-too-long
-add-too-long c = omega (arith, number-most _ (c .before .before .before .before .pre .config) _ (c .number-asked .ensures))
+add-too-long c = omega (arith, number-most _ (c .before .before .before .before .before .pre .config) _ (c .number-asked .ensures))
 
 suppresses-requires : tie.Need-suppresses-requires
 suppresses-requires c κs = search needs
@@ -45,44 +46,45 @@ write-requires c κs = search needs
 write-lines-requires : tie.Need-write-lines-requires
 write-lines-requires c κs =
     let t = c .before .before .before .before .before .before .before .before in
-    let a = t .before .before .before .before .before .before .args in
+    let a = t .before .before .before .before .before .before .before .args in
     let room : 3 + 4 * t .before .before .number-asked .result ≤ length (a .room .now) = ltb-false _ _ (t .turn-of .ensures .fits (c .before .before .before .before .before .before .enum-told2 .given .1)) in
     record {
-      config = t .before .before .before .before .before .before .pre .config;
-      within = omega (arith, lines-length (a .cfg .now) (a .asked) (holding (a .records .now)), t .before .before .number-asked .ensures, append-next _ _ (c .before .before .before .write .ensures), c .before .before .before .write .kept .0);
+      config = t .before .before .before .before .before .before .before .pre .config;
+      within = omega (arith, lines-length (a .cfg .now) (a .asked) (holding (a .records .now) (a .debounce .now)), t .before .before .number-asked .ensures, append-next _ _ (c .before .before .before .write .ensures), c .before .before .before .write .kept .0);
     }
 
 same-length : tie.Need-same-length
 same-length c = search needs
 
 returns : tie.Need-returns
-returns c s q =
+returns c b =
     let t = c .before .before .before .before .before .before .before in
-    let a = t .before .before .before .before .before .before .args in
-    by-turn _ (a .room .now) s _ (a .request .now) _ (t .turn-of .ensures) (c .before .before .before .before .before .code .given .1)
-    (list-tests _ s q _ _ (t .before .suppresses .ensures (a .cfg .now)) _ _ (a .asked) (t .before .before .number-asked .ensures))
-    (c .before .before .negative .ensures _ s)
+    let a = t .before .before .before .before .before .before .before .args in
+    by-turn _ (a .room .now) _ _ (a .request .now) _ (t .turn-of .ensures) (c .before .before .before .before .before .code .given .1)
+    (list-tests _ _ _ _ (t .before .suppresses .ensures (a .cfg .now)) _ _ (a .asked) (t .before .before .number-asked .ensures))
+    (c .before .before .negative .ensures _ _)
 
 returns-2 : tie.Need-returns-2
-returns-2 c s q =
+returns-2 c b =
     let t = c .before .before in
-    let a = t .before .before .before .before .before .before .args in
-    by-turn _ (a .room .now) s _ (a .request .now) _ (t .turn-of .ensures) (c .enum-told .given .1)
-    (list-tests _ s q _ _ (t .before .suppresses .ensures (a .cfg .now)) _ _ (a .asked) (t .before .before .number-asked .ensures))
-    (nothing-is-sent _ _ s)
+    let a = t .before .before .before .before .before .before .before .args in
+    by-turn _ (a .room .now) _ _ (a .request .now) _ (t .turn-of .ensures) (c .enum-told .given .1)
+    (list-tests _ _ _ _ (t .before .suppresses .ensures (a .cfg .now)) _ _ (a .asked) (t .before .before .number-asked .ensures))
+    (nothing-is-sent _ _ _)
 
 same-length-2 : tie.Need-same-length-2
 same-length-2 c = search needs
 
 returns-3 : tie.Need-returns-3
-returns-3 c s q =
+returns-3 c b =
     let t = c .before .before .before .before .before .before .before .before .before .before .before in
-    let a = t .before .before .before .before .before .before .args in
-    let long = list-length _ s q (a .sub-function) (a .asked) (t .before .before .number-asked .ensures) in
+    let a = t .before .before .before .before .before .before .before .args in
+    let s = lent (a .records .now) (a .debounce .now) (a .memory .now) b in
+    let long = list-length _ s (a .sub-function) (a .asked) (t .before .before .number-asked .ensures) in
     by-turn _ (a .room .now) s _ (a .request .now) _ (t .turn-of .ensures) (c .before .before .before .before .before .before .before .before .before .enum-told2 .given .1)
-    (list-tests _ s q _ _ (t .before .suppresses .ensures (a .cfg .now)) _ _ (a .asked) (t .before .before .number-asked .ensures))
+    (list-tests _ s _ _ (t .before .suppresses .ensures (a .cfg .now)) _ _ (a .asked) (t .before .before .number-asked .ensures))
     (written-is-sent _ _ _ s (rw long (ltb-false _ _ (t .turn-of .ensures .fits (c .before .before .before .before .before .before .before .before .before .enum-told2 .given .1))))
-    (rw (lines-in _ s q (a .asked)) (append-then _ _ _ (c .before .before .before .before .before .before .write .ensures) (c .before .before .write-lines .ensures))))
+    (rw (lines-in _ s (a .asked)) (append-then _ _ _ (c .before .before .before .before .before .before .write .ensures) (c .before .before .write-lines .ensures))))
 
 pub list-asked-spec : {M : Type 1} → statement M
 list-asked-spec =

@@ -13,9 +13,9 @@ same-length : tie.Need-same-length
 same-length c = search needs
 
 returns : tie.Need-returns
-returns c s q =
-    let a = c .before .before .before .before .before .before .before .before .args in
-    by-reply _ (a .room .now) s (list-by-mask-is _ (a .request .now) s _ (c .before .before .before .before .mask-of .ensures (a .cfg .now))) (c .before .before .list-asked .ensures s q)
+returns c b =
+    let a = c .before .before .before .before .before .before .before .before .before .args in
+    by-reply _ (a .room .now) _ (list-by-mask-is _ (a .request .now) _ _ (c .before .before .before .before .mask-of .ensures (a .cfg .now))) (c .before .before .list-asked .ensures b)
 
 pub list-by-mask-spec : {M : Type 1} → statement M
 list-by-mask-spec = tie.close (tie.spec mask-of-requires list-asked-requires same-length returns)

@@ -10,10 +10,10 @@ use Rattle.diagnostics.proofs.number_asked.Tie as tie
 
 -- the events passed are counted
 abbrev Inv-loop : tie.InvT-loop
-Inv-loop cfg records asked n number₀ event₀ number event = (event ≤ n) × (number ≡ countBelow event (asks cfg asked (holding records)))
+Inv-loop cfg records debounce asked n number₀ event₀ number event = (event ≤ n) × (number ≡ countBelow event (asks cfg asked (holding records debounce)))
 
 abbrev μ-loop : tie.MeasureT-loop
-μ-loop cfg records asked n number₀ event₀ number event = n - event
+μ-loop cfg records debounce asked n number₀ event₀ number event = n - event
 
 events-requires : tie.Need-events-requires Inv-loop μ-loop
 events-requires c κs = tt
@@ -27,7 +27,7 @@ is-asked-requires c κs = tt
 one-more-if-requires : tie.Need-one-more-if-requires Inv-loop μ-loop
 one-more-if-requires c κs =
     let t = config-tells _ (c .before .before .before .before .before .pre) in
-    let most = count-most (asks (c .before .before .before .before .before .args .cfg .now) (c .before .before .before .before .before .args .asked) (holding (c .before .before .before .before .before .args .records .now))) (c .before .before .loop .event) in
+    let most = count-most (asks (c .before .before .before .before .before .args .cfg .now) (c .before .before .before .before .before .args .asked) (holding (c .before .before .before .before .before .args .records .now) (c .before .before .before .before .before .args .debounce .now))) (c .before .before .loop .event) in
     omega (arith, c .before .before .before .events .ensures, c .before .before .loop .inv .1)
 
 add-event : tie.Need-add-event Inv-loop μ-loop

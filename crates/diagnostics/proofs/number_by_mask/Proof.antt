@@ -31,7 +31,7 @@ number-asked-requires : tie.Need-number-asked-requires
 number-asked-requires c κs = search needs
 
 cast-high : tie.Need-cast-high
-cast-high c = omega (arith, number-most _ (c .before .before .before .before .before .before .before .before .before .pre .config) _ (c .number-asked .ensures))
+cast-high c = omega (arith, number-most _ (c .before .before .before .before .before .before .before .before .before .before .pre .config) _ (c .number-asked .ensures))
 
 cast-low : tie.Need-cast-low
 cast-low c = search needs
@@ -48,31 +48,31 @@ same-length : tie.Need-same-length
 same-length c = search needs
 
 returns : tie.Need-returns
-returns c s q =
+returns c b =
     let t = c .before .before .before .before .before .before .before in
-    let a = t .before .before .before .before .before .args in
-    by-turn _ (a .room .now) s _ _ _ (t .turn-of .ensures) (c .before .before .before .before .before .code .given .1)
-    (number-tests _ s q _ _ (t .before .suppresses .ensures (a .cfg .now)) refl refl)
-    (c .before .before .negative .ensures _ s)
+    let a = t .before .before .before .before .before .before .args in
+    by-turn _ (a .room .now) _ _ _ _ (t .turn-of .ensures) (c .before .before .before .before .before .code .given .1)
+    (number-tests _ _ _ _ (t .before .suppresses .ensures (a .cfg .now)) refl refl)
+    (c .before .before .negative .ensures _ _)
 
 returns-2 : tie.Need-returns-2
-returns-2 c s q =
+returns-2 c b =
     let t = c .before .before in
-    let a = t .before .before .before .before .before .args in
-    by-turn _ (a .room .now) s _ _ _ (t .turn-of .ensures) (c .enum-told .given .1)
-    (number-tests _ s q _ _ (t .before .suppresses .ensures (a .cfg .now)) refl refl)
-    (nothing-is-sent _ _ s)
+    let a = t .before .before .before .before .before .before .args in
+    by-turn _ (a .room .now) _ _ _ _ (t .turn-of .ensures) (c .enum-told .given .1)
+    (number-tests _ _ _ _ (t .before .suppresses .ensures (a .cfg .now)) refl refl)
+    (nothing-is-sent _ _ _)
 
 same-length-2 : tie.Need-same-length-2
 same-length-2 c = search needs
 
 returns-3 : tie.Need-returns-3
-returns-3 c s q =
+returns-3 c b =
     let t = c .before .before .before .before .before .before .before .before .before in
-    let a = t .before .before .before .before .before .args in
-    by-turn _ (a .room .now) s _ _ _ (t .turn-of .ensures) (c .before .before .before .before .before .before .before .enum-told2 .given .1)
-    (number-tests _ s q _ _ (t .before .suppresses .ensures (a .cfg .now)) (c .before .before .before .before .before .before .mask-of .ensures (a .cfg .now)) (c .before .before .before .before .before .number-asked .ensures))
-    (written-is-sent _ _ _ s (ltb-false _ _ (t .turn-of .ensures .fits (c .before .before .before .before .before .before .before .enum-told2 .given .1))) (c .before .before .write .ensures))
+    let a = t .before .before .before .before .before .before .args in
+    by-turn _ (a .room .now) _ _ _ _ (t .turn-of .ensures) (c .before .before .before .before .before .before .before .enum-told2 .given .1)
+    (number-tests _ _ _ _ (t .before .suppresses .ensures (a .cfg .now)) (c .before .before .before .before .before .before .mask-of .ensures (a .cfg .now)) (c .before .before .before .before .before .number-asked .ensures))
+    (written-is-sent _ _ _ _ (ltb-false _ _ (t .turn-of .ensures .fits (c .before .before .before .before .before .before .before .enum-told2 .given .1))) (c .before .before .write .ensures))
 
 pub number-by-mask-spec : {M : Type 1} → statement M
 number-by-mask-spec =

@@ -12,7 +12,7 @@ same-length : tie.Need-same-length
 same-length c = search needs
 
 returns : tie.Need-returns
-returns c s q = of-length-1 _ _ s _ (c .before .before .before .before .if1 .taken) (c .before .before .negative .ensures _ s)
+returns c b = of-length-1 _ _ _ _ (c .before .before .before .before .if1 .taken) (c .before .before .negative .ensures _ _)
 
 sub-function-of-requires : tie.Need-sub-function-of-requires
 sub-function-of-requires c κs = search needs
@@ -34,36 +34,40 @@ same-length-2 c = search needs
 
 returns-2 : tie.Need-returns-2
 unfolding firstOf
-returns-2 c s q =
+returns-2 c b =
     let m = c .before .before .before .before in
-    of-number _ (m .before .before .before .before .before .before .args .room .now) s _ (m .before .before .if1 .left) (sym (m .match .keys1) ∙ m .before .sub-function-of .ensures) (c .before .before .number-by-mask .ensures s q)
+    let a = m .before .before .before .before .before .before .before .args in
+    of-number _ (a .room .now) _ _ (m .before .before .if1 .left) (sym (m .match .keys1) ∙ m .before .sub-function-of .ensures) (c .before .before .number-by-mask .ensures b)
 
 same-length-3 : tie.Need-same-length-3
 same-length-3 c = search needs
 
 returns-3 : tie.Need-returns-3
 unfolding firstOf
-returns-3 c s q =
+returns-3 c b =
     let m = c .before .before .before .before in
-    of-number _ (m .before .before .before .before .before .before .args .room .now) s _ (m .before .before .if1 .left) (sym (m .match .keys2) ∙ m .before .sub-function-of .ensures) (c .before .before .list-by-mask .ensures s q)
+    let a = m .before .before .before .before .before .before .before .args in
+    of-number _ (a .room .now) _ _ (m .before .before .if1 .left) (sym (m .match .keys2) ∙ m .before .sub-function-of .ensures) (c .before .before .list-by-mask .ensures b)
 
 same-length-4 : tie.Need-same-length-4
 same-length-4 c = search needs
 
 returns-4 : tie.Need-returns-4
 unfolding firstOf
-returns-4 c s q =
+returns-4 c b =
     let m = c .before .before .before .before in
-    of-number _ (m .before .before .before .before .before .before .args .room .now) s _ (m .before .before .if1 .left) (sym (m .match .keys3) ∙ m .before .sub-function-of .ensures) (c .before .before .list-all .ensures s q)
+    let a = m .before .before .before .before .before .before .before .args in
+    of-number _ (a .room .now) _ _ (m .before .before .if1 .left) (sym (m .match .keys3) ∙ m .before .sub-function-of .ensures) (c .before .before .list-all .ensures b)
 
 same-length-5 : tie.Need-same-length-5
 same-length-5 c = search needs
 
 returns-5 : tie.Need-returns-5
-returns-5 c s q =
+returns-5 c b =
     let m = c .before .before .before .before in
-    of-number _ (m .before .before .before .before .before .before .args .room .now) s _ (m .before .before .if1 .left) (m .before .sub-function-of .ensures)
-    (no-such-number _ _ s _ (m .match .rest .0 .0 .1) (m .match .rest .0 .1) (m .match .rest .1) (c .before .before .negative2 .ensures _ s))
+    let a = m .before .before .before .before .before .before .before .args in
+    of-number _ (a .room .now) _ _ (m .before .before .if1 .left) (m .before .sub-function-of .ensures)
+    (no-such-number _ _ _ _ (m .match .rest .0 .0 .1) (m .match .rest .0 .1) (m .match .rest .1) (c .before .before .negative2 .ensures _ _))
 
 pub reply-19-spec : {M : Type 1} → statement M
 reply-19-spec =

@@ -19,19 +19,21 @@ same-length : tie.Need-same-length
 same-length c = search needs
 
 returns : tie.Need-returns
-returns c s q = serves-19 _ _ (c .before .before .before .before .before .before .before .before .before .args .room .now) s (c .before .before .before .before .before .byte-of .ensures) (c .before .before .before .before .match .keys1) (c .before .before .reply-19 .ensures s q)
+returns c b =
+    let a = c .before .before .before .before .before .before .before .before .before .before .args in
+    serves-19 _ _ (a .room .now) _ (c .before .before .before .before .before .byte-of .ensures) (c .before .before .before .before .match .keys1) (c .before .before .reply-19 .ensures b)
 
 same-length-2 : tie.Need-same-length-2
 same-length-2 c = search needs
 
 returns-2 : tie.Need-returns-2
-returns-2 c s q = serves-14 _ _ _ s (c .before .before .before .before .before .byte-of .ensures) (c .before .before .before .before .match .keys2) (c .before .before .reply-14 .ensures s)
+returns-2 c b = serves-14 _ _ _ _ (c .before .before .before .before .before .byte-of .ensures) (c .before .before .before .before .match .keys2) (c .before .before .reply-14 .ensures _)
 
 same-length-3 : tie.Need-same-length-3
 same-length-3 c = search needs
 
 returns-3 : tie.Need-returns-3
-returns-3 c s q = serves-no-other _ _ _ s (c .before .before .before .before .before .byte-of .ensures) (c .before .before .before .before .match .rest .0 .1) (c .before .before .before .before .match .rest .1) (c .before .before .negative .ensures _ s)
+returns-3 c b = serves-no-other _ _ _ _ (c .before .before .before .before .before .byte-of .ensures) (c .before .before .before .before .match .rest .0 .1) (c .before .before .before .before .match .rest .1) (c .before .before .negative .ensures _ _)
 
 pub serve-spec : {M : Type 1} → statement M
 serve-spec =

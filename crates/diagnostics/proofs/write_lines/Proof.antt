@@ -13,11 +13,11 @@ use Rattle.diagnostics.proofs.write_lines.Tie as tie
 
 -- the lines of the events passed stand in the room
 abbrev Inv-loop : tie.InvT-loop
-Inv-loop cfg records asked room₀ at n next₀ event₀ room next event =
-    (event ≤ n) × (written next room ≡ append (joinBelow event (lineIfAsked cfg asked (holding records))) (written at room₀)) × (length room ≡ length room₀)
+Inv-loop cfg records debounce asked room₀ at n next₀ event₀ room next event =
+    (event ≤ n) × (written next room ≡ append (joinBelow event (lineIfAsked cfg asked (holding records debounce))) (written at room₀)) × (length room ≡ length room₀)
 
 abbrev μ-loop : tie.MeasureT-loop
-μ-loop cfg records asked room₀ at n next₀ event₀ room next event = n - event
+μ-loop cfg records debounce asked room₀ at n next₀ event₀ room next event = n - event
 
 events-requires : tie.Need-events-requires Inv-loop μ-loop
 events-requires c κs = tt
@@ -30,7 +30,7 @@ unfolding lines
 write-line-if-asked-requires c κs =
     let fits = c .before .before .before .before .before .before .pre in
     let a = c .before .before .before .before .before .before .args in
-    let asked = lineIfAsked (a .cfg .now) (a .asked) (holding (a .records .now)) in
+    let asked = lineIfAsked (a .cfg .now) (a .asked) (holding (a .records .now) (a .debounce .now)) in
     let below = rw (c .before .before .before .events .ensures) at (c .before .loop-test .taken) in
     record {
       config = fits .config;
@@ -45,7 +45,7 @@ loop-less : tie.Need-loop-less Inv-loop μ-loop
 loop-less c = omega arith
 
 loop-again : tie.Need-loop-again Inv-loop μ-loop
-loop-again c = (omega arith, rw join-more (append-then _ _ _ (c .before .before .before .before .before .loop .inv .1) (c .before .before .write-line-if-asked .ensures)), c .before .before .write-line-if-asked .kept .1 .1 .1 .1 .0 ∙ c .before .before .before .before .before .loop .inv .2)
+loop-again c = (omega arith, rw join-more (append-then _ _ _ (c .before .before .before .before .before .loop .inv .1) (c .before .before .write-line-if-asked .ensures)), c .before .before .write-line-if-asked .kept .1 .1 .1 .1 .1 .0 ∙ c .before .before .before .before .before .loop .inv .2)
 
 same-length : tie.Need-same-length Inv-loop μ-loop
 same-length c = c .before .loop .inv .2

@@ -1,3 +1,4 @@
+use mathlib.Core.Bool.{true}
 use mathlib.Core.Path.{sym, ap, _∙_}
 use Rattle.state.specs.Checks.{checkNumber}
 use Rattle.state.proofs.BeginLaws.{begun-with-lengths}
@@ -13,7 +14,7 @@ enum-told : tie.Need-enum-told
 enum-told c = search needs
 
 make-fresh-requires : tie.Need-make-fresh-requires
-make-fresh-requires c κs = λ b. begun-with-lengths _ _ (sym (c .before .before .before .before .before .begin-with-lengths .ensures b) ∙ ap checkNumber (c .before .before .before .enum-told .given .1)) .1
+make-fresh-requires c κs = λ b. begun-with-lengths _ _ true (sym (c .before .before .before .before .before .begin-with-lengths .ensures b) ∙ ap checkNumber (c .before .before .before .enum-told .given .1)) .1
 
 enum-known-refusal : tie.Need-enum-known-refusal
 enum-known-refusal c = search needs

@@ -5,7 +5,7 @@ use native.Mathlib.Omega.{arith}
 use denote.Ref.{now}
 use Rattle.manual.specs.Configuration.{places}
 use Rattle.manual.specs.Memory.{entryCount}
-use Rattle.memory.specs.declared.StoreAnswer.the-variants.{Stored}
+use Rattle.manual.specs.declared.StoreAnswer.the-variants.{Added}
 use Rattle.memory.specs.Store.{leftWith}
 use Rattle.memory.proofs.StoreLaws.{may-append, may-search, may-displace, appends, displaces, loses}
 use borrow.Author.Needs.{needs}
@@ -26,7 +26,7 @@ same-length c = search needs
 
 returns : tie.Need-returns
 returns c = let h : entryCount (now (c .before .before .before .before .before .before .before .before .before .before .before .args .memory)) < places (now (c .before .before .before .before .before .before .before .before .before .before .before .args .cfg)) = omega (arith, c .before .before .before .before .before .before .entry-count .ensures, c .before .before .before .before .before .places .ensures, c .before .before .before .before .if1 .taken) in
-    ap (λ (m : List ℕ). leftWith m Stored) (c .before .before .append .ensures) ∙ appends (now (c .before .before .before .before .before .before .before .before .before .before .before .args .cfg)) (now (c .before .before .before .before .before .before .before .before .before .before .before .args .records)) (now (c .before .before .before .before .before .before .before .before .before .before .before .args .memory)) (c .before .before .before .before .before .before .before .before .before .before .before .args .event .0) (now (c .before .before .before .before .before .before .before .before .before .before .before .args .frame)) (c .before .before .before .before .before .before .before .before .before .before .before .pre) h
+    ap (λ (m : List ℕ). leftWith m Added) (c .before .before .append .ensures) ∙ appends (now (c .before .before .before .before .before .before .before .before .before .before .before .args .cfg)) (now (c .before .before .before .before .before .before .before .before .before .before .before .args .records)) (now (c .before .before .before .before .before .before .before .before .before .before .before .args .memory)) (c .before .before .before .before .before .before .before .before .before .before .before .args .event .0) (now (c .before .before .before .before .before .before .before .before .before .before .before .args .frame)) (c .before .before .before .before .before .before .before .before .before .before .before .pre) h
 
 victim-requires : tie.Need-victim-requires
 victim-requires c κs = may-search (now (c .before .before .before .before .before .before .before .before .args .cfg)) (now (c .before .before .before .before .before .before .before .before .args .records)) (now (c .before .before .before .before .before .before .before .before .args .memory)) (c .before .before .before .before .before .before .before .before .args .event .0) (now (c .before .before .before .before .before .before .before .before .args .frame)) (c .before .before .before .before .before .before .before .before .pre)

@@ -1,5 +1,5 @@
 use Rattle.memory.specs.Store.{leftWith}
-use Rattle.memory.specs.declared.StoreAnswer.the-variants.{Displaced}
+use Rattle.manual.specs.declared.StoreAnswer.the-variants.{Displaced}
 use borrow.Author.Needs.{needs}
 use Rattle.memory.proofs.displace.Statement.{statement}
 use Rattle.memory.proofs.displace.Tie as tie

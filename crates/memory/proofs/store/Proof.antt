@@ -2,7 +2,7 @@ use mathlib.Core.Path.{sym, ap, _∙_}
 use mathlib.Core.List.{List}
 use Prim.Native.Nat.{ℕ}
 use denote.Ref.{now}
-use Rattle.memory.specs.declared.StoreAnswer.the-variants.{Stored}
+use Rattle.manual.specs.declared.StoreAnswer.the-variants.{Renewed}
 use Rattle.memory.specs.Store.{leftWith}
 use Rattle.memory.proofs.StoreLaws.{may-find, may-renew, renews, has-none}
 use borrow.Author.Needs.{needs}
@@ -28,7 +28,7 @@ same-length : tie.Need-same-length
 same-length c = search needs
 
 returns : tie.Need-returns
-returns c = ap (λ (m : List ℕ). leftWith m Stored) (c .before .before .renew .ensures)
+returns c = ap (λ (m : List ℕ). leftWith m Renewed) (c .before .before .renew .ensures)
     ∙ renews (now (c .before .before .before .before .before .before .before .before .before .before .before .before .args .cfg)) (now (c .before .before .before .before .before .before .before .before .before .before .before .before .args .records)) (now (c .before .before .before .before .before .before .before .before .before .before .before .before .args .memory)) (c .before .before .before .before .before .before .before .before .before .before .before .before .args .event .0) (now (c .before .before .before .before .before .before .before .before .before .before .before .before .args .frame)) (c .before .before .before .before .before .before .before .before .before .before .before .before .pre) _ (sym (c .before .before .before .before .before .before .before .place-of .ensures) ∙ c .before .before .before .before .before .own .given .1)
 
 same-length-2 : tie.Need-same-length-2

@@ -1,7 +1,9 @@
 -- `qualifies` meets its contract, verdict by verdict.
 use mathlib.Core.Path.{refl}
 use denote.Ref.{now}
+use Rattle.manual.specs.declared.StoreAnswer.the-variants.{Untold}
 use Rattle.manual.specs.declared.Verdict.the-variants.{None, Passed, Failed}
+use Rattle.one_event.specs.Steps.{stepped}
 use Rattle.one_event.proofs.LentLaws.{qualifies-by}
 use borrow.Author.Needs.{needs}
 use Rattle.one_event.proofs.qualifies.Statement.{statement}
@@ -34,7 +36,7 @@ returns-2 : tie.Need-returns-2
 returns-2 c =
     let a = c .before .before .before .before .before .before .before .before .before .args in
     qualifies-by (now (a .cfg)) (a .event .0) (now (a .frame)) (now (a .records)) (now (a .memory)) (a .board) Passed
-    (c .before .before .before .before .enum-told2 .given .1) (λ d. c .before .before .passes .ensures (now (a .cfg)) d (now (a .memory)) (a .board))
+    (c .before .before .before .before .enum-told2 .given .1) (λ d i. stepped (c .before .before .passes .ensures (now (a .cfg)) d (now (a .memory)) (a .board) i) Untold)
 
 same-length-2 : tie.Need-same-length-2
 same-length-2 c = search needs

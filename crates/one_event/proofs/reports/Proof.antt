@@ -36,13 +36,13 @@ same-length-3 c = search needs
 
 returns : tie.Need-returns
 returns c =
-    let a = c .before .before .before .before .before .before .before .before .before .before .before .before .before .before .before .before .args in
-    let row-of = c .before .before .before .before .before .before .before .before .before .before .before .before .row-of in
-    let read-number = c .before .before .before .before .before .before .before .before .before .before .read-number in
-    let report-step = c .before .before .before .before .before .before .before .before .before .report-step in
+    let a = c .before .before .before .before .before .before .before .before .before .before .before .before .before .before .before .before .before .args in
+    let row-of = c .before .before .before .before .before .before .before .before .before .before .before .before .before .row-of in
+    let read-number = c .before .before .before .before .before .before .before .before .before .before .before .read-number in
+    let report-step = c .before .before .before .before .before .before .before .before .before .before .report-step in
     reports-is (now (a .cfg)) (a .event .0) (lent (now (a .records)) (now (a .debounce)) (now (a .memory)) (a .board)) (now (a .frame)) (row-of .result)
     (row-of .ensures) (held (read-number .ensures) (read-number .ok)) (answered (report-step .result))
-    (c .before .before .before .before .before .applies .ensures) (a .code) (report-step .ensures)
+    (c .before .before .before .before .before .before .applies .ensures) (a .code) (report-step .ensures)
 
 pub reports-spec : {M : Type 1} → statement M
 reports-spec =

@@ -1,5 +1,6 @@
 -- `grelpicado_read_status` meets its contract.
 use borrow.Author.Needs.{needs}
+use Rattle.manual.specs.Answers.{alone}
 use Rattle.manual.specs.State.{lent}
 use Rattle.manual.specs.Calls.{readStatus}
 use Rattle.panel.specs.Panel.{crossesWithoutBoard}
@@ -18,7 +19,7 @@ status-of-requires c κs = search needs
 
 returns : tie.Need-returns
 returns c = let a = c .before .before .before .before .before .args in
-    through crossesWithoutBoard (λ b. readStatus (a .cfg .now) (a .event) (lent (a .records .now) (a .debounce .now) (a .memory .now) b)) (a .board) (c .status-of .ensures (lent (a .records .now) (a .debounce .now) (a .memory .now) (c .before .before .board-of .result)) (a .board)) (c .before .read-status .ensures) (c .before .before .board-of .ensures)
+    through crossesWithoutBoard (λ b. readStatus (a .cfg .now) (a .event) alone (lent (a .records .now) (a .debounce .now) (a .memory .now) b)) (a .board) (c .status-of .ensures (lent (a .records .now) (a .debounce .now) (a .memory .now) (c .before .before .board-of .result)) (a .board)) (c .before .read-status .ensures) (c .before .before .board-of .ensures)
 
 pub grelpicado-read-status-spec : {M : Type 1} → statement M
 grelpicado-read-status-spec =

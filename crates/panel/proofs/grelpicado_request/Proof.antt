@@ -1,5 +1,6 @@
 -- `grelpicado_request` meets its contract.
 use borrow.Author.Needs.{needs}
+use Rattle.manual.specs.Answers.{lentRoom}
 use Rattle.manual.specs.State.{lent}
 use Rattle.manual.specs.Diagnostics.{requestReply}
 use Rattle.panel.specs.Panel.{crosses}
@@ -30,7 +31,7 @@ same-length-4 c = search needs
 
 returns : tie.Need-returns
 returns c = let a = c .before .before .before .before .before .before .before .before .before .before .before .before .before .before .before .before .before .before .args in
-    through crosses (λ b. requestReply (a .cfg .now) (a .request .now) (a .room .now) (lent (a .records .now) (a .debounce .now) (a .memory .now) b)) (a .board) (c .request-of .ensures _ _ _ _) (c .before .before .before .before .before .before .before .before .request .ensures) (c .before .before .before .before .before .before .before .before .before .before .before .before .before .board-of .ensures)
+    through crosses (λ b. requestReply (a .cfg .now) (a .request .now) (lentRoom (a .room .now)) (lent (a .records .now) (a .debounce .now) (a .memory .now) b)) (a .board) (c .request-of .ensures _ _ _ _) (c .before .before .before .before .before .before .before .before .request .ensures) (c .before .before .before .before .before .before .before .before .before .before .before .before .before .board-of .ensures)
 
 pub grelpicado-request-spec : {M : Type 1} → statement M
 grelpicado-request-spec =

@@ -1,5 +1,6 @@
 -- `grelpicado_restore` meets its contract.
 use borrow.Author.Needs.{needs}
+use Rattle.manual.specs.Answers.{alone}
 use Rattle.manual.specs.State.{lent}
 use Rattle.manual.specs.Image.{restore}
 use Rattle.panel.specs.Panel.{crosses}
@@ -27,7 +28,7 @@ same-length-3 c = search needs
 
 returns : tie.Need-returns
 returns c = let a = c .before .before .before .before .before .before .before .before .before .before .before .before .before .before .args in
-    through crosses (λ b. restore (a .cfg .now) (a .image .now) (lent (a .records .now) (a .debounce .now) (a .memory .now) b)) (a .board) (c .answer-of .ensures _ _ _) (c .before .before .before .before .before .before .restore .ensures) (c .before .before .before .before .before .before .before .before .before .before .board-of .ensures)
+    through crosses (λ b. restore (a .cfg .now) (a .image .now) alone (lent (a .records .now) (a .debounce .now) (a .memory .now) b)) (a .board) (c .answer-of .ensures _ _ _) (c .before .before .before .before .before .before .restore .ensures) (c .before .before .before .before .before .before .before .before .before .before .board-of .ensures)
 
 pub grelpicado-restore-spec : {M : Type 1} → statement M
 grelpicado-restore-spec =

@@ -1,5 +1,6 @@
 -- `grelpicado_save` meets its contract.
 use borrow.Author.Needs.{needs}
+use Rattle.manual.specs.Answers.{lentRoom}
 use Rattle.manual.specs.State.{lent}
 use Rattle.manual.specs.Image.{save}
 use Rattle.panel.specs.Panel.{crossesWithoutBoard}
@@ -21,7 +22,7 @@ same-length c = search needs
 
 returns : tie.Need-returns
 returns c = let a = c .before .before .before .before .before .before .before .before .before .args in
-    through crossesWithoutBoard (λ b. save (a .cfg .now) (a .room .now) (lent (a .records .now) (a .debounce .now) (a .memory .now) b)) (a .board) (c .length-of .ensures (lent (a .records .now) (a .debounce .now) (a .memory .now) (c .before .before .before .before .before .board-of .result)) _ (a .board)) (c .before .before .before .save .ensures) (c .before .before .before .before .before .board-of .ensures)
+    through crossesWithoutBoard (λ b. save (a .cfg .now) (lentRoom (a .room .now)) (lent (a .records .now) (a .debounce .now) (a .memory .now) b)) (a .board) (c .length-of .ensures (lent (a .records .now) (a .debounce .now) (a .memory .now) (c .before .before .before .before .before .board-of .result)) _ (a .board)) (c .before .before .before .save .ensures) (c .before .before .before .before .before .board-of .ensures)
 
 pub grelpicado-save-spec : {M : Type 1} → statement M
 grelpicado-save-spec =

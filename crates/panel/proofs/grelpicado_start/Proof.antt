@@ -1,5 +1,6 @@
 -- `grelpicado_start` meets its contract.
 use borrow.Author.Needs.{needs}
+use Rattle.manual.specs.Answers.{alone}
 use Rattle.manual.specs.State.{lent}
 use Rattle.manual.specs.Calls.{startCycle}
 use Rattle.panel.specs.Panel.{crosses}
@@ -21,7 +22,7 @@ same-length c = search needs
 
 returns : tie.Need-returns
 returns c = let a = c .before .before .before .before .before .before .before .before .args in
-    through crosses (λ b. startCycle (a .cfg .now) (a .cycle) (lent (a .records .now) (a .debounce .now) (a .memory .now) b)) (a .board) (c .answer-of .ensures _ _ _) (c .before .before .before .start .ensures) (c .before .before .before .before .before .board-of .ensures)
+    through crosses (λ b. startCycle (a .cfg .now) (a .cycle) alone (lent (a .records .now) (a .debounce .now) (a .memory .now) b)) (a .board) (c .answer-of .ensures _ _ _) (c .before .before .before .start .ensures) (c .before .before .before .before .before .board-of .ensures)
 
 pub grelpicado-start-spec : {M : Type 1} → statement M
 grelpicado-start-spec =

@@ -1,4 +1,5 @@
 -- `judge` meets its contract.
+use mathlib.Core.Bool.{true}
 use mathlib.Core.Path.{ap, _∙_}
 use Prim.Native.Nat.{ℕ}
 use lib.Dec.{leb}
@@ -27,11 +28,11 @@ enum-known-refusal c = search needs
 returns : tie.Need-returns
 returns c =
     let e = c .before .before .before .before .before .before .before .before .args .event .0 in
-    judged-by _ _ (c .before .before .before .before .before .begin .ensures) _ (c .before .before .before .enum-told .given .1)
+    judged-by _ _ true (c .before .before .before .before .before .begin .ensures) _ (c .before .before .before .enum-told .given .1)
     (c .four .ensures ∙ ap (λ (n : ℕ). firstThatApplies (four (leb n e))) (c .before .before .events .ensures))
 
 returns-2 : tie.Need-returns-2
-returns-2 c = stopped-by _ _ (c .before .before .before .begin .ensures) _ _ (c .before .refusal .given .1)
+returns-2 c = stopped-by _ _ true (c .before .before .before .begin .ensures) _ _ (c .before .refusal .given .1)
 
 pub judge-spec : {M : Type 1} → statement M
 judge-spec =

@@ -1,6 +1,6 @@
 -- `tick` meets its contract: what passed the judge is accepted.
 use mathlib.Core.Path.{ap}
-use Rattle.manual.specs.Answers.{done}
+use Rattle.manual.specs.Answers.{alone, done}
 use Rattle.manual.specs.Calls.{tick}
 use Rattle.state.proofs.JudgedLaws.{passed-by, accepted-by, refused-by}
 use Rattle.reporting.proofs.TickLaws.{may-tick}
@@ -38,7 +38,7 @@ unfolding tick
 returns c =
     let judge-tick = c .before .before .before .before .before .before .before .before .before .before .before .judge-tick in
     let enum-told = c .before .before .before .before .before .before .before .before .before .enum-told in
-    accepted-by _ (judge-tick .ensures) _ _ _ (enum-told .given .1) (ap done (c .before .before .before .before .before .tick-events .ensures))
+    accepted-by _ (judge-tick .ensures) _ _ _ (enum-told .given .1) (ap (done alone) (c .before .before .before .before .before .tick-events .ensures))
 
 same-length-4 : tie.Need-same-length-4
 same-length-4 c = search needs

@@ -1,5 +1,7 @@
 -- `tick_event` meets its contract.
-use mathlib.Core.Path.{_∙_}
+use mathlib.Core.Path.{ap, _∙_}
+use Rattle.manual.specs.State.{State}
+use Rattle.one_event.specs.Steps.{Stepped}
 use borrow.Author.Needs.{needs}
 use Rattle.reporting.proofs.tick_event.Statement.{statement}
 use Rattle.reporting.proofs.tick_event.Tie as tie
@@ -21,9 +23,9 @@ same-length-3 c = search needs
 
 returns : tie.Need-returns
 returns c =
-    let time-runs = c .before .before .before .before .before .before .before .before .before .before .time-runs in
-    c .before .before .before .before .before .ticks .ensures
-    ∙ rw (← time-runs .ensures, c .before .before .before .before .before .before .before .before .before .if1 .taken)
+    let time-runs = c .before .before .before .before .before .before .before .before .before .before .before .time-runs in
+    ap (λ (x : Stepped State). x .left) (c .before .before .before .before .before .before .ticks .ensures)
+    ∙ rw (← time-runs .ensures, c .before .before .before .before .before .before .before .before .before .before .if1 .taken)
 
 returns-2 : tie.Need-returns-2
 returns-2 c = rw (← c .before .time-runs .ensures, c .if1 .left)
