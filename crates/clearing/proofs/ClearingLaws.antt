@@ -1,19 +1,16 @@
--- Laws of a clear: what each event of its loop may count on, what the loop leaves, and what the call answers.
-use mathlib.Core.Path.{_≡_, refl, sym, ap, _∙_}
+-- Laws of a clear: what each event of its loop may count on, what the loop leaves, and what the call may count on.
+use mathlib.Core.Path.{_≡_, refl, ap, _∙_}
 use mathlib.Core.Bool.{true}
-use mathlib.Core.List.{[]}
 use Prim.Native.Nat.{ℕ, _<_}
 use borrow.Author.Tests.{not-false}
-use Rattle.manual.specs.declared.Refusal.{Refusal}
-use Rattle.manual.specs.declared.Answer.the-variants.{Done, Refused}
 use Rattle.manual.specs.Words.{forBelow}
 use Rattle.manual.specs.Configuration.{Configuration, events, configOk}
 use Rattle.manual.specs.State.{State}
 use Rattle.manual.specs.WellFormed.{wellFormed}
 use Rattle.manual.specs.OneEvent.{clears}
-use Rattle.manual.specs.Answers.{alone, done, firstThatApplies, numberOf, ofAnswer, leaves}
-use Rattle.manual.specs.Calls.{covers, overflowCleared, cleared, clearRules, clearCode}
-use Rattle.manual.proofs.AnswersLaws.{none-applies, goes-through, stops-with}
+use Rattle.manual.specs.Answers.{firstThatApplies}
+use Rattle.manual.specs.Calls.{covers, overflowCleared, cleared, clearRules}
+use Rattle.manual.proofs.AnswersLaws.{none-applies}
 use Rattle.manual.proofs.ConfigurationLaws.{config-tells}
 use Rattle.manual.proofs.StaysWellFormed.{clears-keep}
 use Rattle.one_event.specs.Ready.{EventFits}
@@ -43,11 +40,3 @@ module _ (cfg : Configuration) (code : ℕ) (s : State) where
   pub may-clear : firstThatApplies (clearRules cfg code s) ≡ 0 → (configOk cfg ≡ true) × (wellFormed cfg s ≡ true)
   unfolding clearRules
   may-clear z = (not-false _ (none-applies _ z refl 0), not-false _ (none-applies _ z refl 1))
-
-  pub clear-done : {t : State} → firstThatApplies (clearRules cfg code s) ≡ 0 → t ≡ cleared cfg code s → leaves (ofAnswer Done) [] alone t ≡ clearCode cfg code alone s
-  unfolding clearCode
-  clear-done z p = ap (done alone) p ∙ sym (goes-through _ alone s _ z)
-
-  pub clear-refused : (r : Refusal) → numberOf r ≡ firstThatApplies (clearRules cfg code s) → leaves (ofAnswer (Refused r)) [] alone s ≡ clearCode cfg code alone s
-  unfolding clearCode
-  clear-refused r e = stops-with _ alone s _ r e

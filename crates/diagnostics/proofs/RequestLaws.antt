@@ -7,16 +7,15 @@ use Prim.Native.Nat.{ℕ, _≤_}
 use native.Mathlib.Omega.{arith}
 use lib.ListN.{length, getD}
 use borrow.Author.Tests.{eq-eqb, ne-eqb, ltb-false, not-false}
-use Rattle.manual.specs.declared.Refusal.{Refusal}
-use Rattle.manual.specs.declared.LengthAnswer.the-variants.{Written, Refused}
+use Rattle.manual.specs.declared.LengthAnswer.the-variants.{Written}
 use Rattle.manual.specs.Words.{threeAt}
 use Rattle.manual.specs.Configuration.{Configuration, configOk}
 use Rattle.manual.specs.State.{State}
 use Rattle.manual.specs.WellFormed.{wellFormed}
-use Rattle.manual.specs.Answers.{lentRoom, Outcome, firstThatApplies, numberOf, ofLength, leaves}
+use Rattle.manual.specs.Answers.{lentRoom, Outcome, firstThatApplies, ofLength, leaves}
 use Rattle.manual.specs.Calls.{unknownCode, cleared}
-use Rattle.manual.specs.Diagnostics.{positive, negative, replyBytes, served, service19, service14, servedBy, sent, replied, requestRules, requestReply}
-use Rattle.manual.proofs.AnswersLaws.{none-applies, goes-through, stops-with}
+use Rattle.manual.specs.Diagnostics.{positive, negative, replyBytes, served, service19, service14, servedBy, sent, replied, requestRules}
+use Rattle.manual.proofs.AnswersLaws.{none-applies}
 use Rattle.writing.specs.Writing.{written, append}
 use Rattle.writing.proofs.WritingLaws.{append-next}
 use Rattle.diagnostics.specs.Replies.{sentIs, Accepted, serviceIs}
@@ -92,11 +91,3 @@ module _ (cfg : Configuration) (request room : List ℕ) (s : State) where
     },
     not-false _ (none-applies _ z refl 1),
   )
-
-  pub request-done : {o : Outcome} → firstThatApplies (requestRules cfg request (lentRoom room) s) ≡ 0 → Serves cfg request room s o → o ≡ requestReply cfg request (lentRoom room) s
-  unfolding requestReply
-  request-done z p = p ∙ sym (goes-through _ _ _ _ z)
-
-  pub request-refused : (r : Refusal) → numberOf r ≡ firstThatApplies (requestRules cfg request (lentRoom room) s) → leaves (ofLength (Refused r)) [] (lentRoom room) s ≡ requestReply cfg request (lentRoom room) s
-  unfolding requestReply
-  request-refused r e = stops-with _ (lentRoom room) s _ r e

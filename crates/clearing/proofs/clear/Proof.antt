@@ -1,6 +1,8 @@
-use mathlib.Core.Path.{sym, ap, _∙_}
-use Rattle.state.specs.Checks.{checkNumber}
-use Rattle.clearing.proofs.ClearingLaws.{may-clear, clear-done, clear-refused}
+use mathlib.Core.Path.{refl, ap}
+use Rattle.manual.specs.Answers.{alone, done}
+use Rattle.manual.specs.Calls.{clearCode}
+use Rattle.state.proofs.JudgedLaws.{passed-by, accepted-by, refused-by}
+use Rattle.clearing.proofs.ClearingLaws.{may-clear}
 use borrow.Author.Needs.{needs}
 use Rattle.clearing.proofs.clear.Statement.{statement}
 use Rattle.clearing.proofs.clear.Tie as tie
@@ -12,7 +14,7 @@ enum-told : tie.Need-enum-told
 enum-told c = search needs
 
 clear-covered-requires : tie.Need-clear-covered-requires
-clear-covered-requires c κs = may-clear _ _ _ (sym (c .before .before .before .before .before .judge .ensures) ∙ ap checkNumber (c .before .before .before .enum-told .given .1))
+clear-covered-requires c κs = may-clear _ _ _ (passed-by _ (c .before .before .before .before .before .judge .ensures) (c .before .before .before .enum-told .given .1))
 
 enum-known-refusal : tie.Need-enum-known-refusal
 enum-known-refusal c = search needs
@@ -27,8 +29,11 @@ same-length-3 : tie.Need-same-length-3
 same-length-3 c = search needs
 
 returns : tie.Need-returns
-returns c = let go = ap checkNumber (c .before .before .before .before .before .before .before .before .before .enum-told .given .1) in
-    clear-done _ _ _ (sym (c .before .before .before .before .before .before .before .before .before .before .before .judge .ensures) ∙ go) (c .before .before .before .before .before .clear-covered .ensures)
+unfolding clearCode
+returns c =
+    let judge = c .before .before .before .before .before .before .before .before .before .before .before .judge in
+    let enum-told = c .before .before .before .before .before .before .before .before .before .enum-told in
+    accepted-by _ (judge .ensures) _ _ _ (enum-told .given .1) (ap (done alone) (c .before .before .before .before .before .clear-covered .ensures))
 
 same-length-4 : tie.Need-same-length-4
 same-length-4 c = search needs
@@ -40,7 +45,8 @@ same-length-6 : tie.Need-same-length-6
 same-length-6 c = search needs
 
 returns-2 : tie.Need-returns-2
-returns-2 c = clear-refused _ _ _ (c .before .refusal .given .0 .0) (sym (ap checkNumber (c .before .refusal .given .1)) ∙ c .before .before .before .judge .ensures)
+unfolding clearCode
+returns-2 c = refused-by _ (c .before .before .before .judge .ensures) _ _ _ _ (c .before .refusal .given .1) refl
 
 pub clear-spec : {M : Type 1} → statement M
 clear-spec =

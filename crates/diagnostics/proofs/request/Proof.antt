@@ -1,6 +1,7 @@
-use mathlib.Core.Path.{sym, ap, _∙_}
-use Rattle.state.specs.Checks.{checkNumber}
-use Rattle.diagnostics.proofs.RequestLaws.{may-serve, request-done, request-refused}
+use mathlib.Core.Path.{refl}
+use Rattle.manual.specs.Diagnostics.{requestReply}
+use Rattle.state.proofs.JudgedLaws.{passed-by, accepted-by, refused-by}
+use Rattle.diagnostics.proofs.RequestLaws.{may-serve}
 use borrow.Author.Needs.{needs}
 use Rattle.diagnostics.proofs.request.Statement.{statement}
 use Rattle.diagnostics.proofs.request.Tie as tie
@@ -12,7 +13,7 @@ enum-told : tie.Need-enum-told
 enum-told c = search needs
 
 accept-requires : tie.Need-accept-requires
-accept-requires c κs = may-serve _ _ _ _ (sym (c .before .before .before .before .before .before .judge .ensures) ∙ ap checkNumber (c .before .before .before .before .enum-told .given .1))
+accept-requires c κs = may-serve _ _ _ _ (passed-by _ (c .before .before .before .before .before .before .judge .ensures) (c .before .before .before .before .enum-told .given .1))
 
 enum-known-refusal : tie.Need-enum-known-refusal
 enum-known-refusal c = search needs
@@ -30,7 +31,11 @@ same-length-4 : tie.Need-same-length-4
 same-length-4 c = search needs
 
 returns : tie.Need-returns
-returns c = request-done _ _ _ _ (sym (c .before .before .before .before .before .before .before .before .before .before .before .before .before .before .judge .ensures) ∙ ap checkNumber (c .before .before .before .before .before .before .before .before .before .before .before .before .enum-told .given .1)) (c .before .before .before .before .before .before .before .accept .ensures)
+unfolding requestReply
+returns c =
+    let judge = c .before .before .before .before .before .before .before .before .before .before .before .before .before .before .judge in
+    let enum-told = c .before .before .before .before .before .before .before .before .before .before .before .before .enum-told in
+    accepted-by _ (judge .ensures) _ _ _ (enum-told .given .1) (c .before .before .before .before .before .before .before .accept .ensures)
 
 same-length-5 : tie.Need-same-length-5
 same-length-5 c = search needs
@@ -45,7 +50,8 @@ same-length-8 : tie.Need-same-length-8
 same-length-8 c = search needs
 
 returns-2 : tie.Need-returns-2
-returns-2 c = request-refused _ _ _ _ (c .before .refusal .given .0 .0) (sym (ap checkNumber (c .before .refusal .given .1)) ∙ c .before .before .before .judge .ensures)
+unfolding requestReply
+returns-2 c = refused-by _ (c .before .before .before .judge .ensures) _ _ _ _ (c .before .refusal .given .1) refl
 
 pub request-spec : {M : Type 1} → statement M
 request-spec =
