@@ -5,7 +5,7 @@ use Prim.Native.Nat.{ℕ, _+_, _-_, _≤_, _<_}
 use native.Mathlib.Omega.{arith}
 use lib.ListN.{length, getD, take, set, replicate, length-append, length-replicate, getD-replicate}
 use lib.Seq.{length-take-le, take-at, getD-append-add}
-use Rattle.memory.proofs.Mix.{mix, mix-more, mix-all, mix-from}
+use Rattle.writing.proofs.PartlyWritten.{mix, mix-more, mix-all, mix-from}
 use Rattle.fresh_state.specs.Filled.{filledFrom}
 
 module _ {A : Type 0} (x : A) where

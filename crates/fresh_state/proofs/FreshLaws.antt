@@ -19,7 +19,7 @@ use Rattle.manual.specs.Calls.{beginsWithLengths, freshRecords, freshState, fre
 use Rattle.manual.proofs.AnswersLaws.{goes-through, stops-with}
 use Rattle.manual.proofs.WellFormedLaws.{LengthsTell, lengths-tell}
 use Rattle.manual.proofs.RecordsFollowHistories.{fresh-follows}
-use Rattle.memory.proofs.Mix.{mix, mix-more, mix-all}
+use Rattle.writing.proofs.PartlyWritten.{mix, mix-more, mix-all}
 use Rattle.fresh_state.specs.Filled.{filledFrom}
 use Rattle.fresh_state.proofs.FilledLaws.{filled-whole}
 

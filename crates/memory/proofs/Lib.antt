@@ -1,4 +1,3 @@
-pub mod Mix
 pub mod BlockLaws
 pub mod PlacesLaws
 pub mod SurgeryLaws

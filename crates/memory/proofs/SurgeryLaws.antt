@@ -8,14 +8,15 @@ use native.Mathlib.Nat.{mul-suc, mul-comm, add-comm}
 use native.Mathlib.Numerals.{one-add}
 use native.Mathlib.Omega.{arith}
 use lib.ListN.{length, take, drop, set, replicate, length-append, length-replicate, length-drop, replicate-append-replicate}
-use lib.Seq.{take-at, drop-at, split-at, length-take-le}
+use lib.Seq.{sets, take-at, drop-at, split-at, length-take-le}
 use borrow.Author.Tests.{eqb-true}
 use Rattle.manual.specs.declared.Place.{Place}
 use Rattle.manual.specs.Memory.{Entry, eventOf, entryOf, entryWidth, entryBytes, entryCount, bytesInUse, entriesOf, entriesBytes, memoryOf, isOf, without}
 use Rattle.manual.specs.Words.{All}
 use Rattle.manual.proofs.WordsLaws.{all-append, all-front, first-none, those-all}
 use Rattle.manual.proofs.MemoryLaws.{Framed, bytes-length, entries-framed, without-is}
-use Rattle.memory.specs.Block.{over, closed, gapClosed, entered, removed, added, replaced}
+use Rattle.writing.proofs.PartlyWritten.{sets-after-one, sets-middle}
+use Rattle.memory.specs.Block.{closed, gapClosed, entered, removed, added, replaced}
 use Rattle.memory.specs.declared.Find.the-variants.{At, Nothing}
 use Rattle.memory.specs.Places.{blank, atPlace, firstPlace, placeOf}
 use Rattle.memory.specs.Fits.{EntriesFit, PlaceFits, RoomAt}
@@ -33,26 +34,12 @@ middle-closed a x b w h =
     let d : drop (length a + w) (a ++ (x ++ b)) ≡ b = ap (drop (length a + w)) (sym (append-assoc a x b)) ∙ drop-at (a ++ x) b _ n in
     λ i. take-at a (x ++ b) _ refl i ++ (d i ++ replicate w 0)
 
--- the middle written over
-middle-over : (a x o b : List ℕ) → length o ≡ length x → over (length a) x (a ++ (o ++ b)) ≡ a ++ (x ++ b)
-unfolding over
-middle-over a x o b h =
-    let n : length (a ++ o) ≡ length a + length x = length-append a o ∙ ap (λ (k : ℕ). length a + k) h in
-    let d : drop (length a + length x) (a ++ (o ++ b)) ≡ b = ap (drop (length a + length x)) (sym (append-assoc a o b)) ∙ drop-at (a ++ o) b _ n in
-    λ i. take-at a (o ++ b) _ refl i ++ (x ++ d i)
-
 -- the first byte stands in front of what is done to the rest
 closed-cons : (x at w : ℕ) (m : List ℕ) → closed (1 + at) w (x ∷ m) ≡ x ∷ closed at w m
 unfolding closed
 closed-cons x at w m =
     let f : 1 + at + w ≡ suc (at + w) = omega arith in
     λ i. take (one-add at i) (x ∷ m) ++ (drop (f i) (x ∷ m) ++ replicate w 0)
-
-over-cons : (x at : ℕ) (xs m : List ℕ) → over (1 + at) xs (x ∷ m) ≡ x ∷ over at xs m
-unfolding over
-over-cons x at xs m =
-    let f : 1 + at + length xs ≡ suc (at + length xs) = omega arith in
-    λ i. take (one-add at i) (x ∷ m) ++ (xs ++ drop (f i) (x ∷ m))
 
 gap-cons : (F p x : ℕ) (m : List ℕ) → gapClosed F p (x ∷ m) ≡ x ∷ closed (entryWidth F * p) (entryWidth F) m
 unfolding gapClosed
@@ -111,11 +98,11 @@ module _ (M F : ℕ) where
       let q : M - length xs ≡ suc (M - length (xs ++ (x ∷ []))) = omega arith in
       let y : w * (M - length xs) ≡ w + z = ap (λ (j : ℕ). w * j) q ∙ mul-suc w _ ∙ add-comm _ w in
       let f : replicate {A = ℕ} (w * (M - length xs)) 0 ≡ replicate w 0 ++ replicate z 0 = ap (λ (j : ℕ). replicate j 0) y ∙ sym (replicate-append-replicate w z 0) in
-      ap (λ (j : ℕ). over (bytesInUse j (length xs)) (entryBytes x) ((length xs + 1) ∷ (entriesBytes xs ++ replicate (w * (M - length xs)) 0))) k
-      ∙ over-cons (length xs + 1) (w * length xs) (entryBytes x) (entriesBytes xs ++ replicate (w * (M - length xs)) 0)
-      ∙ (λ i. s i ∷ over (sym (bytes-length F xs a) i) (entryBytes x) (entriesBytes xs ++ f i))
+      ap (λ (j : ℕ). sets ((length xs + 1) ∷ (entriesBytes xs ++ replicate (w * (M - length xs)) 0)) (bytesInUse j (length xs)) (entryBytes x)) k
+      ∙ sets-after-one (length xs + 1) (w * length xs) (entryBytes x) (entriesBytes xs ++ replicate (w * (M - length xs)) 0)
+      ∙ (λ i. s i ∷ sets (entriesBytes xs ++ f i) (sym (bytes-length F xs a) i) (entryBytes x))
       ∙ ap (λ (l : List ℕ). length (xs ++ (x ∷ [])) ∷ l)
-      (middle-over (entriesBytes xs) (entryBytes x) (replicate w 0) (replicate z 0) (length-replicate {A = ℕ} w 0 ∙ sym n)
+      (sets-middle (entriesBytes xs) (entryBytes x) (replicate w 0) (replicate z 0) (length-replicate {A = ℕ} w 0 ∙ sym n)
       ∙ sym (append-assoc (entriesBytes xs) (entryBytes x) _)
       ∙ ap (λ (l : List ℕ). l ++ replicate z 0) (sym (bytes-append xs (x ∷ []) ∙ ap (λ (l : List ℕ). entriesBytes xs ++ l) (append-nil (entryBytes x)))))
 

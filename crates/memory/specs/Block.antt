@@ -2,11 +2,8 @@
 use mathlib.Core.List.{List, _++_}
 use Prim.Native.Nat.{ℕ, _+_, _-_}
 use lib.ListN.{length, take, drop, set, replicate}
+use lib.Seq.{sets}
 use Rattle.manual.specs.Memory.{entryOf, entryBytes, entryWidth, entryCount, bytesInUse}
-
--- xs written over the bytes of m from `at` on
-unfoldable pub over : ℕ → List ℕ → List ℕ → List ℕ
-over at xs m = take at m ++ (xs ++ drop (at + length xs) m)
 
 -- m without its w bytes from `at` on: the later ones move down, and w bytes 0 stand at the end
 unfoldable pub closed : ℕ → ℕ → List ℕ → List ℕ
@@ -18,7 +15,7 @@ gapClosed F p m = closed (bytesInUse F p) (entryWidth F) m
 
 -- the block with an entry of event e written at place p
 unfoldable pub entered : ℕ → ℕ → ℕ → List ℕ → List ℕ → List ℕ
-entered p e count frame m = over (bytesInUse (length frame) p) (entryBytes (entryOf e count frame)) m
+entered p e count frame m = sets m (bytesInUse (length frame) p) (entryBytes (entryOf e count frame))
 
 -- the entry at place p taken out
 abbrev pub removed : ℕ → ℕ → List ℕ → List ℕ

@@ -2,19 +2,7 @@
 ghost use mathlib.Core.Path.{_≡_};
 ghost use Prim.Native.Nat.{_+_, _≤_, _<_};
 ghost use lib.ListN.{length, getD};
-ghost use Rattle.memory.specs.Block.{over, closed};
-
-// Writes the source over the block's bytes from `at` on.
-pub fn put(block: &mut [u8], at: usize, source: &[u8])
-    requires { ⌜ at + length (now source) ≤ length (now block) ⌝ }
-    ensures { λ _. ⌜ now (block .exit) ≡ over at (now (source .entry)) (now (block .entry)) ⌝ }
-{
-    let mut i = 0;
-    while i < source.len() {
-        block[at + i] = source[i];
-        i += 1;
-    }
-}
+ghost use Rattle.memory.specs.Block.{closed};
 
 // The byte at i, and 0 past the end.
 pub fn byte_or_zero(block: &[u8], i: usize) -> u8

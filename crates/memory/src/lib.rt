@@ -132,8 +132,8 @@ fn enter(memory: &mut [u8], place: Place, event: EventNumber, count: u8, frame: 
     let start = start_of(frame.len(), place);
     let high = (event.0 / 256) as u8;
     let low = (event.0 % 256) as u8;
-    block::put(memory, start, &[high, low, count]);
-    block::put(memory, start + BEFORE_FRAME, frame);
+    writing::put(memory, start, &[high, low, count]);
+    writing::put(memory, start + BEFORE_FRAME, frame);
 }
 
 // Puts an entry of the event, with an occurrence count and a frame, at the end.

@@ -1,12 +1,11 @@
 use mathlib.Core.Path.{ap, _∙_}
-use mathlib.Core.List.{[], _∷_}
-use Prim.Native.Nat.{ℕ, _≤_, _+_, _/_, _%_}
-use native.Mathlib.Omega.{arith}
+use mathlib.Core.List.{List, [], _∷_}
+use Prim.Native.Nat.{ℕ, _+_, _/_, _%_}
 use denote.Ref.{now}
-use lib.ListN.{length}
+use lib.Seq.{sets}
 use Rattle.manual.specs.Memory.{entryOf, entryBytes}
-use Rattle.memory.specs.Block.{over, entered}
-use Rattle.memory.proofs.BlockLaws.{over-over}
+use Rattle.writing.proofs.PartlyWritten.{sets-append}
+use Rattle.memory.specs.Block.{entered}
 use borrow.Author.Needs.{needs}
 use Rattle.memory.proofs.enter.Statement.{statement}
 use Rattle.memory.proofs.enter.Tie as tie
@@ -37,13 +36,16 @@ same-length c = search needs
 
 returns : tie.Need-returns
 unfolding entered
-returns c = let m = now (c .before .before .before .before .before .before .before .before .before .before .before .before .before .before .args .memory) in
-    let frame = now (c .before .before .before .before .before .before .before .before .before .before .before .before .before .before .args .frame) in
-    let e = c .before .before .before .before .before .before .before .before .before .before .before .before .before .before .args .event .0 in
-    let head = e / 256 ∷ e % 256 ∷ c .before .before .before .before .before .before .before .before .before .before .before .before .before .before .args .count ∷ [] in
-    let h : c .before .before .before .before .before .before .before .before .before .before .before .start-of .result + 3 ≤ length m = omega (arith, c .before .before .before .before .before .before .before .before .before .before .before .start-of .ensures, c .before .before .before .before .before .before .before .before .before .before .before .before .before .before .pre .within) in
-    c .before .before .put2 .ensures ∙ ap (over (c .before .before .before .before .before .before .before .before .before .before .before .start-of .result + 3) frame) (c .before .before .before .before .before .before .put .ensures) ∙ over-over (c .before .before .before .before .before .before .before .before .before .before .before .start-of .result) head m h frame
-    ∙ ap (λ (k : ℕ). over k (entryBytes (entryOf e (c .before .before .before .before .before .before .before .before .before .before .before .before .before .before .args .count) frame)) m) (c .before .before .before .before .before .before .before .before .before .before .before .start-of .ensures)
+returns c =
+    let a = c .before .before .before .before .before .before .before .before .before .before .before .before .before .before .args in
+    let start-of = c .before .before .before .before .before .before .before .before .before .before .before .start-of in
+    let m = now (a .memory) in
+    let frame = now (a .frame) in
+    let e = a .event .0 in
+    c .before .before .put2 .ensures
+    ∙ ap (λ (l : List ℕ). sets l (start-of .result + 3) frame) (c .before .before .before .before .before .before .put .ensures)
+    ∙ sets-append (e / 256 ∷ e % 256 ∷ a .count ∷ []) frame m (start-of .result)
+    ∙ ap (λ (k : ℕ). sets m k (entryBytes (entryOf e (a .count) frame))) (start-of .ensures)
 
 pub enter-spec : {M : Type 1} → statement M
 enter-spec =

@@ -5,7 +5,7 @@ use native.Mathlib.Omega.{arith}
 use denote.Ref.{now}
 use lib.ListN.{length, getD, length-set}
 use Rattle.memory.specs.Block.{closed}
-use Rattle.memory.proofs.Mix.{mix, mix-more, mix-from, mix-later, mix-all}
+use Rattle.writing.proofs.PartlyWritten.{mix, mix-more, mix-from, mix-later, mix-all}
 use Rattle.memory.proofs.BlockLaws.{closed-length, closed-take, closed-after}
 use Rattle.memory.proofs.block.close.Statement.{statement}
 use Rattle.memory.proofs.block.close.Tie as tie

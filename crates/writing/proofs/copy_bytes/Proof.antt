@@ -1,0 +1,20 @@
+-- `copy_bytes` meets its contract.
+use mathlib.Core.Path.{_∙_}
+use Rattle.writing.proofs.PartlyWritten.{sets-laid}
+use borrow.Author.Needs.{needs}
+use Rattle.writing.proofs.copy_bytes.Statement.{statement}
+use Rattle.writing.proofs.copy_bytes.Tie as tie
+
+put-requires : tie.Need-put-requires
+put-requires c κs = search needs
+
+same-length : tie.Need-same-length
+same-length c = search needs
+
+returns : tie.Need-returns
+returns c =
+    let a = c .before .before .before .before .before .before .args in
+    c .before .before .put .ensures ∙ sets-laid (a .from .now) (a .to .now) (c .before .before .before .before .before .before .pre)
+
+pub copy-bytes-spec : {M : Type 1} → statement M
+copy-bytes-spec = tie.close (tie.spec put-requires same-length returns)
