@@ -1,4 +1,3 @@
-pub mod BelowLaws
 pub mod OneOutcomeOnly
 pub mod RepliesLaws
 pub mod RequestLaws

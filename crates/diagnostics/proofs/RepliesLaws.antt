@@ -17,13 +17,13 @@ use Rattle.manual.specs.State.{State}
 use Rattle.manual.specs.Answers.{lentRoom, Outcome}
 use Rattle.manual.specs.Diagnostics.{Reply, positive, negative, replyBytes, SubFunction, subFunction, fitted, line, lines, maskOf, numberByMask, listByMask, listAll, subFunctions, suppresses, subFunctionReply, service19, sent}
 use Rattle.manual.proofs.ConfigurationLaws.{config-tells}
+use Rattle.manual.proofs.BelowLaws.{count-most, join-length}
 use Rattle.writing.specs.Writing.{written, append}
 use Rattle.diagnostics.specs.declared.Asked.{Asked}
 use Rattle.diagnostics.specs.declared.Asked.the-variants.{All, Matching}
 use Rattle.diagnostics.specs.declared.Turn.{Turn}
 use Rattle.diagnostics.specs.declared.Turn.the-variants.{Write, Suppressed}
-use Rattle.diagnostics.specs.Replies.{holding, sentIs, asks, lineIfAsked, linesAsked, listing, Tests, turnIs, TurnBy}
-use Rattle.diagnostics.proofs.BelowLaws.{count-most, join-length}
+use Rattle.diagnostics.specs.Replies.{holding, sentIs, asks, linesAsked, listing, Tests, turnIs, TurnBy}
 
 -- ---- bytes written from the front of the room are sent
 
@@ -102,11 +102,7 @@ module _ (cfg : Configuration) (room : List ℕ) (s : State) where
 module _ (cfg : Configuration) where
   pub lines-length : (asked : Asked) (s : State) → length (linesAsked cfg asked s) ≡ 4 * countBelow (events cfg) (asks cfg asked s)
   unfolding lines
-  lines-length asked s = join-length (lineIfAsked cfg asked s) (asks cfg asked s) 4 (λ e. four (asks cfg asked s e) e) (events cfg)
-    where
-      four : (b : Bool) (e : ℕ) → length (cond b (line cfg s e) []) ≡ cond b 4 0
-      four true e = refl
-      four false e = refl
+  lines-length asked s = join-length (line cfg s) (asks cfg asked s) 4 (λ e. refl) (events cfg)
 
   pub number-most : configOk cfg ≡ true → (f : ℕ → Bool) {number : ℕ} → number ≡ countBelow (events cfg) f → number ≤ 512
   number-most ok f e = let t = config-tells cfg ok in omega (arith, count-most f (events cfg))

@@ -16,6 +16,7 @@ pub mod RecordsFollowHistories
 pub mod EventLoops
 pub mod EntriesInACallLaws
 pub mod RepliesLaws
+pub mod BelowLaws
 pub mod ListedRepliesLaws
 pub mod AnswerIsFirstThatApplies
 pub mod OneOutcomeOnly

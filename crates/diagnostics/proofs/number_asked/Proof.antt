@@ -3,8 +3,8 @@ use Prim.Native.Nat.{_-_, _≤_}
 use native.Mathlib.Omega.{arith}
 use Rattle.manual.specs.Words.{countBelow}
 use Rattle.manual.proofs.ConfigurationLaws.{config-tells}
+use Rattle.manual.proofs.BelowLaws.{count-none, count-more, count-most}
 use Rattle.diagnostics.specs.Replies.{holding, asks}
-use Rattle.diagnostics.proofs.BelowLaws.{count-none, count-more, count-most}
 use Rattle.diagnostics.proofs.number_asked.Statement.{statement}
 use Rattle.diagnostics.proofs.number_asked.Tie as tie
 

@@ -4,10 +4,10 @@ use native.Mathlib.Omega.{arith}
 use lib.ListN.{length}
 use Rattle.manual.specs.Words.{joinBelow}
 use Rattle.manual.specs.Diagnostics.{lines}
+use Rattle.manual.proofs.BelowLaws.{join-none, join-more, join-within}
 use Rattle.writing.specs.Writing.{written, append}
 use Rattle.writing.proofs.WritingLaws.{append-none, append-then, append-next}
 use Rattle.diagnostics.specs.Replies.{holding, lineIfAsked}
-use Rattle.diagnostics.proofs.BelowLaws.{join-none, join-more, join-within}
 use Rattle.diagnostics.proofs.write_lines.Statement.{statement}
 use Rattle.diagnostics.proofs.write_lines.Tie as tie
 

@@ -1,14 +1,17 @@
--- Laws of the manual's words on the numbers below n: how many pass, and their lists one after the other.
-use mathlib.Core.Path.{_≡_, refl}
+-- Laws of the words on the numbers below n: how many pass, and their lists one after the other.
+use mathlib.Core.Path.{_≡_, refl, sym, ap, _∙_}
 use mathlib.Core.Logic.{⊎-elim}
-use mathlib.Core.Bool.{Bool, true, false, cond}
+use mathlib.Core.Bool.{Bool, cond}
 use mathlib.Core.List.{List, [], _++_}
 use Prim.Native.Nat.{ℕ, zero, suc, _+_, _*_, _≤_, _<_}
 use native.Mathlib.Nat.{eq-or-lt-of-le, le-of-suc-le-suc, not-suc-le-zero}
 use native.Mathlib.Numerals.{add-one}
 use native.Mathlib.Omega.{arith}
 use lib.ListN.{length, length-append}
 use Rattle.manual.specs.Words.{countBelow, joinBelow}
+use Rattle.manual.specs.Replies.{rising}
+use Rattle.manual.proofs.WordsLaws.{those-le}
+use Rattle.manual.proofs.RepliesLaws.{count-is, join-is, rising-length, flat-length}
 
 -- ---- how many pass
 
@@ -22,13 +25,7 @@ module _ (f : ℕ → Bool) where
   count-more n = rw (add-one, add-one)
 
   pub count-most : (n : ℕ) → countBelow n f ≤ n
-  unfolding countBelow
-  count-most zero = omega arith
-  count-most (suc n) = go (f n) (count-most n)
-    where
-      go : (b : Bool) → countBelow n f ≤ n → cond b (suc (countBelow n f)) (countBelow n f) ≤ suc n
-      go true h = omega arith
-      go false h = omega arith
+  count-most n = omega (arith, count-is f n, those-le f (rising n), rising-length n)
 
 -- ---- their lists one after the other
 
@@ -50,12 +47,8 @@ module _ (f : ℕ → List ℕ) where
       (⊎-elim (λ q. rw q (omega arith)) (λ l. let i = join-within n e l in omega arith)
       (eq-or-lt-of-le (le-of-suc-le-suc h)))
 
-  -- lists of one length, of those that pass
-  pub join-length : (p : ℕ → Bool) (w : ℕ) → ((e : ℕ) → length (f e) ≡ cond (p e) w 0) → (n : ℕ) → length (joinBelow n f) ≡ w * countBelow n p
-  unfolding joinBelow countBelow
-  join-length p w h zero = omega arith
-  join-length p w h (suc n) = rw (length-append, join-length p w h n, h n) (go (p n) (countBelow n p))
-    where
-      go : (b : Bool) (k : ℕ) → w * k + cond b w 0 ≡ w * cond b (suc k) k
-      go true k = omega arith
-      go false k = omega arith
+  -- those of the numbers that pass, if they are of one length
+  pub join-length : (p : ℕ → Bool) (w : ℕ) → ((e : ℕ) → length (f e) ≡ w)
+      → (n : ℕ) → length (joinBelow n (λ e. cond (p e) (f e) [])) ≡ w * countBelow n p
+  join-length p w each n =
+      ap length (join-is p f n) ∙ flat-length f w each _ ∙ ap (λ (k : ℕ). w * k) (sym (count-is p n))
