@@ -1,4 +1,5 @@
-// Runs the leaves of the manager on cases whose answers are written from document 01, and prints how many ran and how many differed.
+// Runs the leaves of the manager on cases whose answers are written from document 01, and prints each case that differs, by its table
+// and its line there, and how many ran and how many differed.
 use config::CodeSearch;
 use config::Limits;
 use debounce::Debounced;
@@ -19,9 +20,11 @@ mod tables;
 
 // ---- counting
 
+// The cases that ran and that differed, and the line of the last one in its table: each table has a line for each case.
 struct Tally {
     ran: u32,
     differed: u32,
+    line: u32,
 }
 
 // A count and one more; a million is enough for any table.
@@ -37,6 +40,7 @@ fn counted(tally: Tally, agrees: bool) -> Tally {
         } else {
             one_more(tally.differed)
         },
+        line: one_more(tally.line),
     }
 }
 
@@ -457,6 +461,43 @@ fn agrees(cases: Cases, table: &[i32], at: usize) -> bool {
     }
 }
 
+fn say(words: &[u8]) {
+    io::write_all(1, words);
+}
+
+// The table's name in tables.rt.
+fn say_table(cases: Cases) {
+    match cases {
+        Cases::Bounds => say(b"BOUNDS"),
+        Cases::Lengths => say(b"LENGTHS"),
+        Cases::Codes => say(b"CODES"),
+        Cases::Searches => say(b"SEARCHES"),
+        Cases::Reports => say(b"REPORTS"),
+        Cases::Ticks => say(b"TICKS"),
+        Cases::Story => say(b"STORY"),
+        Cases::Steps => say(b"STEPS"),
+        Cases::Records => say(b"RECORDS"),
+    }
+}
+
+// A case that differs, by its table and its line there.
+fn say_case(cases: Cases, line: u32) {
+    say_table(cases);
+    say(b": case ");
+    io::print_decimal(1, line as u64);
+    say(b" differs\n");
+}
+
+// Runs the case at a place, and says so where it differs.
+fn run_case(tally: Tally, cases: Cases, table: &[i32], at: usize) -> Tally {
+    let same = agrees(cases, table, at);
+    let after = counted(tally, same);
+    if !same {
+        say_case(cases, after.line);
+    }
+    after
+}
+
 fn smaller(a: usize, b: usize) -> usize
     ensures { λ r. ⌜ r ≡ min a b ⌝ }
 {
@@ -470,7 +511,7 @@ fn run_all(tally: Tally, cases: Cases, table: &[i32], end: usize, width: usize) 
     let mut now = tally;
     let mut at = 0;
     while at < end {
-        now = counted(now, agrees(cases, table, at));
+        now = run_case(now, cases, table, at);
         at += smaller(width, end - at);
     }
     now
@@ -481,46 +522,51 @@ fn run(tally: Tally, cases: Cases, text: &[u8], width: usize) -> Tally
 {
     let mut table = [0; 1000];
     let end = read_numbers(text, &mut table);
-    run_all(tally, cases, &table, end, width)
+    let mut first = tally;
+    first.line = 0;
+    run_all(first, cases, &table, end, width)
 }
 
 fn none() -> Tally {
     Tally {
         ran: 0,
         differed: 0,
+        line: 0,
     }
 }
 
-fn print(tally: Tally) {
+fn print(group: &[u8], tally: Tally) {
+    say(group);
+    say(b": ");
     io::print_decimal(1, tally.ran as u64);
-    io::write_all(1, b" ran, ");
+    say(b" ran, ");
     io::print_decimal(1, tally.differed as u64);
-    io::write_all(1, b" differed\n");
+    say(b" differed\n");
 }
 
 fn configurations() {
     let tally = run(none(), Cases::Bounds, &tables::BOUNDS, 4);
     let tally = run(tally, Cases::Lengths, &tables::LENGTHS, 2);
-    io::write_all(1, b"configurations: ");
-    print(run(tally, Cases::Codes, &tables::CODES, 5));
+    let tally = run(tally, Cases::Codes, &tables::CODES, 5);
+    print(b"configurations", tally);
 }
 
 fn search() {
-    io::write_all(1, b"search: ");
-    print(run(none(), Cases::Searches, &tables::SEARCHES, 3));
+    let tally = run(none(), Cases::Searches, &tables::SEARCHES, 3);
+    print(b"search", tally);
 }
 
 fn debouncing() {
     let tally = run(none(), Cases::Reports, &tables::REPORTS, 10);
-    io::write_all(1, b"debouncing: ");
-    print(run(tally, Cases::Ticks, &tables::TICKS, 6));
+    let tally = run(tally, Cases::Ticks, &tables::TICKS, 6);
+    print(b"debouncing", tally);
 }
 
 fn status() {
     let tally = run(none(), Cases::Story, &tables::STORY, 6);
     let tally = run(tally, Cases::Steps, &tables::STEPS, 14);
-    io::write_all(1, b"status: ");
-    print(run(tally, Cases::Records, &tables::RECORDS, 8));
+    let tally = run(tally, Cases::Records, &tables::RECORDS, 8);
+    print(b"status", tally);
 }
 
 fn main() {
