@@ -1,6 +1,7 @@
 //! One call with its arguments, what it answers, and how the reference takes it.
 
 use crate::reference::{self, State, Verdict, DONE};
+use crate::tally::first_difference;
 use std::fmt;
 
 #[derive(Clone, PartialEq, Eq, Debug)]
@@ -133,6 +134,25 @@ impl Call {
                 length(reference::request(config, state, request, room))
             }
         }
+    }
+}
+
+/// "The stored frame is read as a part of the caller's own memory block": the bytes
+/// where the answer says that the frame stands, against those of the event's entry.
+pub fn frame_difference(
+    config: &[i32],
+    state: &State,
+    call: &Call,
+    got: &Outcome,
+    memory: &[u8],
+) -> Option<String> {
+    let (Call::ReadFrame { event }, Values::Frame { start, length }) = (call, got.values) else {
+        return None;
+    };
+    let wanted = reference::stored_frame(config, state, *event);
+    match memory.get(start..start.saturating_add(length)) {
+        Some(found) => first_difference("frame", found, wanted),
+        None => Some("the frame is outside the memory block".to_string()),
     }
 }
 

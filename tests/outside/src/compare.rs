@@ -1,6 +1,6 @@
 //! Makes one call on both sides and compares every byte that was lent.
 
-use crate::call::{Call, Outcome, Values};
+use crate::call::{frame_difference, Call, Outcome, Values};
 use crate::door::{self, Lent};
 use crate::reference::{self, State, DONE};
 use crate::tally::{first_difference, Tally};
@@ -240,7 +240,8 @@ impl Comparison {
         };
         let difference = difference
             .or_else(|| board_difference(handed_back, board))
-            .or_else(|| self.loan.first_difference(state, &self.room));
+            .or_else(|| self.loan.first_difference(state, &self.room))
+            .or_else(|| frame_difference(config, state, call, &got, self.loan.memory.part()));
         self.tell(config, call, got, wanted, difference);
         wanted
     }

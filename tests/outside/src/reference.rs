@@ -685,6 +685,15 @@ pub fn read_frame(config: &[i32], state: &State, event: usize) -> Result<(usize,
     }
 }
 
+/// The stored frame's bytes, by the event's entry and not by a place; empty where the call is refused.
+pub fn stored_frame<'a>(config: &[i32], state: &'a State, event: usize) -> &'a [u8] {
+    let Ok(config) = judge(config, state) else {
+        return &[];
+    };
+    let own = entries(&config, &state.memory).find(|entry| event_in(entry) == event);
+    own.map_or(&[], |entry| &entry[3..])
+}
+
 /// The image's bytes before its bodies, for this many entries.
 pub fn image_head(config: &Configuration, entries: usize) -> [u8; IMAGE_HEAD] {
     let mut head = [0; IMAGE_HEAD];

@@ -1,6 +1,6 @@
 //! Runs calls.txt: every call with the blocks lent to it and what must come back.
 
-use crate::call::{Call, Outcome, Values};
+use crate::call::{frame_difference, Call, Outcome, Values};
 #[cfg(feature = "door")]
 use crate::compare::{as_bytes, as_flags, board_difference, Loan};
 use crate::reference::{self, Board, Configuration, State};
@@ -45,6 +45,9 @@ impl Case {
             .or_else(|| first_difference("records", &after.records, &self.after.records))
             .or_else(|| first_difference("debounce", &after.debounce, &self.after.debounce))
             .or_else(|| first_difference("memory", &after.memory, &self.after.memory))
+            .or_else(|| {
+                frame_difference(&self.config, &self.before, &self.call, got, &after.memory)
+            })
     }
 }
 
