@@ -1,4 +1,5 @@
-// Runs the case files through the eleven calls, and prints for each file how many calls ran and how many differed.
+// Runs the case files through the eleven calls, and prints the file and the line of each case that differs, and for each file how many
+// calls ran and how many differed.
 //
 // A line of a case file begins with
 //   config  a new story: the fresh state under this configuration
@@ -18,33 +19,41 @@ ghost use Prim.Native.Nat.{_≤_};
 
 mod text;
 
-type Line = [u8; 32768];
-
-type Numbers = [i32; 6720];
-
-type Records = [u8; 2112];
-
-type Debounce = [i32; 528];
-
-type Memory = [u8; 2304];
-
-// A story so far: how much of each block is lent, the board, and what was counted.
-struct Story {
+// How much of each block is lent, and the board.
+struct Lent {
     config: usize,
-    // the configuration of the next call, where it is lent one of its own
-    other: usize,
-    is_other: bool,
     records: usize,
     debounce: usize,
     memory: usize,
     board: Board,
-    // whether the blocks are still to be compared, after a call or after the first fresh
+}
+
+// The last case: whether its blocks are still to be compared, whether it is a call or the first fresh state, whether its answer agrees,
+// and its line.
+struct Case {
     open: bool,
     is_call: bool,
     agrees: bool,
+    line: u32,
+}
+
+// The calls that ran, the cases that differed, and the line of the one that was last found to differ, 0 where it was told.
+struct Tally {
     ran: u32,
     differed: u32,
-    // whether the file is at its end
+    line: u32,
+}
+
+// A story so far.
+struct Story {
+    lent: Lent,
+    // the configuration of the next call, where it is lent one of its own
+    other: usize,
+    is_other: bool,
+    case: Case,
+    tally: Tally,
+    // the line that was read last, and whether the file is at its end
+    line: u32,
     ended: bool,
 }
 
@@ -55,18 +64,28 @@ struct Given {
 }
 
 enum Call {
-    Fresh,
     Report,
+    Diagnose,
+    Reads(Reading),
+    Writes(Plain),
+    Unknown,
+}
+
+// The calls that only read.
+enum Reading {
+    ReadStatus,
+    ReadFrame,
+    Save,
+}
+
+// The calls that answer a number alone.
+enum Plain {
+    Fresh,
     Tick,
     Start,
     Stop,
     Clear,
-    ReadStatus,
-    ReadFrame,
-    Save,
     Restore,
-    Diagnose,
-    Unknown,
 }
 
 // The next byte of a file.
@@ -99,8 +118,8 @@ fn read_byte(fd: i32) -> Next {
 }
 
 // The next line with its newline, at the front; its length, 0 at the end of the file.
-fn read_line(fd: i32, line: &mut Line) -> usize {
-    for i in 0..32768 {
+fn read_line(fd: i32, line: &mut [u8]) -> usize {
+    for i in 0..line.len() {
         let Next::Byte(byte) = read_byte(fd) else {
             return i;
         };
@@ -109,7 +128,7 @@ fn read_line(fd: i32, line: &mut Line) -> usize {
             return i + 1;
         }
     }
-    32768
+    line.len()
 }
 
 // Puts a line at the front, and 0 behind it.
@@ -171,7 +190,7 @@ fn same_value(says: &[u8], k: usize, value: u64) -> bool {
 }
 
 fn same_number(says: &[u8], number: u8) -> bool {
-    same_value(says, 1, number as u64)
+    text::stands(says, 0, b"< ") & same_value(says, 1, number as u64)
 }
 
 fn same_verdict(says: &[u8], verdict: Verdict) -> bool {
@@ -232,19 +251,11 @@ fn run_report(
     debounce: &mut [i32],
     memory: &mut [u8],
     board: Board,
+    frame: &[u8],
 ) -> Given {
-    let mut bytes = [0u8; 8192];
-    let size = text::read_bytes(line, text::word(line, 4), &mut bytes);
-    let returned = reporting::report(
-        cfg,
-        records,
-        debounce,
-        memory,
-        board,
-        event_of(line),
-        number_of(line, 3),
-        &bytes[..size],
-    );
+    let event = event_of(line);
+    let code = number_of(line, 3);
+    let returned = reporting::report(cfg, records, debounce, memory, board, event, code, frame);
     let answer = returned.answer;
     let after = returned.board;
     Given {
@@ -252,33 +263,6 @@ fn run_report(
             & same_verdict(says, answers::report_verdict(answer)),
         board: after,
     }
-}
-
-fn tick(
-    line: &[u8],
-    cfg: &[i32],
-    records: &mut [u8],
-    debounce: &mut [i32],
-    memory: &mut [u8],
-    board: Board,
-) -> Returned {
-    let mut bytes = [0u8; 8192];
-    let size = text::read_bytes(line, text::word(line, 3), &mut bytes);
-    let ms = number_of(line, 2);
-    reporting::tick(cfg, records, debounce, memory, board, ms, &bytes[..size])
-}
-
-fn restore(
-    line: &[u8],
-    cfg: &[i32],
-    records: &mut [u8],
-    debounce: &mut [i32],
-    memory: &mut [u8],
-    board: Board,
-) -> Returned {
-    let mut bytes = [0u8; 8192];
-    let size = text::read_bytes(line, text::word(line, 2), &mut bytes);
-    image::restore(cfg, records, debounce, memory, board, &bytes[..size])
 }
 
 fn run_read_status(
@@ -364,19 +348,34 @@ fn run_save(
     )
 }
 
-fn diagnose_into(
+// The calls that only read.
+fn run_reading(
+    call: Reading,
     line: &[u8],
+    says: &[u8],
+    cfg: &[i32],
+    records: &[u8],
+    debounce: &[i32],
+    memory: &[u8],
+    board: Board,
+) -> Given {
+    match call {
+        Reading::ReadStatus => run_read_status(line, says, cfg, records, debounce, memory, board),
+        Reading::ReadFrame => run_read_frame(line, says, cfg, records, debounce, memory, board),
+        Reading::Save => run_save(line, says, cfg, records, debounce, memory, board),
+    }
+}
+
+fn diagnose_into(
     says: &[u8],
     cfg: &[i32],
     records: &mut [u8],
     debounce: &mut [i32],
     memory: &mut [u8],
     board: Board,
+    request: &[u8],
     room: &mut [u8],
 ) -> Given {
-    let mut bytes = [0u8; 8192];
-    let size = text::read_bytes(line, text::word(line, 2), &mut bytes);
-    let request = &bytes[..size];
     let returned = diagnostics::request(cfg, records, debounce, memory, board, request, room);
     let answer = returned.answer;
     let after = returned.board;
@@ -394,56 +393,44 @@ fn run_diagnose(
     debounce: &mut [i32],
     memory: &mut [u8],
     board: Board,
+    request: &[u8],
 ) -> Given {
     let mut room = [0xA5u8; 8192];
     let size = text::most_bytes(room_of(line, 3), &room);
     diagnose_into(
-        line,
         says,
         cfg,
         records,
         debounce,
         memory,
         board,
+        request,
         &mut room[..size],
     )
 }
 
-// The calls that answer a number alone. A call of any other name differs.
 fn run_plain(
-    call: Call,
+    call: Plain,
     line: &[u8],
-    says: &[u8],
     cfg: &[i32],
     records: &mut [u8],
     debounce: &mut [i32],
     memory: &mut [u8],
     board: Board,
-) -> Given {
+    bytes: &[u8],
+) -> Returned {
     let k = number_of(line, 2);
     match call {
-        Call::Fresh => checked(
-            says,
-            fresh_state::fresh(cfg, records, debounce, memory, board),
-        ),
-        Call::Tick => checked(says, tick(line, cfg, records, debounce, memory, board)),
-        Call::Start => checked(
-            says,
-            cycles::start(cfg, records, debounce, memory, board, k),
-        ),
-        Call::Stop => checked(says, cycles::stop(cfg, records, debounce, memory, board, k)),
-        Call::Clear => checked(
-            says,
-            clearing::clear(cfg, records, debounce, memory, board, k),
-        ),
-        Call::Restore => checked(says, restore(line, cfg, records, debounce, memory, board)),
-        _ => Given {
-            agrees: false,
-            board,
-        },
+        Plain::Fresh => fresh_state::fresh(cfg, records, debounce, memory, board),
+        Plain::Tick => reporting::tick(cfg, records, debounce, memory, board, k, bytes),
+        Plain::Start => cycles::start(cfg, records, debounce, memory, board, k),
+        Plain::Stop => cycles::stop(cfg, records, debounce, memory, board, k),
+        Plain::Clear => clearing::clear(cfg, records, debounce, memory, board, k),
+        Plain::Restore => image::restore(cfg, records, debounce, memory, board, bytes),
     }
 }
 
+// Runs a call; the bytes are its frame, image or request.
 fn run_call(
     call: Call,
     line: &[u8],
@@ -453,35 +440,43 @@ fn run_call(
     debounce: &mut [i32],
     memory: &mut [u8],
     board: Board,
+    bytes: &[u8],
 ) -> Given {
     match call {
-        Call::Report => run_report(line, says, cfg, records, debounce, memory, board),
-        Call::ReadStatus => run_read_status(line, says, cfg, records, debounce, memory, board),
-        Call::ReadFrame => run_read_frame(line, says, cfg, records, debounce, memory, board),
-        Call::Save => run_save(line, says, cfg, records, debounce, memory, board),
-        Call::Diagnose => run_diagnose(line, says, cfg, records, debounce, memory, board),
-        _ => run_plain(call, line, says, cfg, records, debounce, memory, board),
+        Call::Report => run_report(line, says, cfg, records, debounce, memory, board, bytes),
+        Call::Diagnose => run_diagnose(line, says, cfg, records, debounce, memory, board, bytes),
+        Call::Reads(reading) => {
+            run_reading(reading, line, says, cfg, records, debounce, memory, board)
+        }
+        Call::Writes(plain) => checked(
+            says,
+            run_plain(plain, line, cfg, records, debounce, memory, board, bytes),
+        ),
+        Call::Unknown => Given {
+            agrees: false,
+            board,
+        },
     }
 }
 
-fn writing_call(line: &[u8]) -> Call {
+fn plain_call(line: &[u8]) -> Call {
     if text::stands(line, 2, b"fresh") {
-        return Call::Fresh;
+        return Call::Writes(Plain::Fresh);
     }
     if text::stands(line, 2, b"tick ") {
-        return Call::Tick;
+        return Call::Writes(Plain::Tick);
     }
     if text::stands(line, 2, b"start ") {
-        return Call::Start;
+        return Call::Writes(Plain::Start);
     }
     if text::stands(line, 2, b"stop ") {
-        return Call::Stop;
+        return Call::Writes(Plain::Stop);
     }
     if text::stands(line, 2, b"clear ") {
-        return Call::Clear;
+        return Call::Writes(Plain::Clear);
     }
     if text::stands(line, 2, b"restore ") {
-        return Call::Restore;
+        return Call::Writes(Plain::Restore);
     }
     Call::Unknown
 }
@@ -492,39 +487,41 @@ fn call_of(line: &[u8]) -> Call {
         return Call::Report;
     }
     if text::stands(line, 2, b"read_status ") {
-        return Call::ReadStatus;
+        return Call::Reads(Reading::ReadStatus);
     }
     if text::stands(line, 2, b"read_frame ") {
-        return Call::ReadFrame;
+        return Call::Reads(Reading::ReadFrame);
     }
     if text::stands(line, 2, b"save ") {
-        return Call::Save;
+        return Call::Reads(Reading::Save);
     }
     if text::stands(line, 2, b"diagnose ") {
         return Call::Diagnose;
     }
-    writing_call(line)
+    plain_call(line)
+}
+
+// The word that has such a call's frame or image; word 0, which has none, for a call that takes neither.
+fn plain_word(call: Plain) -> usize {
+    match call {
+        Plain::Tick => 3,
+        Plain::Restore => 2,
+        _ => 0,
+    }
+}
+
+// The word that has a call's bytes.
+fn bytes_word(call: Call) -> usize {
+    match call {
+        Call::Report => 4,
+        Call::Diagnose => 2,
+        Call::Reads(_) => 0,
+        Call::Writes(plain) => plain_word(plain),
+        Call::Unknown => 0,
+    }
 }
 
 // ---- lines
-
-fn begin() -> Story {
-    Story {
-        config: 0,
-        other: 0,
-        is_other: false,
-        records: 0,
-        debounce: 0,
-        memory: 0,
-        board: stopped(),
-        open: false,
-        is_call: false,
-        agrees: true,
-        ran: 0,
-        differed: 0,
-        ended: false,
-    }
-}
 
 fn stopped() -> Board {
     Board {
@@ -533,20 +530,71 @@ fn stopped() -> Board {
     }
 }
 
+fn nothing_lent() -> Lent {
+    Lent {
+        config: 0,
+        records: 0,
+        debounce: 0,
+        memory: 0,
+        board: stopped(),
+    }
+}
+
+fn no_case() -> Case {
+    Case {
+        open: false,
+        is_call: false,
+        agrees: true,
+        line: 0,
+    }
+}
+
+fn begin() -> Story {
+    Story {
+        lent: nothing_lent(),
+        other: 0,
+        is_other: false,
+        case: no_case(),
+        tally: Tally {
+            ran: 0,
+            differed: 0,
+            line: 0,
+        },
+        line: 0,
+        ended: false,
+    }
+}
+
+// Whether the blocks, as far as they are lent, are the awaited state.
+fn as_awaited(lent: Lent, want: &[u8], records: &[u8], debounce: &[i32], memory: &[u8]) -> bool {
+    let r = text::most_bytes(lent.records, records);
+    let d = text::most_numbers(lent.debounce, debounce);
+    let m = text::most_bytes(lent.memory, memory);
+    let board = lent.board;
+    same_state(want, &records[..r], &debounce[..d], &memory[..m], board)
+}
+
+fn counted(tally: Tally, case: Case, same: bool) -> Tally {
+    let agrees = same & case.agrees;
+    Tally {
+        ran: count_if(tally.ran, case.is_call),
+        differed: count_if(tally.differed, !agrees),
+        line: if agrees { tally.line } else { case.line },
+    }
+}
+
 // Compares the blocks with the awaited state, where that is still to be done, and counts.
 fn close(now: Story, want: &[u8], records: &[u8], debounce: &[i32], memory: &[u8]) -> Story {
-    if !now.open {
+    let case = now.case;
+    if !case.open {
         return now;
     }
-    let r = text::most_bytes(now.records, records);
-    let d = text::most_numbers(now.debounce, debounce);
-    let m = text::most_bytes(now.memory, memory);
-    let board = now.board;
-    let same = same_state(want, &records[..r], &debounce[..d], &memory[..m], board);
+    let lent = now.lent;
+    let same = as_awaited(lent, want, records, debounce, memory);
+    let tally = now.tally;
     let mut after = now;
-    after.open = false;
-    after.ran = count_if(now.ran, now.is_call);
-    after.differed = count_if(now.differed, !(same & now.agrees));
+    after.tally = counted(tally, case, same);
+    after.case = no_case();
     after
 }
 
@@ -558,7 +606,68 @@ fn length_at(line: &[u8], k: usize, most: usize) -> usize
     if n < most { n } else { most }
 }
 
-// The line that begins with config.
+// Runs the call of a line on the blocks, as far as they are lent.
+fn run_on(
+    lent: Lent,
+    line: &[u8],
+    says: &[u8],
+    cfg: &[i32],
+    records: &mut [u8],
+    debounce: &mut [i32],
+    memory: &mut [u8],
+) -> Given {
+    let call = call_of(line);
+    let mut bytes = [0u8; 8192];
+    let size = text::read_bytes(line, text::word(line, bytes_word(call)), &mut bytes);
+    let r = text::most_bytes(lent.records, records);
+    let d = text::most_numbers(lent.debounce, debounce);
+    let m = text::most_bytes(lent.memory, memory);
+    let board = lent.board;
+    run_call(
+        call,
+        line,
+        says,
+        cfg,
+        &mut records[..r],
+        &mut debounce[..d],
+        &mut memory[..m],
+        board,
+        &bytes[..size],
+    )
+}
+
+// The lengths that the line that begins with config asks for, with so many numbers in it.
+fn lengths(line: &[u8], config: usize) -> Lent {
+    let events = length_at(line, 1, 512);
+    let whole = memory::memory_length(length_at(line, 2, 64), length_at(line, 3, 32));
+    Lent {
+        config,
+        records: 4 * events,
+        debounce: events,
+        memory: whole,
+        board: stopped(),
+    }
+}
+
+// The story goes on after a case, with what it left.
+fn after_case(now: Story, lent: Lent, is_call: bool, given: Given) -> Story {
+    let case = Case {
+        open: true,
+        is_call,
+        agrees: given.agrees,
+        line: now.line,
+    };
+    let board = given.board;
+    let mut left = lent;
+    left.board = board;
+    let mut after = now;
+    after.lent = left;
+    after.is_other = false;
+    after.case = case;
+    after
+}
+
+// The line that begins with config: the fresh state in blocks of the lengths that it asks for.
 fn open_story(
     now: Story,
     line: &[u8],
@@ -567,32 +676,18 @@ fn open_story(
     debounce: &mut [i32],
     memory: &mut [u8],
 ) -> Story {
-    let events = length_at(line, 1, 512);
-    let r = text::most_bytes(4 * events, records);
-    let d = text::most_numbers(events, debounce);
-    let whole = memory::memory_length(length_at(line, 2, 64), length_at(line, 3, 32));
-    let m = text::most_bytes(whole, memory);
     let n = text::read_numbers(line, 7, b' ', cfg);
-    let returned = fresh_state::fresh(
+    let lent = lengths(line, n);
+    let given = run_on(
+        lent,
+        b"> fresh",
+        b"< 0",
         &cfg[..n],
-        &mut records[..r],
-        &mut debounce[..d],
-        &mut memory[..m],
-        stopped(),
+        records,
+        debounce,
+        memory,
     );
-    let answer = returned.answer;
-    let mut after = now;
-    after.config = n;
-    after.records = r;
-    after.debounce = d;
-    after.memory = m;
-    let board = returned.board;
-    after.board = board;
-    after.open = true;
-    after.is_call = false;
-    after.is_other = false;
-    after.agrees = answers::answer_number(answer) == 0;
-    after
+    after_case(now, lent, false, given)
 }
 
 // The line that begins with %.
@@ -603,12 +698,19 @@ fn lend_state(
     debounce: &mut [i32],
     memory: &mut [u8],
 ) -> Story {
+    let r = text::read_bytes(line, text::word(line, 1), records);
+    let d = text::read_numbers(line, text::word(line, 2), b',', debounce);
+    let m = text::read_bytes(line, text::word(line, 3), memory);
+    let before = now.lent;
+    let lent = Lent {
+        config: before.config,
+        records: r,
+        debounce: d,
+        memory: m,
+        board: read_board(line),
+    };
     let mut after = now;
-    after.records = text::read_bytes(line, text::word(line, 1), records);
-    after.debounce = text::read_numbers(line, text::word(line, 2), b',', debounce);
-    after.memory = text::read_bytes(line, text::word(line, 3), memory);
-    let board = read_board(line);
-    after.board = board;
+    after.lent = lent;
     after
 }
 
@@ -620,83 +722,77 @@ fn lend_config(now: Story, line: &[u8], other: &mut [i32]) -> Story {
     after
 }
 
+// The configuration of the next call: the story's, or the one that it is lent.
+fn lent_config<'a>(now: Story, cfg: &'a [i32], other: &'a [i32]) -> &'a [i32] {
+    if now.is_other {
+        let n = text::most_numbers(now.other, other);
+        return &other[..n];
+    }
+    let lent = now.lent;
+    let n = text::most_numbers(lent.config, cfg);
+    &cfg[..n]
+}
+
 // The line that begins with >, and the one behind it.
-fn run_case(
+fn run_case<'a>(
     now: Story,
     line: &[u8],
     says: &[u8],
-    cfg: &[i32],
+    cfg: &'a [i32],
+    other: &'a [i32],
     records: &mut [u8],
     debounce: &mut [i32],
     memory: &mut [u8],
 ) -> Story {
-    let r = text::most_bytes(now.records, records);
-    let d = text::most_numbers(now.debounce, debounce);
-    let m = text::most_bytes(now.memory, memory);
-    let board = now.board;
-    let given = run_call(
-        call_of(line),
-        line,
-        says,
-        cfg,
-        &mut records[..r],
-        &mut debounce[..d],
-        &mut memory[..m],
-        board,
-    );
-    let mut after = now;
-    let left = given.board;
-    after.board = left;
-    after.agrees = given.agrees & text::stands(says, 0, b"< ");
-    after.open = true;
-    after.is_call = true;
-    after.is_other = false;
+    let lent = now.lent;
+    let config = lent_config(now, cfg, other);
+    let given = run_on(lent, line, says, config, records, debounce, memory);
+    let mut after = after_case(now, lent, true, given);
+    after.line = one_more(now.line);
     after
 }
 
-// The same, under the story's configuration or the one that is lent.
-fn run_lent(
-    now: Story,
-    line: &[u8],
-    says: &[u8],
-    cfg: &[i32],
-    other: &[i32],
-    records: &mut [u8],
-    debounce: &mut [i32],
-    memory: &mut [u8],
-) -> Story {
-    if now.is_other {
-        let n = text::most_numbers(now.other, other);
-        run_case(now, line, says, &other[..n], records, debounce, memory)
-    } else {
-        let n = text::most_numbers(now.config, cfg);
-        run_case(now, line, says, &cfg[..n], records, debounce, memory)
-    }
-}
-
-// Any line but one that begins with =. What was open before it is compared now.
+// Any line but one that begins with =.
 fn take_other(
     now: Story,
     line: &[u8],
     says: &[u8],
-    want: &mut Line,
-    cfg: &mut Numbers,
-    other: &mut Numbers,
-    records: &mut Records,
-    debounce: &mut Debounce,
-    memory: &mut Memory,
+    cfg: &mut [i32],
+    other: &mut [i32],
+    records: &mut [u8],
+    debounce: &mut [i32],
+    memory: &mut [u8],
 ) -> Story {
-    let closed = close(now, want, records, debounce, memory);
     match text::byte_at(line, 0) {
-        b'c' => open_story(closed, line, cfg, records, debounce, memory),
-        b'~' => lend_config(closed, line, other),
-        b'%' => {
-            copy(line, want);
-            lend_state(closed, line, records, debounce, memory)
-        }
-        b'>' => run_lent(closed, line, says, cfg, other, records, debounce, memory),
-        _ => closed,
+        b'c' => open_story(now, line, cfg, records, debounce, memory),
+        b'~' => lend_config(now, line, other),
+        b'%' => lend_state(now, line, records, debounce, memory),
+        b'>' => run_case(now, line, says, cfg, other, records, debounce, memory),
+        _ => now,
     }
+}
+
+// One line more, none at the end of the file. What is open before it is compared now, but where it has the state that is awaited.
+fn settle(
+    now: Story,
+    line: &[u8],
+    want: &mut [u8],
+    records: &[u8],
+    debounce: &[i32],
+    memory: &[u8],
+) -> Story {
+    let mut next = now;
+    next.line = one_more(now.line);
+    next.ended = line.len() == 0;
+    if text::byte_at(line, 0) == b'=' {
+        copy(line, want);
+        return next;
+    }
+    let closed = close(next, want, records, debounce, memory);
+    if text::byte_at(line, 0) == b'%' {
+        copy(line, want);
+    }
+    closed
 }
 
 // A line of n bytes, and the k bytes of the answer behind it.
@@ -706,35 +802,31 @@ fn take_line(
     n: usize,
     says: &[u8],
     k: usize,
-    want: &mut Line,
-    cfg: &mut Numbers,
-    other: &mut Numbers,
-    records: &mut Records,
-    debounce: &mut Debounce,
-    memory: &mut Memory,
+    want: &mut [u8],
+    cfg: &mut [i32],
+    other: &mut [i32],
+    records: &mut [u8],
+    debounce: &mut [i32],
+    memory: &mut [u8],
 ) -> Story {
     let n = text::most_bytes(n, line);
     let k = text::most_bytes(k, says);
-    if text::byte_at(line, 0) == b'=' {
-        copy(&line[..n], want);
-        now
-    } else {
-        take_other(
-            now,
-            &line[..n],
-            &says[..k],
-            want,
-            cfg,
-            other,
-            records,
-            debounce,
-            memory,
-        )
-    }
+    let line = &line[..n];
+    let next = settle(now, line, want, records, debounce, memory);
+    take_other(
+        next,
+        line,
+        &says[..k],
+        cfg,
+        other,
+        records,
+        debounce,
+        memory,
+    )
 }
 
 // The line behind a call; of any other line, nothing.
-fn read_answer(fd: i32, line: &[u8], says: &mut Line) -> usize {
+fn read_answer(fd: i32, line: &[u8], says: &mut [u8]) -> usize {
     if text::byte_at(line, 0) == b'>' {
         read_line(fd, says)
     } else {
@@ -745,21 +837,16 @@ fn read_answer(fd: i32, line: &[u8], says: &mut Line) -> usize {
 fn next_line(
     now: Story,
     fd: i32,
-    line: &mut Line,
-    says: &mut Line,
-    want: &mut Line,
-    cfg: &mut Numbers,
-    other: &mut Numbers,
-    records: &mut Records,
-    debounce: &mut Debounce,
-    memory: &mut Memory,
+    line: &mut [u8; 32768],
+    says: &mut [u8; 32768],
+    want: &mut [u8; 32768],
+    cfg: &mut [i32; 6720],
+    other: &mut [i32; 6720],
+    records: &mut [u8; 2112],
+    debounce: &mut [i32; 528],
+    memory: &mut [u8; 2304],
 ) -> Story {
     let n = read_line(fd, line);
-    if n == 0 {
-        let mut end = close(now, want, records, debounce, memory);
-        end.ended = true;
-        return end;
-    }
     let k = read_answer(fd, line, says);
     take_line(
         now,
@@ -776,7 +863,24 @@ fn next_line(
     )
 }
 
-fn run_lines(fd: i32) -> Story {
+fn say(words: &[u8]) {
+    io::write_all(1, words);
+}
+
+// Says of a case that is found to differ where it stands, once.
+fn tell(name: &[u8], tally: Tally) -> Tally {
+    if 0 < tally.line {
+        say(name);
+        say(b":");
+        io::print_decimal(1, tally.line as u64);
+        say(b" differs\n");
+    }
+    let mut told = tally;
+    told.line = 0;
+    told
+}
+
+fn run_lines(name: &[u8], fd: i32) -> Tally {
     let mut line = [0u8; 32768];
     let mut says = [0u8; 32768];
     let mut want = [0u8; 32768];
@@ -799,27 +903,30 @@ fn run_lines(fd: i32) -> Story {
             &mut debounce,
             &mut memory,
         );
+        let tally = now.tally;
+        now.tally = tell(name, tally);
         if now.ended {
-            return now;
+            return now.tally;
         }
     }
-    now
+    now.tally
 }
 
 fn run_file(name: &[u8]) {
-    io::write_all(1, name);
     let fd = os::open_read(name);
     if fd < 0 {
-        io::write_all(1, b": cannot be read\n");
+        say(name);
+        say(b": cannot be read\n");
         return;
     }
-    let end = run_lines(fd);
+    let tally = run_lines(name, fd);
     libc::close(fd);
-    io::write_all(1, b": ");
-    io::print_decimal(1, end.ran as u64);
-    io::write_all(1, b" ran, ");
-    io::print_decimal(1, end.differed as u64);
-    io::write_all(1, b" differed\n");
+    say(name);
+    say(b": ");
+    io::print_decimal(1, tally.ran as u64);
+    say(b" ran, ");
+    io::print_decimal(1, tally.differed as u64);
+    say(b" differed\n");
 }
 
 fn main() {

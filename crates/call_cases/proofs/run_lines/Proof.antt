@@ -6,10 +6,10 @@ use Rattle.call_cases.proofs.run_lines.Statement.{statement}
 use Rattle.call_cases.proofs.run_lines.Tie as tie
 
 abbrev Inv-loop : tie.InvT-loop
-Inv-loop fd line₀ says₀ want₀ cfg₀ other₀ records₀ debounce₀ memory₀ now₀ counter₀ line says want cfg other records debounce memory now counter = 0 ≤ counter
+Inv-loop name fd line₀ says₀ want₀ cfg₀ other₀ records₀ debounce₀ memory₀ now₀ counter₀ line says want cfg other records debounce memory now counter = 0 ≤ counter
 
 abbrev μ-loop : tie.MeasureT-loop
-μ-loop fd line₀ says₀ want₀ cfg₀ other₀ records₀ debounce₀ memory₀ now₀ counter₀ line says want cfg other records debounce memory now counter = 1000000000 - counter
+μ-loop name fd line₀ says₀ want₀ cfg₀ other₀ records₀ debounce₀ memory₀ now₀ counter₀ line says want cfg other records debounce memory now counter = 1000000000 - counter
 
 begin-requires : tie.Need-begin-requires Inv-loop μ-loop
 begin-requires c κs = search needs
@@ -19,6 +19,9 @@ loop-holds c = omega arith
 
 next-line-requires : tie.Need-next-line-requires Inv-loop μ-loop
 next-line-requires c κs = search needs
+
+tell-requires : tie.Need-tell-requires Inv-loop μ-loop
+tell-requires c κs = search needs
 
 returns : tie.Need-returns Inv-loop μ-loop
 returns c = search needs
@@ -44,6 +47,7 @@ run-lines-spec =
     begin-requires
     loop-holds
     next-line-requires
+    tell-requires
     returns
     add-counter
     loop-less
