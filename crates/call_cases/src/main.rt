@@ -202,15 +202,19 @@ fn same_verdict(says: &[u8], verdict: Verdict) -> bool {
     }
 }
 
-// Whether the frame is the one that the line has as from:to.
-fn same_frame(says: &[u8], start: usize, length: usize) -> bool {
+// Whether the frame stands where the line has it as from:to, and the part has the bytes that stand there in the memory block.
+fn same_frame(says: &[u8], frame: FramePart, memory: &[u8], part: &[u8]) -> bool {
     let at = text::word(says, 2);
     let from = text::decimal(says, at);
     let to = text::decimal(says, text::behind(says, at, b':'));
     if to < from {
         return false;
     }
-    (from == start as u64) & (to - from == length as u64)
+    let length = to - from;
+    (frame.start as u64 == from)
+        & (frame.length as u64 == length)
+        & (part.len() as u64 == length)
+        & text::stands(memory, from as usize, part)
 }
 
 fn same_room(says: &[u8], answer: LengthAnswer, room: &[u8]) -> bool {
@@ -282,7 +286,7 @@ fn run_read_status(
     }
 }
 
-fn part_of(answer: FrameAnswer) -> FramePart {
+fn place_of(answer: FrameAnswer) -> FramePart {
     match answer {
         FrameAnswer::At(part) => part,
         FrameAnswer::Refused(_) => FramePart {
@@ -302,10 +306,10 @@ fn run_read_frame(
     board: Board,
 ) -> Given {
     let answer = reading::read_frame(cfg, records, debounce, memory, board, event_of(line));
-    let part = part_of(answer);
+    let part = reading::frame_part(memory, answer);
     Given {
         agrees: same_number(says, answers::frame_number(answer))
-            & same_frame(says, part.start, part.length),
+            & same_frame(says, place_of(answer), memory, part),
         board,
     }
 }
