@@ -11,10 +11,10 @@ fn main() {
     }
     let folder = archive_folder();
     println!("cargo:rustc-link-search=native={}", folder.display());
-    println!("cargo:rustc-link-lib=static=panel");
+    println!("cargo:rustc-link-lib=static=grelpicado");
     println!(
         "cargo:rerun-if-changed={}",
-        folder.join("libpanel.a").display()
+        folder.join("libgrelpicado.a").display()
     );
 }
 

@@ -278,7 +278,7 @@ fn run_read_status(
     memory: &[u8],
     board: Board,
 ) -> Given {
-    let answer = reading::read_status(cfg, records, debounce, memory, board, event_of(line));
+    let answer = queries::read_status(cfg, records, debounce, memory, board, event_of(line));
     Given {
         agrees: same_number(says, answers::status_number(answer))
             & same_value(says, 2, answers::status_byte(answer) as u64),
@@ -305,8 +305,8 @@ fn run_read_frame(
     memory: &[u8],
     board: Board,
 ) -> Given {
-    let answer = reading::read_frame(cfg, records, debounce, memory, board, event_of(line));
-    let part = reading::frame_part(memory, answer);
+    let answer = queries::read_frame(cfg, records, debounce, memory, board, event_of(line));
+    let part = queries::frame_part(memory, answer);
     Given {
         agrees: same_number(says, answers::frame_number(answer))
             & same_frame(says, place_of(answer), memory, part),

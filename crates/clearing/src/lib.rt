@@ -1,11 +1,11 @@
 // Document 01, "Clear, by one trouble code or FFFFFFh for all, in any cycle state".
 use config::CodeSearch;
+use judgement::Check;
 use manual::Answer;
 use manual::Board;
 use manual::EventNumber;
 use manual::Refusal;
 use manual::Returned;
-use state::Check;
 ghost use mathlib.Core.Path.{_≡_};
 ghost use mathlib.Core.Bool.{true};
 ghost use mathlib.Core.List.{List, [], _∷_};
@@ -16,7 +16,7 @@ ghost use Rattle.manual.specs.State.{lent};
 ghost use Rattle.manual.specs.WellFormed.{wellFormed};
 ghost use Rattle.manual.specs.Answers.{alone, _if_, firstThatApplies, ofAnswer, leaves};
 ghost use Rattle.manual.specs.Calls.{covers, unknownCode, overflowCleared, cleared, clearRules, clearCode};
-ghost use Rattle.state.specs.Checks.{checkNumber};
+ghost use Rattle.judgement.specs.Checks.{checkNumber};
 ghost use Rattle.one_event.specs.Ready.{EventFits};
 ghost use Rattle.clearing.specs.Covered.{clearsCovered};
 
@@ -119,7 +119,7 @@ fn judge(
 ) -> Check
     ensures { λ r. ⌜ checkNumber r ≡ firstThatApplies (clearRules (now (cfg .entry)) code (lent (now (records .entry)) (now (debounce .entry)) (now (memory .entry)) board)) ⌝ }
 {
-    match state::begin(cfg, records, debounce, memory, board, true) {
+    match judgement::begin(cfg, records, debounce, memory, board, true) {
         Check::Go => judge_code(cfg, code),
         Check::Stop(refusal) => Check::Stop(refusal),
     }

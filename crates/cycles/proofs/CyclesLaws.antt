@@ -20,7 +20,7 @@ use Rattle.manual.proofs.AnswersLaws.{none-applies, goes-through, stops-with}
 use Rattle.manual.proofs.ConfigurationLaws.{config-tells}
 use Rattle.manual.proofs.WellFormedLaws.{state-tells}
 use Rattle.manual.proofs.StaysWellFormed.{stops-keep}
-use Rattle.state.specs.Fits.{RecordsFor}
+use Rattle.judgement.specs.Fits.{RecordsFor}
 use Rattle.one_event.specs.Ready.{EventFits}
 use Rattle.cycles.specs.Cycles.{fourFive, MayStop}
 use Rattle.one_event.proofs.TurnsLaws.{turn, ready-at-turn}

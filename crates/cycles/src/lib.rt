@@ -1,10 +1,10 @@
 // Document 01, "Status byte": the calls that start and stop a cycle.
+use judgement::Check;
 use manual::Answer;
 use manual::Board;
 use manual::EventNumber;
 use manual::Refusal;
 use manual::Returned;
-use state::Check;
 ghost use mathlib.Core.Path.{_≡_};
 ghost use mathlib.Core.Bool.{true, false, cond};
 ghost use mathlib.Core.List.{List, []};
@@ -18,8 +18,8 @@ ghost use Rattle.manual.specs.State.{recordWidth, lent, withCycle};
 ghost use Rattle.manual.specs.OneEvent.{happens, stops, forThose};
 ghost use Rattle.manual.specs.Answers.{alone, refused, done, firstThatApplies, numberOf, ofAnswer, leaves};
 ghost use Rattle.manual.specs.Calls.{begins, ofCycle, startCycle, stopCycle};
-ghost use Rattle.state.specs.Checks.{checkNumber};
-ghost use Rattle.state.specs.Fits.{RecordsFor};
+ghost use Rattle.judgement.specs.Checks.{checkNumber};
+ghost use Rattle.judgement.specs.Fits.{RecordsFor};
 ghost use Rattle.one_event.specs.Ready.{EventFits};
 ghost use Rattle.cycles.specs.Cycles.{fourFive, MayStop};
 
@@ -53,7 +53,7 @@ fn judge(
 ) -> Check
     ensures { λ r. ⌜ checkNumber r ≡ firstThatApplies (begins (now (cfg .entry)) (lent (now (records .entry)) (now (debounce .entry)) (now (memory .entry)) board) true (fourFive (ltb 3 cycle) wrong)) ⌝ }
 {
-    match state::begin(cfg, records, debounce, memory, board, true) {
+    match judgement::begin(cfg, records, debounce, memory, board, true) {
         Check::Go => four_five(LAST_CYCLE < cycle, wrong),
         Check::Stop(refusal) => Check::Stop(refusal),
     }
@@ -136,7 +136,7 @@ pub fn start(
 ) -> Returned
     ensures { λ r. ⌜ leaves (ofAnswer (r .answer)) [] alone (lent (now (records .exit)) (now (debounce .entry)) (now (memory .entry)) (r .board)) ≡ startCycle (now (cfg .entry)) cycle alone (lent (now (records .entry)) (now (debounce .entry)) (now (memory .entry)) board) ⌝ }
 {
-    let wrong = state::runs(board, cycle as usize);
+    let wrong = judgement::runs(board, cycle as usize);
     match judge(cfg, records, debounce, memory, board, cycle, wrong) {
         Check::Go => done(accept_start(cfg, records, board, cycle as usize)),
         Check::Stop(refusal) => refused(refusal, board),
@@ -191,7 +191,7 @@ pub fn stop(
 ) -> Returned
     ensures { λ r. ⌜ leaves (ofAnswer (r .answer)) [] alone (lent (now (records .exit)) (now (debounce .exit)) (now (memory .exit)) (r .board)) ≡ stopCycle (now (cfg .entry)) cycle alone (lent (now (records .entry)) (now (debounce .entry)) (now (memory .entry)) board) ⌝ }
 {
-    let wrong = !state::runs(board, cycle as usize);
+    let wrong = !judgement::runs(board, cycle as usize);
     match judge(cfg, records, debounce, memory, board, cycle, wrong) {
         Check::Go => done(accept_stop(cfg, records, debounce, memory, board, cycle as usize)),
         Check::Stop(refusal) => refused(refusal, board),

@@ -1,9 +1,9 @@
 // Document 01, "Diagnostic requests".
+use judgement::Check;
 use manual::Board;
 use manual::EventNumber;
 use manual::LengthAnswer;
 use manual::Refusal;
-use state::Check;
 ghost use mathlib.Core.Path.{_≡_};
 ghost use mathlib.Core.Bool.{true, cond};
 ghost use mathlib.Core.List.{[], _∷_};
@@ -16,7 +16,7 @@ ghost use Rattle.manual.specs.State.{State, lent};
 ghost use Rattle.manual.specs.WellFormed.{wellFormed};
 ghost use Rattle.manual.specs.Answers.{lentRoom, _if_, firstThatApplies, ofLength, leaves};
 ghost use Rattle.manual.specs.Diagnostics.{negative, replyBytes, served, subFunction, line, maskOf, suppresses, numberByMask, listByMask, listAll, service19, service14, servedBy, sent, replied, requestRules, requestReply};
-ghost use Rattle.state.specs.Checks.{checkNumber};
+ghost use Rattle.judgement.specs.Checks.{checkNumber};
 ghost use Rattle.writing.specs.Writing.{written, append};
 ghost use Rattle.diagnostics.specs.Replies.{InStatesWith, holding, sentIs, asks, lineIfAsked, linesAsked, EventFits, BytesFit, Accepted, subFunctionOutcome, listing, TurnBy, clearRequestIs, serviceIs};
 
@@ -504,7 +504,7 @@ fn judge(
 ) -> Check
     ensures { λ r. ⌜ checkNumber r ≡ firstThatApplies (requestRules (now (cfg .entry)) (now (request .entry)) (lentRoom (now (room .entry))) (lent (now (records .entry)) (now (debounce .entry)) (now (memory .entry)) board)) ⌝ }
 {
-    match state::begin(cfg, records, debounce, memory, board, true) {
+    match judgement::begin(cfg, records, debounce, memory, board, true) {
         Check::Go => judge_sizes(request, room),
         Check::Stop(refusal) => Check::Stop(refusal),
     }

@@ -1,9 +1,9 @@
 // Document 01, "Fresh: status 50h, K = h = g = 0, D = 0, memory empty (all bytes 0), cycles stopped, overflow clear."
+use judgement::Check;
 use manual::Answer;
 use manual::Board;
 use manual::EventNumber;
 use manual::Returned;
-use state::Check;
 ghost use mathlib.Core.Path.{_≡_};
 ghost use mathlib.Core.Bool.{true};
 ghost use mathlib.Core.List.{[]};
@@ -93,7 +93,7 @@ pub fn fresh(
 ) -> Returned
     ensures { λ r. ⌜ leaves (ofAnswer (r .answer)) [] alone (lent (now (records .exit)) (now (debounce .exit)) (now (memory .exit)) (r .board)) ≡ fresh (now (cfg .entry)) alone (lent (now (records .entry)) (now (debounce .entry)) (now (memory .entry)) board) ⌝ }
 {
-    match state::begin_with_lengths(cfg, records, debounce, memory, true) {
+    match judgement::begin_with_lengths(cfg, records, debounce, memory, true) {
         Check::Go => {
             let after = make_fresh(cfg, records, debounce, memory);
             Returned {

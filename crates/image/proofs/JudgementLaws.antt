@@ -24,7 +24,7 @@ use Rattle.manual.proofs.AcceptedImages.{accepted-image, accepted-state}
 use Rattle.manual.proofs.WellFormedLaws.{lengths-told, state-tells, used-length}
 use Rattle.memory.specs.Judgement.{usedOk, blockOk}
 use Rattle.memory.proofs.JudgementLaws.{block-rest, count-in-front}
-use Rattle.state.proofs.WellFormedLaws.{recordsAre, numbersAre, judged-in-passes}
+use Rattle.judgement.proofs.WellFormedLaws.{recordsAre, numbersAre, judged-in-passes}
 use Rattle.image.specs.Layout.{memoryAt, lengthOk, bodiesOk}
 use Rattle.image.proofs.LayoutLaws.{joined, Fitting, records-in, rest-in, count-in, used-in, length-right, length-is, headerPart, usedPart, flagByte, parts-fit, parts-joined}
 

@@ -22,7 +22,7 @@ use Rattle.manual.specs.Calls.{beginsWithLengths}
 use Rattle.manual.specs.Image.{headerLength, stateOf, acceptable, recordsOf, restoreRules, restore}
 use Rattle.manual.proofs.AnswersLaws.{none-applies, goes-through}
 use Rattle.manual.proofs.WellFormedLaws.{lengths-tell}
-use Rattle.state.proofs.BeginLaws.{begun-with-lengths, after-lengths-go, after-lengths-stop}
+use Rattle.judgement.proofs.BeginLaws.{begun-with-lengths, after-lengths-go, after-lengths-stop}
 use Rattle.writing.specs.Writing as writing
 use Rattle.writing.specs.Writing.{written, append, filled}
 use Rattle.writing.proofs.WritingLaws.{append-filled}

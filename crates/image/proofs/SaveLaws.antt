@@ -23,7 +23,7 @@ use Rattle.manual.proofs.AnswersLaws.{none-applies, goes-through}
 use Rattle.manual.proofs.ConfigurationLaws.{config-tells}
 use Rattle.manual.proofs.WellFormedLaws.{state-tells}
 use Rattle.memory.proofs.JudgementLaws.{end-length}
-use Rattle.state.proofs.BeginLaws.{begun, after-go, after-stop}
+use Rattle.judgement.proofs.BeginLaws.{begun, after-go, after-stop}
 use Rattle.writing.specs.Writing as writing
 use Rattle.writing.specs.Writing.{written, append, filled}
 use Rattle.writing.proofs.WritingLaws.{append-then, append-filled}

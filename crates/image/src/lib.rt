@@ -1,10 +1,10 @@
 // Document 01, "Saved image": save and restore.
+use judgement::Check;
 use manual::Answer;
 use manual::Board;
 use manual::LengthAnswer;
 use manual::Refusal;
 use manual::Returned;
-use state::Check;
 ghost use mathlib.Core.Path.{_≡_};
 ghost use mathlib.Core.Bool.{Bool, true, cond};
 ghost use mathlib.Core.List.{List, [], _∷_, _++_};
@@ -18,8 +18,8 @@ ghost use Rattle.manual.specs.State.{lent};
 ghost use Rattle.manual.specs.Memory.{entryCount, bytesInUse};
 ghost use Rattle.manual.specs.Answers.{alone, lentRoom, _if_, firstThatApplies, ofAnswer, ofLength, leaves};
 ghost use Rattle.manual.specs.Image.{headerLength, header, imageFrom, imageOf, stateOf, acceptable, anyRuns, saveRules, save, restoreRules, restore};
-ghost use Rattle.state.specs.Checks.{checkNumber};
-ghost use Rattle.state.specs.Fits.{RecordsFor};
+ghost use Rattle.judgement.specs.Checks.{checkNumber};
+ghost use Rattle.judgement.specs.Fits.{RecordsFor};
 ghost use Rattle.writing.specs.Writing.{written, filled};
 ghost use Rattle.image.specs.Layout.{memoryAt, lengthOk, bodiesOk};
 ghost use Rattle.image.specs.Ready.{Counted, Savable, Restorable};
@@ -140,7 +140,7 @@ fn bodies_ok(cfg: &[i32], records: &[u8], used: &[u8]) -> bool
     let n = config::events(cfg);
     let m = config::places(cfg);
     let f = config::frame_bytes(cfg);
-    state::records_ok(cfg, records) & memory::entries_ok(n, m, f, used, records)
+    judgement::records_ok(cfg, records) & memory::entries_ok(n, m, f, used, records)
 }
 
 // "Restore accepts exactly the images of well-formed states with all cycles stopped". Any bytes may be judged, of any number.
@@ -202,7 +202,7 @@ fn judge_save(
     ensures { λ r. ⌜ checkNumber r
         ≡ firstThatApplies (saveRules (now (cfg .entry)) (lentRoom (now (room .entry))) (lent (now (records .entry)) (now (debounce .entry)) (now (memory .entry)) board)) ⌝ }
 {
-    match state::begin(cfg, records, debounce, memory, board, true) {
+    match judgement::begin(cfg, records, debounce, memory, board, true) {
         Check::Go => {
             let too_small = room.len() < image_length(cfg, records, memory);
             first_of(any_runs(board), too_small)
@@ -270,7 +270,7 @@ fn judge_restore(
     ensures { λ r. ⌜ ((b : Board) → checkNumber r
         ≡ firstThatApplies (restoreRules (now (cfg .entry)) (now (image .entry)) (lent (now (records .entry)) (now (debounce .entry)) (now (memory .entry)) b))) ⌝ }
 {
-    match state::begin_with_lengths(cfg, records, debounce, memory, true) {
+    match judgement::begin_with_lengths(cfg, records, debounce, memory, true) {
         Check::Go => {
             if image_ok(cfg, image) {
                 return Check::Go;

@@ -1,4 +1,5 @@
 // Document 01, "report" and "tick": the two calls that bring results to the events.
+use judgement::Check;
 use manual::Answer;
 use manual::Board;
 use manual::EventNumber;
@@ -6,7 +7,6 @@ use manual::Refusal;
 use manual::ReportAnswer;
 use manual::ReportReturned;
 use manual::Returned;
-use state::Check;
 ghost use mathlib.Core.Path.{_≡_};
 ghost use mathlib.Core.Bool.{true, _&&_, cond};
 ghost use mathlib.Core.List.{List, []};
@@ -19,7 +19,7 @@ ghost use Rattle.manual.specs.State.{lent};
 ghost use Rattle.manual.specs.Answers.{alone, refused, firstThatApplies, numberOf, ofAnswer, ofReport, leaves};
 ghost use Rattle.manual.specs.OneEvent.{forThose};
 ghost use Rattle.manual.specs.Calls.{wrongFrame, cycleRuns, reportRules, reportDone, report, tickRules, timeRuns, ticks, tick};
-ghost use Rattle.state.specs.Checks.{checkNumber};
+ghost use Rattle.judgement.specs.Checks.{checkNumber};
 ghost use Rattle.one_event.specs.Ready.{Ready};
 ghost use Rattle.reporting.specs.Accepted.{MayTick};
 ghost use Rattle.reporting.specs.Tests.{rowTests, reportTests, tickTests};
@@ -39,7 +39,7 @@ fn cycle_runs(cfg: &[i32], board: Board, event: EventNumber) -> bool
     requires { ⌜ event .0 < 512 ⌝ }
     ensures { λ r. ⌜ r ≡ cycleRuns (now (cfg .entry)) board (event .0) ⌝ }
 {
-    state::runs(board, config::cycle_of(cfg, event))
+    judgement::runs(board, config::cycle_of(cfg, event))
 }
 
 // ---- report
@@ -101,7 +101,7 @@ fn judge_report(
 ) -> Check
     ensures { λ r. ⌜ checkNumber r ≡ firstThatApplies (reportRules (now (cfg .entry)) (event .0) code (now (frame .entry)) (lent (now (records .entry)) (now (debounce .entry)) (now (memory .entry)) board)) ⌝ }
 {
-    match state::begin(cfg, records, debounce, memory, board, true) {
+    match judgement::begin(cfg, records, debounce, memory, board, true) {
         Check::Go => report_tests(cfg, board, event, code, frame),
         Check::Stop(r) => Check::Stop(r),
     }
@@ -187,7 +187,7 @@ fn judge_tick(
 ) -> Check
     ensures { λ r. ⌜ checkNumber r ≡ firstThatApplies (tickRules (now (cfg .entry)) ms (now (frame .entry)) (lent (now (records .entry)) (now (debounce .entry)) (now (memory .entry)) board)) ⌝ }
 {
-    match state::begin(cfg, records, debounce, memory, board, true) {
+    match judgement::begin(cfg, records, debounce, memory, board, true) {
         Check::Go => tick_tests(cfg, ms, frame),
         Check::Stop(r) => Check::Stop(r),
     }

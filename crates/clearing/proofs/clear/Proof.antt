@@ -1,7 +1,7 @@
 use mathlib.Core.Path.{refl, ap}
 use Rattle.manual.specs.Answers.{alone, done}
 use Rattle.manual.specs.Calls.{clearCode}
-use Rattle.state.proofs.JudgedLaws.{passed-by, accepted-by, refused-by}
+use Rattle.judgement.proofs.JudgedLaws.{passed-by, accepted-by, refused-by}
 use Rattle.clearing.proofs.ClearingLaws.{may-clear}
 use borrow.Author.Needs.{needs}
 use Rattle.clearing.proofs.clear.Statement.{statement}

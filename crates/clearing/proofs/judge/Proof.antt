@@ -1,6 +1,6 @@
 use mathlib.Core.Bool.{true}
 use Rattle.manual.specs.Calls.{clearRules}
-use Rattle.state.proofs.JudgedLaws.{begun-by, judged-by, stopped-by}
+use Rattle.judgement.proofs.JudgedLaws.{begun-by, judged-by, stopped-by}
 use borrow.Author.Needs.{needs}
 use Rattle.clearing.proofs.judge.Statement.{statement}
 use Rattle.clearing.proofs.judge.Tie as tie

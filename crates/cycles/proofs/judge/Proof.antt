@@ -1,6 +1,6 @@
 -- `judge` meets its contract.
 use mathlib.Core.Bool.{true}
-use Rattle.state.proofs.JudgedLaws.{judged-by, stopped-by}
+use Rattle.judgement.proofs.JudgedLaws.{judged-by, stopped-by}
 use borrow.Author.Needs.{needs}
 use Rattle.cycles.proofs.judge.Statement.{statement}
 use Rattle.cycles.proofs.judge.Tie as tie

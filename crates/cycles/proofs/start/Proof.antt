@@ -2,7 +2,7 @@
 use mathlib.Core.Path.{sym, ap, _∙_}
 use denote.Ref.{now}
 use Rattle.manual.specs.State.{lent}
-use Rattle.state.specs.Checks.{checkNumber}
+use Rattle.judgement.specs.Checks.{checkNumber}
 use Rattle.cycles.proofs.CyclesLaws.{may-start, start-done, start-refused}
 use borrow.Author.Needs.{needs}
 use Rattle.cycles.proofs.start.Statement.{statement}

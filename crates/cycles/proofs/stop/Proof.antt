@@ -3,7 +3,7 @@ use mathlib.Core.Path.{sym, ap, _∙_}
 use mathlib.Core.Bool.{not}
 use denote.Ref.{now}
 use Rattle.manual.specs.State.{lent}
-use Rattle.state.specs.Checks.{checkNumber}
+use Rattle.judgement.specs.Checks.{checkNumber}
 use Rattle.cycles.proofs.CyclesLaws.{may-stop, stop-done, stop-refused}
 use borrow.Author.Needs.{needs}
 use Rattle.cycles.proofs.stop.Statement.{statement}

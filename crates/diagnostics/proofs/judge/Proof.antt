@@ -1,6 +1,6 @@
 use mathlib.Core.Bool.{true}
 use Rattle.manual.specs.Diagnostics.{requestRules}
-use Rattle.state.proofs.JudgedLaws.{judged-by, stopped-by}
+use Rattle.judgement.proofs.JudgedLaws.{judged-by, stopped-by}
 use borrow.Author.Needs.{needs}
 use Rattle.diagnostics.proofs.judge.Statement.{statement}
 use Rattle.diagnostics.proofs.judge.Tie as tie

@@ -1,6 +1,6 @@
 use mathlib.Core.Path.{refl}
 use Rattle.manual.specs.Diagnostics.{requestReply}
-use Rattle.state.proofs.JudgedLaws.{passed-by, accepted-by, refused-by}
+use Rattle.judgement.proofs.JudgedLaws.{passed-by, accepted-by, refused-by}
 use Rattle.diagnostics.proofs.RequestLaws.{may-serve}
 use borrow.Author.Needs.{needs}
 use Rattle.diagnostics.proofs.request.Statement.{statement}

@@ -1,7 +1,7 @@
 use mathlib.Core.Bool.{true}
 use mathlib.Core.Path.{sym, ap, _∙_}
-use Rattle.state.specs.Checks.{checkNumber}
-use Rattle.state.proofs.BeginLaws.{begun-with-lengths}
+use Rattle.judgement.specs.Checks.{checkNumber}
+use Rattle.judgement.proofs.BeginLaws.{begun-with-lengths}
 use Rattle.fresh_state.proofs.FreshLaws.{fresh-done, fresh-refused}
 use borrow.Author.Needs.{needs}
 use Rattle.fresh_state.proofs.fresh.Statement.{statement}

@@ -4,7 +4,7 @@ use Rattle.manual.specs.declared.Board.{Board}
 use Rattle.manual.specs.State.{allStopped}
 use mathlib.Core.Path.{sym, ap, _∙_}
 use denote.Ref.{now}
-use Rattle.state.specs.Checks.{checkNumber}
+use Rattle.judgement.specs.Checks.{checkNumber}
 use Rattle.image.proofs.RestoreLaws.{begun-accepted, judged-go, judged-bad, judged-stop}
 use borrow.Author.Needs.{needs}
 use Rattle.image.proofs.judge_restore.Statement.{statement}

@@ -1,7 +1,7 @@
 -- `judge_save` meets its contract.
 use mathlib.Core.Path.{sym, ap, _∙_}
 use denote.Ref.{now}
-use Rattle.state.specs.Checks.{checkNumber}
+use Rattle.judgement.specs.Checks.{checkNumber}
 use Rattle.image.proofs.SaveLaws.{begun-savable, judged-on, judged-stop}
 use borrow.Author.Needs.{needs}
 use Rattle.image.proofs.judge_save.Statement.{statement}

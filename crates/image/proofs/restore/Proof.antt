@@ -1,6 +1,6 @@
 -- `restore` meets its contract.
 use mathlib.Core.Path.{sym, ap, _∙_}
-use Rattle.state.specs.Checks.{checkNumber}
+use Rattle.judgement.specs.Checks.{checkNumber}
 use Rattle.manual.specs.Image.{restore}
 use Rattle.manual.proofs.AnswersLaws.{stops-with}
 use Rattle.image.proofs.RestoreLaws.{restore-ready, restore-done}

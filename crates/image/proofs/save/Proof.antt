@@ -1,7 +1,7 @@
 -- `save` meets its contract.
 use mathlib.Core.Path.{sym, ap, _∙_}
 use denote.Ref.{now}
-use Rattle.state.specs.Checks.{checkNumber}
+use Rattle.judgement.specs.Checks.{checkNumber}
 use Rattle.manual.specs.Image.{save}
 use Rattle.manual.proofs.AnswersLaws.{stops-with}
 use Rattle.image.proofs.SaveLaws.{save-ready, save-room, save-done}

@@ -1,7 +1,7 @@
 -- `judge_report` meets its contract: 2 and 3 first.
 use mathlib.Core.Bool.{true}
 use Rattle.manual.specs.Calls.{reportRules}
-use Rattle.state.proofs.JudgedLaws.{begun-by, judged-by, stopped-by}
+use Rattle.judgement.proofs.JudgedLaws.{begun-by, judged-by, stopped-by}
 use borrow.Author.Needs.{needs}
 use Rattle.reporting.proofs.judge_report.Statement.{statement}
 use Rattle.reporting.proofs.judge_report.Tie as tie

@@ -1,7 +1,7 @@
 -- `judge_tick` meets its contract: 2 and 3 first.
 use mathlib.Core.Bool.{true}
 use Rattle.manual.specs.Calls.{tickRules}
-use Rattle.state.proofs.JudgedLaws.{judged-by, stopped-by}
+use Rattle.judgement.proofs.JudgedLaws.{judged-by, stopped-by}
 use borrow.Author.Needs.{needs}
 use Rattle.reporting.proofs.judge_tick.Statement.{statement}
 use Rattle.reporting.proofs.judge_tick.Tie as tie

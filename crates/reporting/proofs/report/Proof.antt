@@ -1,6 +1,6 @@
 -- `report` meets its contract: what passed the judge is accepted.
 use Rattle.manual.specs.Calls.{report}
-use Rattle.state.proofs.JudgedLaws.{passed-by, accepted-by, refused-by}
+use Rattle.judgement.proofs.JudgedLaws.{passed-by, accepted-by, refused-by}
 use Rattle.reporting.proofs.ReportLaws.{may-report}
 use borrow.Author.Needs.{needs}
 use Rattle.reporting.proofs.report.Statement.{statement}

@@ -2,7 +2,7 @@
 use mathlib.Core.Path.{ap}
 use Rattle.manual.specs.Answers.{alone, done}
 use Rattle.manual.specs.Calls.{tick}
-use Rattle.state.proofs.JudgedLaws.{passed-by, accepted-by, refused-by}
+use Rattle.judgement.proofs.JudgedLaws.{passed-by, accepted-by, refused-by}
 use Rattle.reporting.proofs.TickLaws.{may-tick}
 use borrow.Author.Needs.{needs}
 use Rattle.reporting.proofs.tick.Statement.{statement}

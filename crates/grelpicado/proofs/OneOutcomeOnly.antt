@@ -1,0 +1,131 @@
+-- The statement of each of the eleven calls allows one outcome only: one result, and of every block that the call may write one content,
+-- to the last byte.
+use mathlib.Core.Path.{_≡_, refl}
+use mathlib.Core.List.{List}
+use Prim.Native.Nat.{ℕ}
+use lib.IntN.{ℤ}
+use Rattle.manual.specs.Configuration.{Configuration}
+use Rattle.manual.specs.State.{State, lent}
+use Rattle.manual.specs.Answers.{lentRoom, alone}
+use Rattle.manual.specs.Calls.{fresh, report, tick, startCycle, stopCycle, clearCode, readStatus}
+use Rattle.manual.specs.Image.{save, restore}
+use Rattle.manual.specs.Diagnostics.{requestReply}
+use Rattle.manual.proofs.OneOutcomeOnly.{one-outcome}
+use Rattle.queries.specs.Reading.{frameRead}
+use Rattle.grelpicado.specs.declared.PanelBoard.{PanelBoard}
+use Rattle.grelpicado.specs.declared.PanelAnswer.{PanelAnswer}
+use Rattle.grelpicado.specs.declared.PanelReport.{PanelReport}
+use Rattle.grelpicado.specs.declared.PanelStatus.{PanelStatus}
+use Rattle.grelpicado.specs.declared.PanelFrame.{PanelFrame}
+use Rattle.grelpicado.specs.declared.PanelLength.{PanelLength}
+use Rattle.grelpicado.specs.declared.PanelRequest.{PanelRequest}
+use Rattle.grelpicado.specs.Panel.{boardOf, Crossing, crosses, crossesWithoutBoard, crossesWithFrame, withAnswer, withReport, withStatus, withFrame, withLength, withRequest}
+
+-- the blocks that cross
+same-blocks : {o y y′ : Crossing} → y ≡ o → y′ ≡ o → (y .records ≡ y′ .records) × ((y .debounce ≡ y′ .debounce) × (y .memory ≡ y′ .memory))
+same-blocks p q = (
+  one-outcome (λ (y : Crossing). y .records) refl refl p q,
+  (one-outcome (λ (y : Crossing). y .debounce) refl refl p q, one-outcome (λ (y : Crossing). y .memory) refl refl p q),
+)
+
+same-room : {o y y′ : Crossing} → y ≡ o → y′ ≡ o → y .room ≡ y′ .room
+same-room p q = one-outcome (λ (y : Crossing). y .room) refl refl p q
+
+abbrev answerIn : Crossing → PanelAnswer
+answerIn x = record { number = x .number; board = x .board }
+
+abbrev reportIn : Crossing → PanelReport
+reportIn x = record { number = x .number; verdict = x .verdict; board = x .board }
+
+abbrev statusIn : Crossing → PanelStatus
+statusIn x = record { number = x .number; status = x .value }
+
+abbrev frameIn : Crossing → PanelFrame
+frameIn x = record { number = x .number; start = x .start; length = x .value }
+
+abbrev lengthIn : Crossing → PanelLength
+lengthIn x = record { number = x .number; length = x .value }
+
+abbrev requestIn : Crossing → PanelRequest
+requestIn x = record { number = x .number; length = x .value; board = x .board }
+
+-- what a call is given: the blocks and the board
+module _ (cfg : Configuration) (records₀ : List ℕ) (debounce₀ : List ℤ) (memory₀ : List ℕ) (board : PanelBoard) where
+  abbrev given : State
+  given = lent records₀ debounce₀ memory₀ (boardOf board)
+
+  -- ---- calls that may write every block of the state, and hand back the board
+
+  module _ (records records′ : List ℕ) (debounce debounce′ : List ℤ) (memory memory′ : List ℕ) where
+    module _ (r r′ : PanelAnswer) where
+      pub one-fresh :
+          withAnswer records debounce memory r ≡ crosses (fresh cfg alone given) board
+          → withAnswer records′ debounce′ memory′ r′ ≡ crosses (fresh cfg alone given) board
+          → (r ≡ r′) × ((records ≡ records′) × ((debounce ≡ debounce′) × (memory ≡ memory′)))
+      one-fresh p q = (one-outcome answerIn refl refl p q, same-blocks p q)
+
+      pub one-tick : (ms : ℕ) (frame : List ℕ)
+          → withAnswer records debounce memory r ≡ crosses (tick cfg ms frame alone given) board
+          → withAnswer records′ debounce′ memory′ r′ ≡ crosses (tick cfg ms frame alone given) board
+          → (r ≡ r′) × ((records ≡ records′) × ((debounce ≡ debounce′) × (memory ≡ memory′)))
+      one-tick ms frame p q = (one-outcome answerIn refl refl p q, same-blocks p q)
+
+      pub one-stop : (cycle : ℕ)
+          → withAnswer records debounce memory r ≡ crosses (stopCycle cfg cycle alone given) board
+          → withAnswer records′ debounce′ memory′ r′ ≡ crosses (stopCycle cfg cycle alone given) board
+          → (r ≡ r′) × ((records ≡ records′) × ((debounce ≡ debounce′) × (memory ≡ memory′)))
+      one-stop cycle p q = (one-outcome answerIn refl refl p q, same-blocks p q)
+
+      pub one-clear : (code : ℕ)
+          → withAnswer records debounce memory r ≡ crosses (clearCode cfg code alone given) board
+          → withAnswer records′ debounce′ memory′ r′ ≡ crosses (clearCode cfg code alone given) board
+          → (r ≡ r′) × ((records ≡ records′) × ((debounce ≡ debounce′) × (memory ≡ memory′)))
+      one-clear code p q = (one-outcome answerIn refl refl p q, same-blocks p q)
+
+      pub one-restore : (image : List ℕ)
+          → withAnswer records debounce memory r ≡ crosses (restore cfg image alone given) board
+          → withAnswer records′ debounce′ memory′ r′ ≡ crosses (restore cfg image alone given) board
+          → (r ≡ r′) × ((records ≡ records′) × ((debounce ≡ debounce′) × (memory ≡ memory′)))
+      one-restore image p q = (one-outcome answerIn refl refl p q, same-blocks p q)
+
+    pub one-report : (event code : ℕ) (frame : List ℕ) (r r′ : PanelReport)
+        → withReport records debounce memory r ≡ crosses (report cfg event code frame alone given) board
+        → withReport records′ debounce′ memory′ r′ ≡ crosses (report cfg event code frame alone given) board
+        → (r ≡ r′) × ((records ≡ records′) × ((debounce ≡ debounce′) × (memory ≡ memory′)))
+    one-report event code frame r r′ p q = (one-outcome reportIn refl refl p q, same-blocks p q)
+
+    -- the room too
+    pub one-request : (request before room room′ : List ℕ) (r r′ : PanelRequest)
+        → withRequest records debounce memory room r ≡ crosses (requestReply cfg request (lentRoom before) given) board
+        → withRequest records′ debounce′ memory′ room′ r′ ≡ crosses (requestReply cfg request (lentRoom before) given) board
+        → (r ≡ r′) × (((records ≡ records′) × ((debounce ≡ debounce′) × (memory ≡ memory′))) × (room ≡ room′))
+    one-request request before room room′ r r′ p q = (one-outcome requestIn refl refl p q, (same-blocks p q, same-room p q))
+
+  -- ---- start may write the records alone
+
+  pub one-start : (cycle : ℕ) (records records′ : List ℕ) (r r′ : PanelAnswer)
+      → withAnswer records debounce₀ memory₀ r ≡ crosses (startCycle cfg cycle alone given) board
+      → withAnswer records′ debounce₀ memory₀ r′ ≡ crosses (startCycle cfg cycle alone given) board
+      → (r ≡ r′) × (records ≡ records′)
+  one-start cycle records records′ r r′ p q = (one-outcome answerIn refl refl p q, same-blocks p q .0)
+
+  -- ---- calls that may write no block of the state, and hand back no board
+
+  pub one-read-status : (event : ℕ) (r r′ : PanelStatus)
+      → withStatus records₀ debounce₀ memory₀ board r ≡ crossesWithoutBoard (readStatus cfg event alone given) board
+      → withStatus records₀ debounce₀ memory₀ board r′ ≡ crossesWithoutBoard (readStatus cfg event alone given) board
+      → r ≡ r′
+  one-read-status event r r′ p q = one-outcome statusIn refl refl p q
+
+  pub one-read-frame : (event : ℕ) (r r′ : PanelFrame)
+      → withFrame records₀ debounce₀ memory₀ board r ≡ crossesWithFrame (frameRead cfg event given) board
+      → withFrame records₀ debounce₀ memory₀ board r′ ≡ crossesWithFrame (frameRead cfg event given) board
+      → r ≡ r′
+  one-read-frame event r r′ p q = one-outcome frameIn refl refl p q
+
+  -- save writes the room
+  pub one-save : (before room room′ : List ℕ) (r r′ : PanelLength)
+      → withLength records₀ debounce₀ memory₀ room board r ≡ crossesWithoutBoard (save cfg (lentRoom before) given) board
+      → withLength records₀ debounce₀ memory₀ room′ board r′ ≡ crossesWithoutBoard (save cfg (lentRoom before) given) board
+      → (r ≡ r′) × (room ≡ room′)
+  one-save before room room′ r r′ p q = (one-outcome lengthIn refl refl p q, same-room p q)

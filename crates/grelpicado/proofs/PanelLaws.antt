@@ -1,0 +1,76 @@
+-- Laws of specs/Panel.antt: a call's answer and board, once in numbers and bytes, are what crosses.
+use mathlib.Core.Path.{_≡_, refl, ap, _∙_}
+use mathlib.Core.Bool.{cond}
+use mathlib.Core.List.{List, []}
+use Prim.Native.Nat.{ℕ}
+use lib.Dec.{eqb}
+use Rattle.manual.specs.declared.Answer.{Answer}
+use Rattle.manual.specs.declared.Answer.the-variants.{Done}
+use Rattle.manual.specs.declared.Board.{Board}
+use Rattle.manual.specs.declared.FrameAnswer.{FrameAnswer}
+use Rattle.manual.specs.declared.FrameAnswer.the-variants.{At}
+use Rattle.manual.specs.declared.LengthAnswer.{LengthAnswer}
+use Rattle.manual.specs.declared.LengthAnswer.the-variants.{Written}
+use Rattle.manual.specs.declared.ReportAnswer.{ReportAnswer}
+use Rattle.manual.specs.declared.ReportAnswer.the-variants.{Accepted}
+use Rattle.manual.specs.declared.StatusAnswer.{StatusAnswer}
+use Rattle.manual.specs.declared.StatusAnswer.the-variants.{Status}
+use Rattle.manual.specs.State.{State}
+use Rattle.manual.specs.Answers.{lentRoom, Answered, ofAnswer, ofReport, ofStatus, ofFrame, ofLength, leaves}
+use Rattle.queries.specs.Reading.{startIn, lengthIn, says}
+use Rattle.grelpicado.specs.declared.PanelBoard.{PanelBoard}
+use Rattle.grelpicado.specs.Panel.{boardOf, bytesOf, verdictNumber, Crossing, crosses, crossesWithoutBoard, crossesWithFrame, made}
+
+-- ---- what an answer does not have is 0
+
+pub answer-verdict : (a : Answer) → 0 ≡ verdictNumber (ofAnswer a .verdict)
+answer-verdict Done = refl
+answer-verdict (Answer.Refused r) = refl
+
+pub answer-value : (a : Answer) → 0 ≡ ofAnswer a .value
+answer-value Done = refl
+answer-value (Answer.Refused r) = refl
+
+pub report-value : (a : ReportAnswer) → 0 ≡ ofReport a .value
+report-value (Accepted v) = refl
+report-value (ReportAnswer.Refused r) = refl
+
+pub status-verdict : (a : StatusAnswer) → 0 ≡ verdictNumber (ofStatus a .verdict)
+status-verdict (Status byte) = refl
+status-verdict (StatusAnswer.Refused r) = refl
+
+pub frame-verdict : (a : FrameAnswer) → 0 ≡ verdictNumber (ofFrame a .verdict)
+frame-verdict (At part) = refl
+frame-verdict (FrameAnswer.Refused r) = refl
+
+pub length-verdict : (a : LengthAnswer) → 0 ≡ verdictNumber (ofLength a .verdict)
+length-verdict (Written length) = refl
+length-verdict (LengthAnswer.Refused r) = refl
+
+-- ---- an answer, as it crosses
+
+module _ (x : Answered) (room : List ℕ) (s : State) (found : PanelBoard) {n v k : ℕ} where
+  -- with the board that is handed back
+  pub crossed : {back : PanelBoard} → n ≡ x .number → v ≡ verdictNumber (x .verdict) → k ≡ x .value → back ≡ cond (eqb n 0) (bytesOf (s .board)) found
+      → made n v k 0 (s .records) (s .debounce) (s .memory) room back ≡ crosses (leaves x [] (lentRoom room) s) found
+  unfolding crosses
+  crossed number verdict value back =
+      let board = back ∙ ap (λ (m : ℕ). cond (eqb m 0) (bytesOf (s .board)) found) number in
+      λ i. made (number i) (verdict i) (value i) 0 (s .records) (s .debounce) (s .memory) room (board i)
+
+  -- with none
+  pub crossed-without-board : n ≡ x .number → v ≡ verdictNumber (x .verdict) → k ≡ x .value
+      → made n v k 0 (s .records) (s .debounce) (s .memory) room found ≡ crossesWithoutBoard (leaves x [] (lentRoom room) s) found
+  unfolding crossesWithoutBoard
+  crossed-without-board number verdict value = λ i. made (number i) (verdict i) (value i) 0 (s .records) (s .debounce) (s .memory) room found
+
+pub crossed-with-frame : (a : FrameAnswer) (s : State) (found : PanelBoard) {n start size : ℕ} → n ≡ ofFrame a .number → start ≡ startIn a → size ≡ lengthIn a
+    → made n 0 size start (s .records) (s .debounce) (s .memory) [] found ≡ crossesWithFrame (says a s) found
+unfolding crossesWithFrame
+crossed-with-frame a s found number start size = λ i. made (number i) (frame-verdict a i) (size i) (start i) (s .records) (s .debounce) (s .memory) [] found
+
+-- ---- a call made on the board that the bytes stand for
+
+pub through : {A : Type 0} (over : A → PanelBoard → Crossing) (call : Board → A) (found : PanelBoard) {x : Crossing} {o : A} {b : Board}
+    → x ≡ over o found → o ≡ call b → b ≡ boardOf found → x ≡ over (call (boardOf found)) found
+through over call found crossed made read = crossed ∙ ap (λ o. over o found) (made ∙ ap call read)

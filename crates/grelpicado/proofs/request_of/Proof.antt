@@ -1,0 +1,26 @@
+-- `request_of` meets its contract.
+use borrow.Author.Needs.{needs}
+use Rattle.manual.specs.State.{lent}
+use Rattle.manual.specs.Answers.{ofLength}
+use Rattle.grelpicado.proofs.PanelLaws.{length-verdict, crossed}
+use Rattle.grelpicado.proofs.request_of.Statement.{statement}
+use Rattle.grelpicado.proofs.request_of.Tie as tie
+
+length-number-requires : tie.Need-length-number-requires
+length-number-requires c κs = search needs
+
+written-length-requires : tie.Need-written-length-requires
+written-length-requires c κs = search needs
+
+handed-back-requires : tie.Need-handed-back-requires
+handed-back-requires c κs = search needs
+
+returns : tie.Need-returns
+returns c = λ records debounce memory room.
+    let a = c .before .before .before .before .args .returned in
+    crossed (ofLength (a .answer)) room (lent records debounce memory (a .board)) (c .before .before .before .before .args .found) (c .before .before .length-number .ensures) (length-verdict (a .answer)) (c .before .written-length .ensures) (c .handed-back .ensures)
+
+pub request-of-spec : {M : Type 1} → statement M
+request-of-spec =
+    tie.close
+    (tie.spec length-number-requires written-length-requires handed-back-requires returns)

@@ -1,0 +1,127 @@
+-- The calls for a caller in C: what crosses as plain numbers and bytes. Each call's outcome is the manual's. Assumes nothing.
+use mathlib.Core.Bool.{Bool, not, cond}
+use mathlib.Core.List.{List, [], _∷_}
+use Prim.Native.Nat.{ℕ}
+use lib.Dec.{eqb}
+use lib.IntN.{ℤ}
+use lib.ListN.{getD}
+use Rattle.manual.specs.declared.Board.{Board}
+use Rattle.manual.specs.declared.Verdict.{Verdict}
+use Rattle.manual.specs.declared.Verdict.the-variants.{None, Passed, Failed}
+use Rattle.manual.specs.State.{runs}
+use Rattle.manual.specs.Answers.{Outcome}
+use Rattle.queries.specs.Reading.{FrameRead}
+use Rattle.grelpicado.specs.declared.PanelBoard.{PanelBoard}
+use Rattle.grelpicado.specs.declared.PanelAnswer.{PanelAnswer}
+use Rattle.grelpicado.specs.declared.PanelReport.{PanelReport}
+use Rattle.grelpicado.specs.declared.PanelStatus.{PanelStatus}
+use Rattle.grelpicado.specs.declared.PanelFrame.{PanelFrame}
+use Rattle.grelpicado.specs.declared.PanelLength.{PanelLength}
+use Rattle.grelpicado.specs.declared.PanelRequest.{PanelRequest}
+
+-- ---- the board in bytes
+
+-- a flag that is given: 0 no, anything else yes
+abbrev pub yes : ℕ → Bool
+yes byte = not (eqb byte 0)
+
+-- a flag that is handed back: 1 yes, 0 no
+abbrev pub flagByte : Bool → ℕ
+flagByte flag = cond flag 1 0
+
+-- the board that these bytes stand for
+abbrev pub boardOf : PanelBoard → Board
+boardOf b = record {
+  running = yes (getD (b .running) 0 0) ∷ yes (getD (b .running) 1 0) ∷ yes (getD (b .running) 2 0) ∷ yes (getD (b .running) 3 0) ∷ [];
+  overflow = yes (b .overflow);
+}
+
+-- the bytes of a board
+abbrev pub bytesOf : Board → PanelBoard
+bytesOf b = record {
+  running = flagByte (runs b 0) ∷ flagByte (runs b 1) ∷ flagByte (runs b 2) ∷ flagByte (runs b 3) ∷ [];
+  overflow = flagByte (b .overflow);
+}
+
+-- ---- what crosses
+
+-- "Each accepted report gives a verdict: none, passed or failed.": 0, 1, 2
+abbrev pub verdictNumber : Verdict → ℕ
+verdictNumber None = 0
+verdictNumber Passed = 1
+verdictNumber Failed = 2
+
+-- All that crosses, back to the caller: the answer's number; a report's verdict; the status or length; where the frame part starts;
+-- every lent block as the call leaves it; the output room; the board.
+pub record Crossing : Type 0 where
+  pub number : ℕ
+  pub verdict : ℕ
+  pub value : ℕ
+  pub start : ℕ
+  pub records : List ℕ
+  pub debounce : List ℤ
+  pub memory : List ℕ
+  pub room : List ℕ
+  pub board : PanelBoard
+
+-- "A refusal changes nothing lent and hands back the board it was given": its very bytes; a call that is done, the new board
+abbrev pub handedBack : Outcome → PanelBoard → PanelBoard
+handedBack o found = cond (eqb (o .answer) 0) (bytesOf (o .state .board)) found
+
+-- all that crosses, part by part
+abbrev pub made : ℕ → ℕ → ℕ → ℕ → List ℕ → List ℤ → List ℕ → List ℕ → PanelBoard → Crossing
+made number verdict value start records debounce memory room board = record {
+  number = number;
+  verdict = verdict;
+  value = value;
+  start = start;
+  records = records;
+  debounce = debounce;
+  memory = memory;
+  room = room;
+  board = board;
+}
+
+-- a call's outcome, with this value, this start, and this board for the caller
+abbrev pub crossing : Outcome → ℕ → ℕ → PanelBoard → Crossing
+crossing o value start board =
+    made (o .answer) (verdictNumber (o .verdict)) value start (o .state .records) (o .state .debounce) (o .state .memory) (o .beside .room) board
+
+-- the outcome of a call that hands back a board, where these bytes were given
+unfoldable pub crosses : Outcome → PanelBoard → Crossing
+crosses o found = crossing o (o .value) 0 (handedBack o found)
+
+-- the outcome of a call that hands back none: the caller's board stays as it is
+unfoldable pub crossesWithoutBoard : Outcome → PanelBoard → Crossing
+crossesWithoutBoard o found = crossing o (o .value) 0 found
+
+-- the same of read frame: "a part of the caller's own memory block", where it starts and its length
+unfoldable pub crossesWithFrame : FrameRead → PanelBoard → Crossing
+crossesWithFrame f found = crossing (f .outcome) (f .length) (f .start) found
+
+-- ---- a result, with the blocks as they are at the end of the call; what a result does not have is 0, or empty
+
+module _ (records : List ℕ) (debounce : List ℤ) (memory : List ℕ) where
+  -- fresh, tick, start, stop, clear and restore
+  abbrev pub withAnswer : PanelAnswer → Crossing
+  withAnswer r = made (r .number) 0 0 0 records debounce memory [] (r .board)
+
+  -- report, with its verdict
+  abbrev pub withReport : PanelReport → Crossing
+  withReport r = made (r .number) (r .verdict) 0 0 records debounce memory [] (r .board)
+
+  -- read status: the value is the status, the board the caller's
+  abbrev pub withStatus : PanelBoard → PanelStatus → Crossing
+  withStatus board r = made (r .number) 0 (r .status) 0 records debounce memory [] board
+
+  -- read frame: the value is the length, the board the caller's
+  abbrev pub withFrame : PanelBoard → PanelFrame → Crossing
+  withFrame board r = made (r .number) 0 (r .length) (r .start) records debounce memory [] board
+
+  -- save: the value is the length, the board the caller's
+  abbrev pub withLength : List ℕ → PanelBoard → PanelLength → Crossing
+  withLength room board r = made (r .number) 0 (r .length) 0 records debounce memory room board
+
+  -- a diagnostic request: the value is the length
+  abbrev pub withRequest : List ℕ → PanelRequest → Crossing
+  withRequest room r = made (r .number) 0 (r .length) 0 records debounce memory room (r .board)

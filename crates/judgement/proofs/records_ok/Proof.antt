@@ -1,0 +1,53 @@
+use mathlib.Core.Path.{_≡_, sym}
+use Prim.Native.Nat.{_-_, _≤_, _<_}
+use native.Mathlib.Omega.{arith}
+use denote.Ref.{now}
+use Rattle.manual.specs.Words.{allBelow}
+use Rattle.manual.specs.Configuration.{events}
+use Rattle.manual.specs.State.{opened, storedAt}
+use Rattle.manual.specs.WellFormed.{recordOk}
+use Rattle.manual.proofs.ConfigurationLaws.{config-tells}
+use Rattle.config.proofs.Tests.{all-none, all-more}
+use Rattle.judgement.proofs.records_ok.Statement.{statement}
+use Rattle.judgement.proofs.records_ok.Tie as tie
+
+abbrev Inv-loop : tie.InvT-loop
+Inv-loop cfg records ok₀ event₀ event-end ok event = (event ≤ event-end) × (ok ≡ allBelow event (λ e. recordOk cfg e (opened (storedAt e records))))
+
+abbrev μ-loop : tie.MeasureT-loop
+μ-loop cfg records ok₀ event₀ event-end ok event = event-end - event
+
+events-requires : tie.Need-events-requires Inv-loop μ-loop
+events-requires c κs = tt
+
+loop-holds : tie.Need-loop-holds Inv-loop μ-loop
+loop-holds c = (omega arith, sym (all-none _))
+
+record-ok-requires : tie.Need-record-ok-requires Inv-loop μ-loop
+record-ok-requires c κs = let t = config-tells _ (c .before .before .before .before .pre .accepted) in let h : c .before .loop .event < events (now (c .before .before .before .before .args .cfg)) = rw (← c .before .before .events .ensures) (c .loop-test .taken) in (omega arith, omega (arith, c .before .before .before .before .pre .as-long))
+
+add-event : tie.Need-add-event Inv-loop μ-loop
+add-event c = omega arith
+
+loop-less : tie.Need-loop-less Inv-loop μ-loop
+loop-less c = omega arith
+
+loop-again : tie.Need-loop-again Inv-loop μ-loop
+loop-again c = (omega arith, rw (all-more, c .before .before .loop .inv .1, c .record-ok .ensures))
+
+returns : tie.Need-returns Inv-loop μ-loop
+returns c = let e : c .before .loop .event ≡ events (now (c .before .before .before .before .args .cfg)) = omega (arith, c .before .before .events .ensures) in rw (c .before .loop .inv .1, e)
+
+pub records-ok-spec : {M : Type 1} → statement M
+records-ok-spec =
+    tie.close
+    (tie.spec
+    Inv-loop
+    μ-loop
+    events-requires
+    loop-holds
+    record-ok-requires
+    add-event
+    loop-less
+    loop-again
+    returns)

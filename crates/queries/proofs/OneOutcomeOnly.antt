@@ -1,0 +1,38 @@
+-- The statements of `read_status`, `read_frame` and `frame_part` allow one outcome only: one result. The calls are lent nothing to be
+-- written; of a frame the result says where it starts and how long it is.
+use mathlib.Core.Path.{_≡_, refl, sym, _∙_}
+use mathlib.Core.List.{List, []}
+use Prim.Native.Nat.{ℕ}
+use Rattle.manual.specs.declared.FrameAnswer.{FrameAnswer}
+use Rattle.manual.specs.declared.FrameAnswer.the-variants.{At}
+use Rattle.manual.specs.declared.StatusAnswer.{StatusAnswer}
+use Rattle.manual.specs.Configuration.{Configuration}
+use Rattle.manual.specs.State.{State}
+use Rattle.manual.specs.Answers.{alone, answered, ofStatus, ofFrame, leaves}
+use Rattle.manual.specs.Calls.{readStatus}
+use Rattle.manual.proofs.OneOutcomeOnly.{answerAt, refused-back, one-outcome, same-status}
+use Rattle.queries.specs.Reading.{FrameRead, partOf, says, frameRead}
+
+module _ (cfg : Configuration) (event : ℕ) (s : State) where
+  pub one-read-status : (r r′ : StatusAnswer)
+      → leaves (ofStatus r) [] alone s ≡ readStatus cfg event alone s
+      → leaves (ofStatus r′) [] alone s ≡ readStatus cfg event alone s
+      → r ≡ r′
+  one-read-status r r′ p q = same-status r r′ p q
+
+  -- the answer is read off its number, its start and its length
+  abbrev answerIn : FrameRead → FrameAnswer
+  answerIn f = answerAt (λ a. At (record { start = f .start; length = f .length })) FrameAnswer.Refused (answered (f .outcome .answer) (f .outcome .verdict) (f .outcome .value))
+
+  answer-back : (r : FrameAnswer) → answerIn (says r s) ≡ r
+  answer-back (At part) = refl
+  answer-back (FrameAnswer.Refused r) = refused-back (λ a. At (record { start = 0; length = 0 })) FrameAnswer.Refused r (ofFrame (FrameAnswer.Refused r)) refl
+
+  pub one-read-frame : (r r′ : FrameAnswer)
+      → says r s ≡ frameRead cfg event s
+      → says r′ s ≡ frameRead cfg event s
+      → r ≡ r′
+  one-read-frame r r′ p q = one-outcome answerIn (answer-back r) (answer-back r′) p q
+
+pub one-frame-part : (memory : List ℕ) (answer : FrameAnswer) (part part′ : List ℕ) → part ≡ partOf answer memory → part′ ≡ partOf answer memory → part ≡ part′
+one-frame-part memory answer part part′ p q = p ∙ sym q

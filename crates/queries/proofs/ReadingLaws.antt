@@ -1,0 +1,134 @@
+-- Laws of specs/Reading.antt: a part of a block, what a passed judgement gives, and what each call answers.
+use mathlib.Core.Path.{_≡_, refl, sym, ap, _∙_}
+use mathlib.Core.Bool.{true, not, cond}
+use mathlib.Core.List.{List, [], _∷_}
+use Prim.Native.Nat.{ℕ, _+_, _≤_, _<_}
+use native.Mathlib.Omega.{arith}
+use lib.Dec.{eqb}
+use lib.ListN.{length, take, drop}
+use borrow.Author.Tests.{le-leb, lt-leb, not-false}
+use Rattle.history.specs.Words.{anyOf}
+use Rattle.manual.specs.declared.FrameAnswer.{FrameAnswer}
+use Rattle.manual.specs.declared.FrameAnswer.the-variants.{At}
+use Rattle.manual.specs.declared.Place.{Place}
+use Rattle.manual.specs.declared.Refusal.{Refusal}
+use Rattle.manual.specs.declared.Refusal.the-variants.{NoEntry}
+use Rattle.manual.specs.declared.Verdict.the-variants.{None}
+use Rattle.manual.specs.Configuration.{Configuration, frameBytes, configOk}
+use Rattle.manual.specs.State.{State, statusByte}
+use Rattle.manual.specs.Memory.{entriesOf, isOf, entryFor}
+use Rattle.manual.specs.WellFormed.{entries, wellFormed}
+use Rattle.manual.specs.Answers.{alone, Outcome, refused, Rule, _if_, firstThatApplies, numberOf, answered, leaves}
+use Rattle.manual.specs.Calls.{frameOf, begins, noSuchEvent, readStatusRules, readStatus, readFrameRules, readFrame}
+use Rattle.manual.proofs.WordsLaws.{first-none, first-some}
+use Rattle.manual.proofs.AnswersLaws.{first-of-both, none-applies, goes-through, stops-with}
+use Rattle.manual.proofs.OneOutcomeOnly.{not-done}
+use Rattle.manual.proofs.ConfigurationLaws.{config-tells}
+use Rattle.manual.proofs.WellFormedLaws.{StateTells, state-tells, used-fits}
+use Rattle.memory.specs.declared.Find.{Find}
+use Rattle.memory.specs.declared.Find.the-variants.{Nothing}
+use Rattle.memory.specs.Places.{frameAt, placeOf}
+use Rattle.memory.specs.Fits.{EntriesFit, PlaceFits}
+use Rattle.memory.proofs.PlacesLaws.{entry-within, entries-are-count, frame-is-at, found, found-nothing}
+use Rattle.queries.specs.Reading.{four, partAt, says, frameStart, entryAnswer, placed, frameRead}
+
+-- ---- a part of a block
+
+module _ (start size : ℕ) (m : List ℕ) where
+  pub part-within : start + size ≤ length m → take size (drop start m) ≡ partAt start size m
+  unfolding partAt
+  part-within h = rw (le-leb (start + size) (length m) h)
+
+  pub part-beyond : length m < start + size → [] ≡ partAt start size m
+  unfolding partAt
+  part-beyond h = rw (lt-leb (start + size) (length m) h)
+
+-- ---- the answer of a search
+
+module _ (F e : ℕ) (m : List ℕ) {F′ : ℕ} (f : F′ ≡ F) where
+  pub found-most : EntriesFit F m → (p : Place) → placeOf e (entriesOf F′ m) ≡ Find.At p → (F′ ≤ 32) × (p .0 ≤ 64)
+  found-most fits p q = (rw f (fits .frame-most), let inside = found (isOf e) (entriesOf F′ m) p q .inside in let most = fits .count-most in omega (arith, entries-are-count F′ m))
+
+  same-answer : entryAnswer F′ (placeOf e (entriesOf F′ m)) ≡ entryAnswer F (placeOf e (entriesOf F m))
+  same-answer = λ i. entryAnswer (f i) (placeOf e (entriesOf (f i) m))
+
+  pub answers-at : (p : Place) {start : ℕ} → placeOf e (entriesOf F′ m) ≡ Find.At p → start ≡ frameAt F′ p
+      → At (record { start = start; length = F′ }) ≡ entryAnswer F (placeOf e (entriesOf F m))
+  answers-at p q k = (λ i. At (record { start = k i; length = F′ })) ∙ ap (entryAnswer F′) (sym q) ∙ same-answer
+
+  pub answers-nothing : placeOf e (entriesOf F′ m) ≡ Nothing → FrameAnswer.Refused NoEntry ≡ entryAnswer F (placeOf e (entriesOf F m))
+  answers-nothing q = ap (entryAnswer F′) (sym q) ∙ same-answer
+
+-- "read frame 4, 10"
+abbrev ten : Configuration → State → ℕ → List Rule
+ten cfg s e = (10 if not (anyOf (isOf e) (entries cfg s))) ∷ []
+
+then-ten : (cfg : Configuration) (s : State) (e : ℕ) → let first = firstThatApplies (begins cfg s true (four (noSuchEvent cfg e))) in
+    firstThatApplies (readFrameRules cfg e s) ≡ cond (eqb first 0) (firstThatApplies (ten cfg s e)) first
+unfolding readFrameRules
+then-ten cfg s e = first-of-both (begins cfg s true (four (noSuchEvent cfg e))) (ten cfg s e) refl
+
+-- a refused read says no place
+refused-is : (r : Refusal) (s : State) (o : Outcome) (start size : ℕ) → refused (numberOf r) alone s ≡ o → says (FrameAnswer.Refused r) s ≡ placed o start size
+refused-is r s o start size q =
+    let here : says (FrameAnswer.Refused r) s ≡ placed (refused (numberOf r) alone s) start size = rw (not-done r) in
+    here ∙ ap (λ (o : Outcome). placed o start size) q
+
+-- ---- where 2, 3 and 4 do not apply
+
+module _ (cfg : Configuration) (s : State) (e : ℕ) (z : firstThatApplies (begins cfg s true (four (noSuchEvent cfg e))) ≡ 0) where
+  tells : StateTells cfg s
+  tells = state-tells cfg s (not-false (wellFormed cfg s) (none-applies _ z refl 1))
+
+  pub may-seek : EntriesFit (frameBytes cfg) (s .memory)
+  may-seek =
+      let t = config-tells cfg (not-false (configOk cfg) (none-applies _ z refl 0)) in
+      let most = t .M-most in
+      let few = tells .few in
+      record { frame-most = t .F-most; count-most = omega arith; within = used-fits cfg s tells }
+
+  pub status-is : {byte : ℕ} → byte ≡ statusByte s e → leaves (answered 0 None byte) [] alone s ≡ readStatus cfg e alone s
+  unfolding readStatus readStatusRules
+  status-is q = ap (λ (b : ℕ). leaves (answered 0 None b) [] alone s) q ∙ sym (goes-through _ alone s _ z)
+
+  only-ten : firstThatApplies (readFrameRules cfg e s) ≡ firstThatApplies (ten cfg s e)
+  only-ten = then-ten cfg s e ∙ rw z
+
+  -- the event has an entry
+  frame-there : (p : Place) → placeOf e (entries cfg s) ≡ Find.At p
+      → leaves (answered 0 None 0) (partAt (frameAt (frameBytes cfg) p) (frameBytes cfg) (s .memory)) alone s ≡ readFrame cfg e alone s
+  unfolding readFrame firstThatApplies
+  frame-there p q =
+      let own = found (isOf e) (entries cfg s) p q in
+      let fits : PlaceFits (frameBytes cfg) (s .memory) (p .0) = record { entries = may-seek; below = omega (arith, own .inside, entries-are-count (frameBytes cfg) (s .memory)) } in
+      let part : partAt (frameAt (frameBytes cfg) p) (frameBytes cfg) (s .memory) ≡ frameOf (entryFor e (entries cfg s)) =
+      sym (part-within _ _ _ (omega (arith, entry-within (frameBytes cfg) (p .0) (s .memory) fits)))
+      ∙ sym (frame-is-at (frameBytes cfg) (s .memory) (p .0) (fits .below))
+      ∙ ap frameOf (sym (own .first)) in
+      ap (λ (l : List ℕ). leaves (answered 0 None 0) l alone s) part
+      ∙ sym (goes-through _ alone s _ (only-ten ∙ rw (first-some (isOf e) (entries cfg s) _ (own .first))))
+
+  -- it has none
+  frame-nowhere : placeOf e (entries cfg s) ≡ Nothing → refused 10 alone s ≡ readFrame cfg e alone s
+  unfolding readFrame firstThatApplies
+  frame-nowhere q = stops-with _ alone s _ NoEntry (sym (only-ten ∙ rw (first-none (isOf e) (entries cfg s) (found-nothing (isOf e) (entries cfg s) q))))
+
+  pub frame-is : says (entryAnswer (frameBytes cfg) (placeOf e (entries cfg s))) s ≡ frameRead cfg e s
+  unfolding frameRead
+  frame-is = go (placeOf e (entries cfg s)) refl
+    where
+      go : (f : Find) → placeOf e (entries cfg s) ≡ f
+          → says (entryAnswer (frameBytes cfg) f) s ≡ placed (readFrame cfg e alone s) (frameStart (frameBytes cfg) (placeOf e (entries cfg s))) (frameBytes cfg)
+      go (Find.At p) q = λ i. placed (frame-there p q i) (frameStart (frameBytes cfg) (sym q i)) (frameBytes cfg)
+      go Nothing q = refused-is NoEntry s _ _ _ (frame-nowhere q)
+
+-- ---- where 2, 3 or 4 applies
+
+module _ (cfg : Configuration) (s : State) (e : ℕ) (r : Refusal) (q : numberOf r ≡ firstThatApplies (begins cfg s true (four (noSuchEvent cfg e)))) where
+  pub status-refused : refused (numberOf r) alone s ≡ readStatus cfg e alone s
+  unfolding readStatus readStatusRules
+  status-refused = stops-with _ alone s _ r q
+
+  pub frame-refused : says (FrameAnswer.Refused r) s ≡ frameRead cfg e s
+  unfolding frameRead readFrame
+  frame-refused = refused-is r s _ _ _ (stops-with _ alone s _ r (sym (then-ten cfg s e ∙ rw (← q, not-done r))))

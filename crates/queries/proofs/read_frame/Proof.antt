@@ -1,0 +1,44 @@
+-- `read_frame` meets its contract.
+use mathlib.Core.Path.{sym, ap, _∙_}
+use denote.Ref.{now}
+use Rattle.manual.specs.declared.FrameAnswer.{FrameAnswer}
+use Rattle.manual.specs.State.{lent}
+use Rattle.judgement.specs.Checks.{checkNumber}
+use Rattle.queries.specs.Reading.{says}
+use Rattle.queries.proofs.ReadingLaws.{may-seek, frame-is, frame-refused}
+use borrow.Author.Needs.{needs}
+use Rattle.queries.proofs.read_frame.Statement.{statement}
+use Rattle.queries.proofs.read_frame.Tie as tie
+
+judge-requires : tie.Need-judge-requires
+judge-requires c κs = search needs
+
+enum-told : tie.Need-enum-told
+enum-told c = search needs
+
+frame-of-requires : tie.Need-frame-of-requires
+frame-of-requires c κs =
+    let a = c .before .before .before .before .before .args in
+    let s = lent (now (a .records)) (now (a .debounce)) (now (a .memory)) (a .board) in
+    may-seek (now (a .cfg)) s (a .event .0) (sym (c .before .before .judge .ensures) ∙ ap checkNumber (c .enum-told .given .1))
+
+enum-known-refusal : tie.Need-enum-known-refusal
+enum-known-refusal c = search needs
+
+returns : tie.Need-returns
+returns c =
+    let a = c .before .before .before .before .before .before .args in
+    let s = lent (now (a .records)) (now (a .debounce)) (now (a .memory)) (a .board) in
+    ap (λ (r : FrameAnswer). says r s) (c .frame-of .ensures)
+    ∙ frame-is (now (a .cfg)) s (a .event .0) (sym (c .before .before .before .judge .ensures) ∙ ap checkNumber (c .before .enum-told .given .1))
+
+returns-2 : tie.Need-returns-2
+returns-2 c =
+    let a = c .before .before .before .before .before .before .args in
+    let s = lent (now (a .records)) (now (a .debounce)) (now (a .memory)) (a .board) in
+    frame-refused (now (a .cfg)) s (a .event .0) (c .before .refusal .given .0 .0) (ap checkNumber (sym (c .before .refusal .given .1)) ∙ c .before .before .before .judge .ensures)
+
+pub read-frame-spec : {M : Type 1} → statement M
+read-frame-spec =
+    tie.close
+    (tie.spec judge-requires enum-told frame-of-requires enum-known-refusal returns returns-2)

@@ -1,0 +1,131 @@
+// Document 01, "read status 4; read frame 4, 10": the calls that read an event's status byte and its stored frame.
+use judgement::Check;
+use manual::Board;
+use manual::EventNumber;
+use manual::FrameAnswer;
+use manual::FramePart;
+use manual::Refusal;
+use manual::StatusAnswer;
+use memory::Find;
+ghost use mathlib.Core.Bool.{true};
+ghost use mathlib.Core.Path.{_≡_};
+ghost use mathlib.Core.List.{[]};
+ghost use Rattle.manual.specs.Configuration.{frameBytes};
+ghost use Rattle.manual.specs.State.{lent};
+ghost use Rattle.manual.specs.Memory.{entriesOf};
+ghost use Rattle.manual.specs.Answers.{alone, firstThatApplies, ofStatus, leaves};
+ghost use Rattle.manual.specs.Calls.{begins, noSuchEvent, readStatus};
+ghost use Rattle.judgement.specs.Checks.{checkNumber};
+ghost use Rattle.memory.specs.Fits.{EntriesFit};
+ghost use Rattle.memory.specs.Places.{placeOf};
+ghost use Rattle.queries.specs.Reading.{four, partAt, partOf, says, entryAnswer, frameRead};
+
+// ---- 2, 3, 4
+
+// "4 | no such event"
+fn four(no_such: bool) -> Check
+    ensures { λ r. ⌜ checkNumber r ≡ firstThatApplies (four «no_such») ⌝ }
+{
+    if no_such {
+        return Check::Stop(Refusal::NoSuch);
+    }
+    Check::Go
+}
+
+// 2, 3, then 4: with these both calls begin.
+fn judge(
+    cfg: &[i32],
+    records: &[u8],
+    debounce: &[i32],
+    memory: &[u8],
+    board: Board,
+    event: EventNumber,
+) -> Check
+    ensures { λ r. ⌜ checkNumber r ≡ firstThatApplies (begins (now (cfg .entry)) (lent (now (records .entry)) (now (debounce .entry)) (now (memory .entry)) board) true (four (noSuchEvent (now (cfg .entry)) (event .0)))) ⌝ }
+{
+    match judgement::begin(cfg, records, debounce, memory, board, true) {
+        Check::Go => four(config::events(cfg) <= event.0),
+        Check::Stop(refusal) => Check::Stop(refusal),
+    }
+}
+
+// ---- read status
+
+// The event's status byte.
+pub fn read_status(
+    cfg: &[i32],
+    records: &[u8],
+    debounce: &[i32],
+    memory: &[u8],
+    board: Board,
+    event: EventNumber,
+) -> StatusAnswer
+    ensures { λ r. ⌜ leaves (ofStatus r) [] alone (lent (now (records .entry)) (now (debounce .entry)) (now (memory .entry)) board) ≡ readStatus (now (cfg .entry)) (event .0) alone (lent (now (records .entry)) (now (debounce .entry)) (now (memory .entry)) board) ⌝ }
+{
+    match judge(cfg, records, debounce, memory, board, event) {
+        Check::Go => StatusAnswer::Status(status::status_of(records, event).0),
+        Check::Stop(refusal) => StatusAnswer::Refused(refusal),
+    }
+}
+
+// ---- read frame
+
+// Where the frame of the event's entry stands; "10 | event has no memory entry".
+fn frame_of(cfg: &[i32], memory: &[u8], event: EventNumber) -> FrameAnswer
+    requires { ⌜ EntriesFit (frameBytes (now cfg)) (now memory) ⌝ }
+    ensures { λ r. ⌜ r ≡ entryAnswer (frameBytes (now (cfg .entry))) (placeOf (event .0) (entriesOf (frameBytes (now (cfg .entry))) (now (memory .entry)))) ⌝ }
+{
+    let frame_bytes = config::frame_bytes(cfg);
+    let own = memory::place_of(memory, frame_bytes, event);
+    match own {
+        Find::At(place) => FrameAnswer::At(FramePart {
+            start: memory::frame_start(frame_bytes, place),
+            length: frame_bytes,
+        }),
+        Find::Nothing => FrameAnswer::Refused(Refusal::NoEntry),
+    }
+}
+
+// Where the event's frame stands in the caller's own memory block; `frame_part` gives the bytes.
+pub fn read_frame(
+    cfg: &[i32],
+    records: &[u8],
+    debounce: &[i32],
+    memory: &[u8],
+    board: Board,
+    event: EventNumber,
+) -> FrameAnswer
+    ensures { λ r. ⌜ says r (lent (now (records .entry)) (now (debounce .entry)) (now (memory .entry)) board) ≡ frameRead (now (cfg .entry)) (event .0) (lent (now (records .entry)) (now (debounce .entry)) (now (memory .entry)) board) ⌝ }
+{
+    match judge(cfg, records, debounce, memory, board, event) {
+        Check::Go => frame_of(cfg, memory, event),
+        Check::Stop(refusal) => FrameAnswer::Refused(refusal),
+    }
+}
+
+// ---- the part of the caller's own memory block
+
+// The bytes from the start on, where they lie within the block; else none.
+fn part_at<'a>(memory: &'a [u8], start: usize, length: usize) -> &'a [u8]
+    ensures { λ r. ⌜ now r ≡ partAt start length (now (memory .entry)) ⌝ }
+{
+    if memory.len() < start {
+        return &memory[..0];
+    }
+    if memory.len() - start < length {
+        return &memory[..0];
+    }
+    let end = start + length;
+    &memory[start..end]
+}
+
+// "The stored frame is read as a part of the caller's own memory block, no copy.": the part that an answer of `read_frame` names, in
+// the block that it was asked of. It is empty on a refusal, and where a block does not reach so far.
+pub fn frame_part<'a>(memory: &'a [u8], answer: FrameAnswer) -> &'a [u8]
+    ensures { λ r. ⌜ now r ≡ partOf answer (now (memory .entry)) ⌝ }
+{
+    match answer {
+        FrameAnswer::At(part) => part_at(memory, part.start, part.length),
+        FrameAnswer::Refused(_) => &memory[..0],
+    }
+}
