@@ -1,22 +1,20 @@
--- Laws of the start and the stop of a cycle: what a passed judgement gives, and what each call leaves.
-use mathlib.Core.Path.{_≡_, refl, sym, ap, _∙_}
-use mathlib.Core.Bool.{Bool, true, false, not}
-use mathlib.Core.List.{List, []}
+-- Laws of the start and the stop of a cycle: what a passed judgement gives.
+use mathlib.Core.Path.{_≡_, refl}
+use mathlib.Core.Bool.{Bool, true}
+use mathlib.Core.List.{List}
 use Prim.Native.Nat.{ℕ, _+_, _*_, _≤_, _<_}
 use native.Mathlib.Omega.{arith}
 use lib.Dec.{ltb}
 use lib.ListN.{length}
 use borrow.Author.Tests.{ltb-false, not-false}
-use Rattle.history.specs.History.{start}
-use Rattle.manual.specs.declared.Refusal.{Refusal}
 use Rattle.manual.specs.Words.{forBelow}
 use Rattle.manual.specs.Configuration.{Configuration, events, configOk}
-use Rattle.manual.specs.State.{State, recordWidth, runs, withCycle}
+use Rattle.manual.specs.State.{State, recordWidth}
 use Rattle.manual.specs.WellFormed.{wellFormed}
-use Rattle.manual.specs.OneEvent.{happens, stops, forThose}
-use Rattle.manual.specs.Answers.{alone, refused, done, firstThatApplies, numberOf}
-use Rattle.manual.specs.Calls.{begins, ofCycle, startRules, startCycle, stopRules, stopCycle}
-use Rattle.manual.proofs.AnswersLaws.{none-applies, goes-through, stops-with}
+use Rattle.manual.specs.OneEvent.{stops}
+use Rattle.manual.specs.Answers.{firstThatApplies}
+use Rattle.manual.specs.Calls.{begins, ofCycle}
+use Rattle.manual.proofs.AnswersLaws.{none-applies}
 use Rattle.manual.proofs.ConfigurationLaws.{config-tells}
 use Rattle.manual.proofs.WellFormedLaws.{state-tells}
 use Rattle.manual.proofs.StaysWellFormed.{stops-keep}
@@ -46,25 +44,3 @@ pub stop-fits : (cfg : Configuration) (s : State) (c : ℕ) → MayStop cfg s c 
     → EventFits cfg (t .records) (t .debounce) (t .memory) i
 stop-fits cfg s c m i h q =
     ready-at-turn (ofCycle cfg c) (stops cfg) cfg s (stops-keep cfg (config-tells cfg (m .configured)) c s) (m .configured) (m .formed) i h q .event
-
--- ---- the calls
-
-module _ (cfg : Configuration) (s : State) (c : ℕ) (wrong : Bool) where
-  abbrev first : ℕ
-  first = firstThatApplies (begins cfg s true (fourFive (ltb 3 c) wrong))
-
-  pub start-done : wrong ≡ runs (s .board) c → first ≡ 0 → {t : State} → t ≡ withCycle c true (forThose cfg (ofCycle cfg c) (happens cfg start) s) → done alone t ≡ startCycle cfg c alone s
-  unfolding startCycle startRules
-  start-done w z q = ap (done alone) q ∙ sym (goes-through _ alone s _ (rw w at z))
-
-  pub start-refused : wrong ≡ runs (s .board) c → (r : Refusal) → numberOf r ≡ first → refused (numberOf r) alone s ≡ startCycle cfg c alone s
-  unfolding startCycle startRules
-  start-refused w r z = stops-with _ alone s _ r (rw w at z)
-
-  pub stop-done : wrong ≡ not (runs (s .board) c) → first ≡ 0 → {t : State} → t ≡ withCycle c false (forThose cfg (ofCycle cfg c) (stops cfg) s) → done alone t ≡ stopCycle cfg c alone s
-  unfolding stopCycle stopRules
-  stop-done w z q = ap (done alone) q ∙ sym (goes-through _ alone s _ (rw w at z))
-
-  pub stop-refused : wrong ≡ not (runs (s .board) c) → (r : Refusal) → numberOf r ≡ first → refused (numberOf r) alone s ≡ stopCycle cfg c alone s
-  unfolding stopCycle stopRules
-  stop-refused w r z = stops-with _ alone s _ r (rw w at z)

@@ -1,7 +1,7 @@
 -- Laws of making a fresh state: the records filled one after the other, the whole state, and what the call answers.
 use mathlib.Core.Path.{_≡_, refl, sym, ap, _∙_}
 use mathlib.Core.Bool.{true, false}
-use mathlib.Core.List.{List, []}
+use mathlib.Core.List.{List}
 use Prim.Native.Nat.{ℕ, _+_, _*_, _≤_, _<_}
 use native.Mathlib.Omega.{arith}
 use lib.IntN.{ℤ, pos}
@@ -9,14 +9,10 @@ use lib.ListN.{length, getD, set, replicate}
 use Rattle.history.specs.StatusByte.{freshRecord}
 use Rattle.history.specs.History.{recordAfter}
 use Rattle.manual.specs.declared.Board.{Board}
-use Rattle.manual.specs.declared.Refusal.{Refusal}
-use Rattle.manual.specs.declared.Answer.the-variants.{Done, Refused}
 use Rattle.manual.specs.Configuration.{Configuration, events}
-use Rattle.manual.specs.State.{State, recordWidth, Stored, stored, storedAt, withStored, allStopped, lent}
+use Rattle.manual.specs.State.{recordWidth, Stored, stored, storedAt, withStored, allStopped, lent}
 use Rattle.manual.specs.WellFormed.{lengthsFit}
-use Rattle.manual.specs.Answers.{alone, done, firstThatApplies, numberOf, ofAnswer, leaves}
-use Rattle.manual.specs.Calls.{beginsWithLengths, freshRecords, freshState, freshRules, fresh}
-use Rattle.manual.proofs.AnswersLaws.{goes-through, stops-with}
+use Rattle.manual.specs.Calls.{freshRecords, freshState}
 use Rattle.manual.proofs.WellFormedLaws.{LengthsTell, lengths-tell}
 use Rattle.manual.proofs.RecordsFollowHistories.{fresh-follows}
 use Rattle.writing.proofs.PartlyWritten.{mix, mix-more, mix-all}
@@ -84,14 +80,3 @@ module _ (cfg : Configuration) (records : List ℕ) (debounce : List ℤ) (memor
       let numbers = d ∙ ap (λ (k : ℕ). replicate k (pos 0)) (lengths .debounce) in
       let bytes = m ∙ filled-whole 0 memory ∙ ap (λ (k : ℕ). replicate k 0) (lengths .memory) in
       λ i. lent (r i) (numbers i) (bytes i) (b i)
-
--- ---- the call
-
-module _ (cfg : Configuration) (s : State) where
-  pub fresh-done : {t : State} → firstThatApplies (beginsWithLengths cfg s true []) ≡ 0 → t ≡ freshState cfg → leaves (ofAnswer Done) [] alone t ≡ fresh cfg alone s
-  unfolding fresh freshRules
-  fresh-done z p = ap (done alone) p ∙ sym (goes-through _ alone s _ z)
-
-  pub fresh-refused : (r : Refusal) → numberOf r ≡ firstThatApplies (beginsWithLengths cfg s true []) → leaves (ofAnswer (Refused r)) [] alone s ≡ fresh cfg alone s
-  unfolding fresh freshRules
-  fresh-refused r e = stops-with _ alone s _ r e

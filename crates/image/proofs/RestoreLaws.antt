@@ -17,10 +17,10 @@ use Rattle.manual.specs.Configuration.{Configuration, places, frameBytes, confi
 use Rattle.manual.specs.State.{State, lent, allStopped}
 use Rattle.manual.specs.WellFormed.{lengthsFit}
 use Rattle.manual.specs.Memory.{entryWidth, entryCount}
-use Rattle.manual.specs.Answers.{alone, done, _if_, firstThatApplies, numberOf}
+use Rattle.manual.specs.Answers.{_if_, firstThatApplies, numberOf}
 use Rattle.manual.specs.Calls.{beginsWithLengths}
-use Rattle.manual.specs.Image.{headerLength, stateOf, acceptable, recordsOf, restoreRules, restore}
-use Rattle.manual.proofs.AnswersLaws.{none-applies, goes-through}
+use Rattle.manual.specs.Image.{headerLength, stateOf, acceptable, recordsOf, restoreRules}
+use Rattle.manual.proofs.AnswersLaws.{none-applies}
 use Rattle.manual.proofs.WellFormedLaws.{lengths-tell}
 use Rattle.judgement.proofs.BeginLaws.{begun-with-lengths, after-lengths-go, after-lengths-stop}
 use Rattle.writing.specs.Writing as writing
@@ -69,10 +69,6 @@ module _ (cfg : Configuration) (image records : List ℕ) (debounce : List ℤ) 
           memory-fits = t .memory;
           image-accepted = not-false (acceptable cfg image) (none 2);
         }
-
-    pub restore-done : {after : State} → after ≡ stateOf cfg image → done alone after ≡ restore cfg image alone s
-    unfolding restore
-    restore-done e = ap (done alone) e ∙ sym (goes-through _ alone s (done alone (stateOf cfg image)) z)
 
 -- ---- what is written
 

@@ -1,9 +1,11 @@
 -- `start` meets its contract.
-use mathlib.Core.Path.{sym, ap, _∙_}
+use mathlib.Core.Path.{ap, _∙_}
 use denote.Ref.{now}
 use Rattle.manual.specs.State.{lent}
-use Rattle.judgement.specs.Checks.{checkNumber}
-use Rattle.cycles.proofs.CyclesLaws.{may-start, start-done, start-refused}
+use Rattle.manual.specs.Answers.{alone, done}
+use Rattle.manual.specs.Calls.{startRules, startCycle}
+use Rattle.judgement.proofs.JudgedLaws.{passed-by, accepted-by, refused-by}
+use Rattle.cycles.proofs.CyclesLaws.{may-start}
 use borrow.Author.Needs.{needs}
 use Rattle.cycles.proofs.start.Statement.{statement}
 use Rattle.cycles.proofs.start.Tie as tie
@@ -21,7 +23,7 @@ accept-start-requires : tie.Need-accept-start-requires
 accept-start-requires c κs =
     let a = c .before .before .before .before .before .before .before .before .args in
     let s = lent (now (a .records)) (now (a .debounce)) (now (a .memory)) (a .board) in
-    may-start (now (a .cfg)) s (a .cycle) _ (sym (c .before .before .before .judge .ensures) ∙ ap checkNumber (c .before .enum-told .given .1))
+    may-start (now (a .cfg)) s (a .cycle) _ (passed-by _ (c .before .before .before .judge .ensures) (c .before .enum-told .given .1))
 
 done-requires : tie.Need-done-requires
 done-requires c κs = search needs
@@ -36,25 +38,25 @@ same-length : tie.Need-same-length
 same-length c = search needs
 
 returns : tie.Need-returns
+unfolding startCycle startRules
 returns c =
     let a = c .before .before .before .before .before .before .before .before .before .before .before .before .args in
-    let s = lent (now (a .records)) (now (a .debounce)) (now (a .memory)) (a .board) in
     let judge = c .before .before .before .before .before .before .before .judge in
+    let wrong = c .before .before .before .before .before .before .before .before .before .runs in
     let accept = c .before .before .before .accept-start in
-    c .done .ensures (accept .last .1 .0) (now (a .debounce)) (now (a .memory))
-    ∙ start-done (now (a .cfg)) s (a .cycle) _ (c .before .before .before .before .before .before .before .before .before .runs .ensures)
-    (sym (judge .ensures) ∙ ap checkNumber (c .before .before .before .before .before .enum-told .given .1)) (accept .ensures (now (a .debounce)) (now (a .memory)))
+    accepted-by _ (rw (wrong .ensures) at (judge .ensures)) _ _ _ (c .before .before .before .before .before .enum-told .given .1)
+    (c .done .ensures (accept .last .1 .0) (now (a .debounce)) (now (a .memory))
+    ∙ ap (done alone) (accept .ensures (now (a .debounce)) (now (a .memory))))
 
 same-length-2 : tie.Need-same-length-2
 same-length-2 c = search needs
 
 returns-2 : tie.Need-returns-2
+unfolding startCycle startRules
 returns-2 c =
-    let a = c .before .before .before .before .before .before .before .before .before .args in
-    let s = lent (now (a .records)) (now (a .debounce)) (now (a .memory)) (a .board) in
-    c .refused .ensures (now (a .records)) (now (a .debounce)) (now (a .memory))
-    ∙ start-refused (now (a .cfg)) s (a .cycle) _ (c .before .before .before .before .before .before .runs .ensures) (c .before .before .refusal .given .0 .0)
-    (ap checkNumber (sym (c .before .before .refusal .given .1)) ∙ c .before .before .before .before .judge .ensures)
+    let judge = c .before .before .before .before .judge in
+    let wrong = c .before .before .before .before .before .before .runs in
+    refused-by _ (rw (wrong .ensures) at (judge .ensures)) _ _ _ _ (c .before .before .refusal .given .1) (c .refused .ensures _ _ _)
 
 pub start-spec : {M : Type 1} → statement M
 start-spec =

@@ -1,10 +1,11 @@
 -- `stop` meets its contract.
-use mathlib.Core.Path.{sym, ap, _∙_}
-use mathlib.Core.Bool.{not}
+use mathlib.Core.Path.{ap, _∙_}
 use denote.Ref.{now}
 use Rattle.manual.specs.State.{lent}
-use Rattle.judgement.specs.Checks.{checkNumber}
-use Rattle.cycles.proofs.CyclesLaws.{may-stop, stop-done, stop-refused}
+use Rattle.manual.specs.Answers.{alone, done}
+use Rattle.manual.specs.Calls.{stopRules, stopCycle}
+use Rattle.judgement.proofs.JudgedLaws.{passed-by, accepted-by, refused-by}
+use Rattle.cycles.proofs.CyclesLaws.{may-stop}
 use borrow.Author.Needs.{needs}
 use Rattle.cycles.proofs.stop.Statement.{statement}
 use Rattle.cycles.proofs.stop.Tie as tie
@@ -22,7 +23,7 @@ accept-stop-requires : tie.Need-accept-stop-requires
 accept-stop-requires c κs =
     let a = c .before .before .before .before .before .before .before .before .before .before .before .before .args in
     let s = lent (now (a .records)) (now (a .debounce)) (now (a .memory)) (a .board) in
-    may-stop (now (a .cfg)) s (a .cycle) _ (sym (c .before .before .before .before .before .judge .ensures) ∙ ap checkNumber (c .before .before .before .enum-told .given .1))
+    may-stop (now (a .cfg)) s (a .cycle) _ (passed-by _ (c .before .before .before .before .before .judge .ensures) (c .before .before .before .enum-told .given .1))
 
 done-requires : tie.Need-done-requires
 done-requires c κs = search needs
@@ -43,14 +44,14 @@ same-length-3 : tie.Need-same-length-3
 same-length-3 c = search needs
 
 returns : tie.Need-returns
+unfolding stopCycle stopRules
 returns c =
-    let a = c .before .before .before .before .before .before .before .before .before .before .before .before .before .before .before .before .before .before .before .args in
-    let s = lent (now (a .records)) (now (a .debounce)) (now (a .memory)) (a .board) in
     let judge = c .before .before .before .before .before .before .before .before .before .before .before .before .judge in
+    let wrong = c .before .before .before .before .before .before .before .before .before .before .before .before .before .before .before .before .runs in
+    let told = c .before .before .before .before .before .before .before .before .before .before .enum-told in
     let accept = c .before .before .before .before .before .before .accept-stop in
-    c .done .ensures (accept .last .1 .0) (accept .last .1 .1 .0) (accept .last .1 .1 .1 .0)
-    ∙ stop-done (now (a .cfg)) s (a .cycle) _ (ap not (c .before .before .before .before .before .before .before .before .before .before .before .before .before .before .before .before .runs .ensures))
-    (sym (judge .ensures) ∙ ap checkNumber (c .before .before .before .before .before .before .before .before .before .before .enum-told .given .1)) (accept .ensures)
+    accepted-by _ (rw (wrong .ensures) at (judge .ensures)) _ _ _ (told .given .1)
+    (c .done .ensures (accept .last .1 .0) (accept .last .1 .1 .0) (accept .last .1 .1 .1 .0) ∙ ap (done alone) (accept .ensures))
 
 same-length-4 : tie.Need-same-length-4
 same-length-4 c = search needs
@@ -62,12 +63,11 @@ same-length-6 : tie.Need-same-length-6
 same-length-6 c = search needs
 
 returns-2 : tie.Need-returns-2
+unfolding stopCycle stopRules
 returns-2 c =
-    let a = c .before .before .before .before .before .before .before .before .before .before .before .args in
-    let s = lent (now (a .records)) (now (a .debounce)) (now (a .memory)) (a .board) in
-    c .refused .ensures (now (a .records)) (now (a .debounce)) (now (a .memory))
-    ∙ stop-refused (now (a .cfg)) s (a .cycle) _ (ap not (c .before .before .before .before .before .before .before .before .runs .ensures)) (c .before .before .refusal .given .0 .0)
-    (ap checkNumber (sym (c .before .before .refusal .given .1)) ∙ c .before .before .before .before .judge .ensures)
+    let judge = c .before .before .before .before .judge in
+    let wrong = c .before .before .before .before .before .before .before .before .runs in
+    refused-by _ (rw (wrong .ensures) at (judge .ensures)) _ _ _ _ (c .before .before .refusal .given .1) (c .refused .ensures _ _ _)
 
 pub stop-spec : {M : Type 1} → statement M
 stop-spec =

@@ -1,8 +1,10 @@
 use mathlib.Core.Bool.{true}
-use mathlib.Core.Path.{sym, ap, _∙_}
+use mathlib.Core.Path.{refl, sym, ap, _∙_}
 use Rattle.judgement.specs.Checks.{checkNumber}
 use Rattle.judgement.proofs.BeginLaws.{begun-with-lengths}
-use Rattle.fresh_state.proofs.FreshLaws.{fresh-done, fresh-refused}
+use Rattle.manual.specs.Answers.{alone, done}
+use Rattle.manual.specs.Calls.{freshRules, fresh}
+use Rattle.judgement.proofs.JudgedLaws.{accepted-by, refused-by}
 use borrow.Author.Needs.{needs}
 use Rattle.fresh_state.proofs.fresh.Statement.{statement}
 use Rattle.fresh_state.proofs.fresh.Tie as tie
@@ -29,8 +31,12 @@ same-length-3 : tie.Need-same-length-3
 same-length-3 c = search needs
 
 returns : tie.Need-returns
-returns c = let go = ap checkNumber (c .before .before .before .before .before .before .before .before .before .enum-told .given .1) in
-    fresh-done _ _ (sym (c .before .before .before .before .before .before .before .before .before .before .before .begin-with-lengths .ensures (c .before .before .before .before .before .before .before .before .before .before .before .before .before .before .before .before .before .args .board)) ∙ go) (c .before .before .before .before .before .make-fresh .ensures)
+unfolding fresh freshRules
+returns c =
+    let begins = c .before .before .before .before .before .before .before .before .before .before .before .begin-with-lengths in
+    let start = c .before .before .before .before .before .before .before .before .before .before .before .before .before .before .before .before .before in
+    accepted-by _ (begins .ensures (start .args .board)) _ _ _ (c .before .before .before .before .before .before .before .before .before .enum-told .given .1)
+    (ap (done alone) (c .before .before .before .before .before .make-fresh .ensures))
 
 same-length-4 : tie.Need-same-length-4
 same-length-4 c = search needs
@@ -42,8 +48,11 @@ same-length-6 : tie.Need-same-length-6
 same-length-6 c = search needs
 
 returns-2 : tie.Need-returns-2
-returns-2 c = let stop = ap checkNumber (c .before .refusal .given .1) in
-    fresh-refused _ _ (c .before .refusal .given .0 .0) (sym stop ∙ c .before .before .before .begin-with-lengths .ensures (c .before .before .before .before .before .before .before .before .before .args .board))
+unfolding fresh freshRules
+returns-2 c =
+    let begins = c .before .before .before .begin-with-lengths in
+    let start = c .before .before .before .before .before .before .before .before .before in
+    refused-by _ (begins .ensures (start .args .board)) _ _ _ _ (c .before .refusal .given .1) refl
 
 pub fresh-spec : {M : Type 1} → statement M
 fresh-spec =

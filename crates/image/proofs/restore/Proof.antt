@@ -1,9 +1,9 @@
 -- `restore` meets its contract.
-use mathlib.Core.Path.{sym, ap, _∙_}
-use Rattle.judgement.specs.Checks.{checkNumber}
+use mathlib.Core.Path.{refl, ap}
+use Rattle.manual.specs.Answers.{alone, done}
+use Rattle.judgement.proofs.JudgedLaws.{passed-by, accepted-by, refused-by}
 use Rattle.manual.specs.Image.{restore}
-use Rattle.manual.proofs.AnswersLaws.{stops-with}
-use Rattle.image.proofs.RestoreLaws.{restore-ready, restore-done}
+use Rattle.image.proofs.RestoreLaws.{restore-ready}
 use borrow.Author.Needs.{needs}
 use Rattle.image.proofs.restore.Statement.{statement}
 use Rattle.image.proofs.restore.Tie as tie
@@ -17,8 +17,8 @@ enum-told c = search needs
 accept-restore-requires : tie.Need-accept-restore-requires
 accept-restore-requires c κs =
     let board = c .before .before .before .before .before .before .before .before .before .before .before .before .args .board in
-    let go = ap checkNumber (c .before .before .before .enum-told .given .1) in
-    restore-ready _ _ _ _ _ board (sym (c .before .before .before .before .before .judge-restore .ensures board) ∙ go)
+    restore-ready _ _ _ _ _ board
+    (passed-by _ (c .before .before .before .before .before .judge-restore .ensures board) (c .before .before .before .enum-told .given .1))
 
 enum-known-r : tie.Need-enum-known-r
 enum-known-r c = search needs
@@ -33,11 +33,12 @@ same-length-3 : tie.Need-same-length-3
 same-length-3 c = search needs
 
 returns : tie.Need-returns
+unfolding restore
 returns c =
     let board = c .before .before .before .before .before .before .before .before .before .before .before .before .before .before .before .before .before .before .args .board in
-    let go = ap checkNumber (c .before .before .before .before .before .before .before .before .before .enum-told .given .1) in
-    restore-done _ _ _ _ _ board (sym (c .before .before .before .before .before .before .before .before .before .before .before .judge-restore .ensures board) ∙ go)
-    (c .before .before .before .before .before .accept-restore .ensures)
+    let judge = c .before .before .before .before .before .before .before .before .before .before .before .judge-restore in
+    accepted-by _ (judge .ensures board) _ _ _ (c .before .before .before .before .before .before .before .before .before .enum-told .given .1)
+    (ap (done alone) (c .before .before .before .before .before .accept-restore .ensures))
 
 same-length-4 : tie.Need-same-length-4
 same-length-4 c = search needs
@@ -52,7 +53,7 @@ returns-2 : tie.Need-returns-2
 unfolding restore
 returns-2 c =
     let board = c .before .before .before .before .before .before .before .before .before .before .args .board in
-    stops-with _ _ _ _ (c .before .r .given .0 .0) (sym (ap checkNumber (c .before .r .given .1)) ∙ c .before .before .before .judge-restore .ensures board)
+    refused-by _ (c .before .before .before .judge-restore .ensures board) _ _ _ _ (c .before .r .given .1) refl
 
 pub restore-spec : {M : Type 1} → statement M
 restore-spec =

@@ -1,9 +1,9 @@
 -- `save` meets its contract.
-use mathlib.Core.Path.{sym, ap, _∙_}
+use mathlib.Core.Path.{refl, sym, ap, _∙_}
 use denote.Ref.{now}
 use Rattle.judgement.specs.Checks.{checkNumber}
 use Rattle.manual.specs.Image.{save}
-use Rattle.manual.proofs.AnswersLaws.{stops-with}
+use Rattle.judgement.proofs.JudgedLaws.{refused-by}
 use Rattle.image.proofs.SaveLaws.{save-ready, save-room, save-done}
 use borrow.Author.Needs.{needs}
 use Rattle.image.proofs.save.Statement.{statement}
@@ -39,7 +39,7 @@ same-length-2 c = search needs
 
 returns-2 : tie.Need-returns-2
 unfolding save
-returns-2 c = stops-with _ _ _ _ (c .before .r .given .0 .0) (sym (ap checkNumber (c .before .r .given .1)) ∙ c .before .before .before .judge-save .ensures)
+returns-2 c = refused-by _ (c .before .before .before .judge-save .ensures) _ _ _ _ (c .before .r .given .1) refl
 
 pub save-spec : {M : Type 1} → statement M
 save-spec =
