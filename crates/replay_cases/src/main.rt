@@ -1,5 +1,5 @@
 // Plays every case of data/ through the library step of the replay program, compares what it would print with what is expected, and
-// prints how many cases ran and how many differed.
+// prints the file and the first line of each that differs, and how many cases ran and how many differed.
 use manual::Board;
 use replay_step::Begun;
 use replay_step::Stepped;
@@ -11,10 +11,11 @@ ghost use Rattle.replay_step.specs.Turn.{Playable, Buffers};
 
 // ---- comparing
 
-// How much of the expected output was printed so far, and whether all of it was as expected.
+// How much of the expected output was printed so far, whether all of it was as expected, and the first line that is not so far.
 struct Printed {
     to: usize,
     agrees: bool,
+    line: u32,
 }
 
 fn same_bytes(a: &[u8], b: &[u8]) -> bool {
@@ -52,11 +53,22 @@ fn behind(from: usize, length: usize) -> usize {
     from + length
 }
 
+// A count and one more; a million is enough for any list.
+fn one_more(count: u32) -> u32 {
+    if count < 1_000_000 { count + 1 } else { count }
+}
+
+fn count_if(count: u32, test: bool) -> u32 {
+    if test { one_more(count) } else { count }
+}
+
 fn print(printed: Printed, expected: &[u8], line: &[u8]) -> Printed {
     let from = printed.to;
+    let same = printed.agrees & goes_on_with(expected, from, line);
     Printed {
         to: behind(from, line.len()),
-        agrees: printed.agrees & goes_on_with(expected, from, line),
+        agrees: same,
+        line: count_if(printed.line, same),
     }
 }
 
@@ -64,6 +76,7 @@ fn nothing() -> Printed {
     Printed {
         to: 0,
         agrees: true,
+        line: 1,
     }
 }
 
@@ -245,15 +258,19 @@ fn read_file(path: &[u8], buffer: &mut [u8]) -> usize {
     length
 }
 
-// Whether the case of these two files prints what is expected, and no more or less.
-fn agrees(input: &[u8], output: &[u8]) -> bool {
+// The first line at which the case of these two files does not print what is expected, or more or less; 0 where there is none.
+fn differing_line(input: &[u8], output: &[u8]) -> u32 {
     let mut text = [0; 32769];
     let mut expected = [0; 131072];
     let length = read_file(input, &mut text);
     let size = read_file(output, &mut expected);
     let longer = 32768 < length;
     let printed = would_print(part(&text, 0, length), longer, part(&expected, 0, size));
-    printed.agrees & (printed.to == size)
+    if printed.agrees & (printed.to == size) {
+        0
+    } else {
+        printed.line
+    }
 }
 
 struct Tally {
@@ -262,9 +279,12 @@ struct Tally {
     differed: u32,
 }
 
-// A count and one more; a million is enough for any list.
-fn one_more(count: u32) -> u32 {
-    if count < 1_000_000 { count + 1 } else { count }
+// A case that differs, by the file of its expected output and the line there.
+fn say_case(name: &[u8], line: u32) {
+    io::write_all(1, name);
+    io::write_all(1, b":");
+    io::print_decimal(1, line as u64);
+    io::write_all(1, b" differs\n");
 }
 
 // Runs the case whose two files are named next.
@@ -272,15 +292,15 @@ fn run_case(names: &[u8], tally: Tally) -> Tally {
     let input = word_end(names, tally.at);
     let second = behind(input, 1);
     let output = word_end(names, second);
-    let same = agrees(part(names, tally.at, input), part(names, second, output));
+    let name = part(names, second, output);
+    let line = differing_line(part(names, tally.at, input), name);
+    if 0 < line {
+        say_case(name, line);
+    }
     Tally {
         at: behind(output, 1),
         ran: one_more(tally.ran),
-        differed: if same {
-            tally.differed
-        } else {
-            one_more(tally.differed)
-        },
+        differed: count_if(tally.differed, 0 < line),
     }
 }
 
