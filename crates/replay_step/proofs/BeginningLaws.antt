@@ -1,12 +1,14 @@
--- Laws of specs/Beginning.antt: the numbers that were read so far, and that one which cannot be read makes all unreadable.
+-- Laws of specs/Beginning.antt: the numbers that were read so far, that one which cannot be read makes all unreadable, and the rest of
+-- the buffer as found.
 use mathlib.Core.Path.{_≡_, refl, sym, ap, _∙_}
 use mathlib.Core.Bool.{Bool, true, false, _&&_, cond}
-use mathlib.Core.List.{List}
-use Prim.Native.Nat.{ℕ, zero, suc, _≤_, _<_, _^_}
+use mathlib.Core.List.{List, [], _∷_, _++_}
+use Prim.Native.Nat.{ℕ, zero, suc, _+_, _≤_, _<_, _^_}
 use native.Mathlib.Omega.{arith}
 use lib.Dec.{T, leb, lit≤}
 use lib.IntN.{ℤ, pos, negsuc, natAbs}
-use lib.ListN.{length, take, length-take}
+use lib.ListN.{length, take, drop, set, length-take, length-append, take-append-drop}
+use lib.Seq.{length-take-le, set-split, append-snoc, drop-append-seam, drop-drop, take-at, drop-at}
 use lib.Signed.{mag, ltZ, leZ, nonNeg}
 use mir.Syntax.{w32}
 use mir.Val.{Fits}
@@ -16,10 +18,15 @@ use Rattle.history.proofs.WordsLaws.{and-left, and-right}
 use Rattle.manual.specs.Words.{between, natOf}
 use Rattle.manual.proofs.WordsLaws.{clash}
 use Rattle.manual.specs.Configuration.{configOk}
+use Rattle.transcript.specs.declared.Cursor.{Cursor}
 use Rattle.transcript.specs.declared.Word.{Word}
 use Rattle.transcript.specs.declared.Word.the-variants.{Number, End}
 use Rattle.transcript.specs.Text.{nextRead}
+use Rattle.replay_step.specs.declared.Numbers.{Numbers}
+use Rattle.replay_step.specs.declared.Begun.{Begun}
+use Rattle.replay_step.specs.declared.Begun.the-variants.{Ready}
 use Rattle.replay_step.specs.Beginning.{Read, readTo, unread, withNext, oneMore, numbersRead, Beginning, ready, refused, unreadable, judgedNumbers, ofNumbers, withCount, ofCount, beginning}
+use Rattle.replay_step.specs.Beginning.{Leaving, leaving, laid, cursor, numbersLeft, beginningLeft}
 
 -- an argument has 32 bits
 pub argument-fits : (z : ℤ) → mag z < 2 ^ 31 → ltZ z (pos 0) ≡ false → T (nonNeg z) × Fits w32 (natAbs z)
@@ -31,21 +38,135 @@ pub more-read : (text : List ℕ) (at k : ℕ) {r : Read} → numbersRead k at t
 unfolding numbersRead
 more-read text at k e = ap (oneMore text) e
 
-pub stays-unread : (text : List ℕ) (at k n : ℕ) → k ≤ n → numbersRead k at text ≡ unread → numbersRead n at text ≡ unread
+pub stays-unread : (text : List ℕ) (at k n : ℕ) {zs : List ℤ} → k ≤ n → numbersRead k at text ≡ unread zs → numbersRead n at text ≡ unread zs
 stays-unread text at k zero h u = ap (λ (j : ℕ). numbersRead j at text) (let e : 0 ≡ k = omega arith in e) ∙ u
-stays-unread text at k (suc n) h u = go (leb k n) refl (λ l. stays-unread text at k n l u)
+stays-unread text at k (suc n) {zs} h u = go (leb k n) refl (λ l. stays-unread text at k n l u)
   where
-    go : (b : Bool) → leb k n ≡ b → (k ≤ n → numbersRead n at text ≡ unread) → numbersRead (suc n) at text ≡ unread
+    go : (b : Bool) → leb k n ≡ b → (k ≤ n → numbersRead n at text ≡ unread zs) → numbersRead (suc n) at text ≡ unread zs
     go true q ih = more-read text at n (ih (leb-true k n q))
     go false q ih = ap (λ (j : ℕ). numbersRead j at text) (let l = leb-false k n q in let e : suc n ≡ k = omega arith in e) ∙ u
 
--- what the turn of the loop at a place leaves
-module _ (text : List ℕ) (at place : ℕ) {zs : List ℤ} {p : ℕ} (so-far : numbersRead place at text ≡ readTo zs p) where
-  pub turn-read : {ys : List ℤ} {q : ℕ} → readTo ys q ≡ withNext zs (nextRead p text) → numbersRead (suc place) at text ≡ readTo ys q
-  turn-read e = more-read text at place so-far ∙ sym e
+-- so many numbers are read, or fewer before one that cannot be
+abbrev pub Counts : ℕ → Read → Type 0
+Counts k (readTo zs at) = length zs ≡ k
+Counts k (unread zs) = length zs ≤ k
 
-  pub turn-unread : (count : ℕ) → place < count → unread ≡ withNext zs (nextRead p text) → unread ≡ numbersRead count at text
-  turn-unread count h e = sym (stays-unread text at (suc place) count (omega arith) (more-read text at place so-far ∙ sym e))
+next-counts : (k : ℕ) (zs : List ℤ) (w : Word) → length zs ≡ k → Counts (suc k) (withNext zs w)
+next-counts k zs (Number r) h = let e = length-append zs (r .value ∷ []) in omega (arith, e, h)
+next-counts k zs Word.Unreadable h = omega arith
+next-counts k zs End h = omega arith
+
+more-counts : (text : List ℕ) (k : ℕ) (r : Read) → Counts k r → Counts (suc k) (oneMore text r)
+more-counts text k (readTo zs at) h = next-counts k zs (nextRead at text) h
+more-counts text k (unread zs) h = omega arith
+
+pub counts : (text : List ℕ) (at k : ℕ) → Counts k (numbersRead k at text)
+unfolding numbersRead
+counts text at zero = refl
+counts text at (suc k) = more-counts text k (numbersRead k at text) (counts text at k)
+
+-- ---- the buffer
+
+abbrev isRead : Numbers → Bool
+isRead (Numbers.Read next) = true
+isRead Numbers.Unreadable = false
+
+abbrev behind : Numbers → ℕ
+behind (Numbers.Read next) = next .at
+behind Numbers.Unreadable = 0
+
+-- a number stored behind the numbers so far
+pub laid-next : (l : List ℤ) (place : ℕ) (z : ℤ) → place < length l → set l place z ≡ laid (take place l ++ z ∷ []) l
+laid-next l place z h =
+    let n : length (take place l ++ z ∷ []) ≡ suc place = let e = length-append (take place l) (z ∷ []) in let t = length-take-le place l (omega arith) in omega (arith, e, t) in
+    set-split l place z h ∙ sym (append-snoc (take place l) z (drop (suc place) l))
+    ∙ ap (λ (k : ℕ). (take place l ++ z ∷ []) ++ drop k l) (sym n)
+
+-- the front as it stands
+pub laid-front : (l : List ℤ) (n : ℕ) → n ≤ length l → laid (take n l) l ≡ l
+laid-front l n h = ap (λ (k : ℕ). take n l ++ drop k l) (length-take-le n l h) ∙ take-append-drop n l
+
+pub laid-again : (zs l : List ℤ) → laid zs (laid zs l) ≡ laid zs l
+laid-again zs l = ap (λ (r : List ℤ). zs ++ r) (drop-append-seam zs (drop (length zs) l))
+
+-- over a buffer with the same rest
+laid-over : (zs : List ℤ) {place : ℕ} (l m : List ℤ) → length zs ≡ place → drop place l ≡ drop place m → laid zs l ≡ laid zs m
+laid-over zs {place} l m n e = ap (λ (k : ℕ). zs ++ drop k l) n ∙ ap (λ (r : List ℤ). zs ++ r) e ∙ ap (λ (k : ℕ). zs ++ drop k m) (sym n)
+
+-- what the turn of the loop at a place leaves: `l` before the turn, `l′` after it, `m` before the loop
+module _ (text : List ℕ) (at place : ℕ) (m l : List ℤ) {p : ℕ} (within : place < length l)
+    (so-far : numbersRead place at text ≡ readTo (take place l) p) (rest : drop place l ≡ drop place m) where
+  long : length (take place l) ≡ place
+  long = length-take-le place l (omega arith)
+
+  longer : (z : ℤ) → length (take place l ++ z ∷ []) ≡ suc place
+  longer z = let e = length-append (take place l) (z ∷ []) in omega (arith, e, long)
+
+  pub rest-kept : drop (suc place) l ≡ drop (suc place) m
+  rest-kept = let e : suc place ≡ place + 1 = omega arith in
+      rw e (sym (drop-drop 1 place l) ∙ ap (drop 1) rest ∙ drop-drop 1 place m)
+
+  pub turn-read : {l′ : List ℤ} {next : Cursor} (w : Word) → nextRead p text ≡ w → leaving (Numbers.Read next) l′ ≡ numbersLeft (withNext (take place l) w) l
+      → (numbersRead (suc place) at text ≡ readTo (take (suc place) l′) (next .at)) × (drop (suc place) l′ ≡ drop (suc place) m)
+  turn-read {l′} {next} (Number r) q e =
+      let b : l′ ≡ laid (take place l ++ r .value ∷ []) l = ap (λ (x : Leaving Numbers). x .buffer) e in
+      let t = ap (take (suc place)) b ∙ take-at (take place l ++ r .value ∷ []) _ (suc place) (longer (r .value)) in
+      let d = ap (drop (suc place)) b ∙ drop-at (take place l ++ r .value ∷ []) _ (suc place) (longer (r .value)) in
+      let a : r .next .at ≡ next .at = ap (λ (x : Leaving Numbers). behind (x .answer)) (sym e) in
+      let n : withNext (take place l) (nextRead p text) ≡ readTo (take place l ++ r .value ∷ []) (r .next .at) = ap (withNext (take place l)) q in
+      let f : readTo (take place l ++ r .value ∷ []) (r .next .at) ≡ readTo (take (suc place) l′) (next .at) = λ i. readTo (sym t i) (a i) in (
+        more-read text at place so-far ∙ n ∙ f,
+        d ∙ ap (λ (k : ℕ). drop k l) (longer (r .value)) ∙ rest-kept,
+      )
+  turn-read Word.Unreadable q e = clash true refl (ap (λ (x : Leaving Numbers). isRead (x .answer)) e)
+  turn-read End q e = clash true refl (ap (λ (x : Leaving Numbers). isRead (x .answer)) e)
+
+  stopped : {l′ : List ℤ} (count : ℕ) → place < count → numbersRead (suc place) at text ≡ unread (take place l) → l′ ≡ laid (take place l) l
+      → leaving Numbers.Unreadable l′ ≡ numbersLeft (numbersRead count at text) m
+  stopped count h u b =
+      ap (leaving Numbers.Unreadable) (b ∙ laid-over (take place l) l m long rest)
+      ∙ ap (λ (r : Read). numbersLeft r m) (sym (stays-unread text at (suc place) count (omega arith) u))
+
+  pub turn-unread : {l′ : List ℤ} (count : ℕ) → place < count → (w : Word) → nextRead p text ≡ w
+      → leaving Numbers.Unreadable l′ ≡ numbersLeft (withNext (take place l) w) l
+      → leaving Numbers.Unreadable l′ ≡ numbersLeft (numbersRead count at text) m
+  turn-unread count h (Number r) q e = clash true refl (ap (λ (x : Leaving Numbers). isRead (x .answer)) (sym e))
+  turn-unread count h Word.Unreadable q e =
+      stopped count h (more-read text at place so-far ∙ ap (withNext (take place l)) q) (ap (λ (x : Leaving Numbers). x .buffer) e)
+  turn-unread count h End q e =
+      stopped count h (more-read text at place so-far ∙ ap (withNext (take place l)) q) (ap (λ (x : Leaving Numbers). x .buffer) e)
+
+-- the loop at its end
+pub all-read : (text : List ℕ) (at place : ℕ) (m : List ℤ) {l : List ℤ} {next : Cursor} → place ≤ length l
+    → numbersRead place at text ≡ readTo (take place l) (next .at) → drop place l ≡ drop place m
+    → leaving (Numbers.Read next) l ≡ numbersLeft (numbersRead place at text) m
+all-read text at place m {l} {next} h e rest =
+    ap (leaving (Numbers.Read next)) (sym (laid-front l place h) ∙ laid-over (take place l) l m (length-take-le place l h) rest)
+    ∙ ap (λ (r : Read). numbersLeft r m) (sym e)
+
+-- ---- numbers that are read are judged
+
+judged-over : (zs : List ℤ) (at : ℕ) (l m : List ℤ) → laid zs l ≡ laid zs m → beginningLeft (judgedNumbers zs at) l ≡ beginningLeft (judgedNumbers zs at) m
+unfolding judgedNumbers
+judged-over zs at l m e = go (configOk zs)
+  where
+    go : (b : Bool) → beginningLeft (cond b (ready zs at) (refused zs)) l ≡ beginningLeft (cond b (ready zs at) (refused zs)) m
+    go true = ap (leaving (Ready (length zs) (cursor at))) e
+    go false = ap (leaving Begun.Refused) e
+
+pub read-judged : (count : ℕ) (r : Read) {next : Cursor} {b : Begun} {l : List ℤ} (m : List ℤ) → Counts count r
+    → leaving (Numbers.Read next) l ≡ numbersLeft r m → leaving b l ≡ beginningLeft (judgedNumbers (take count l) (next .at)) l
+    → leaving b l ≡ beginningLeft (ofNumbers r) m
+read-judged count (readTo zs at) {next} {b} {l} m n e j =
+    let o : l ≡ laid zs m = ap (λ (x : Leaving Numbers). x .buffer) e in
+    let t : take count l ≡ zs = ap (take count) o ∙ take-at zs _ count n in
+    let a : next .at ≡ at = ap (λ (x : Leaving Numbers). behind (x .answer)) e in
+    j ∙ (λ i. beginningLeft (judgedNumbers (t i) (a i)) l) ∙ judged-over zs at l m (ap (laid zs) o ∙ laid-again zs m)
+read-judged count (unread zs) m n e j = clash true refl (ap (λ (x : Leaving Numbers). isRead (x .answer)) e)
+
+pub unread-begins : (r : Read) {l : List ℤ} (m : List ℤ) → leaving Numbers.Unreadable l ≡ numbersLeft r m → leaving Begun.Unreadable l ≡ beginningLeft (ofNumbers r) m
+unread-begins (readTo zs at) m e = clash true refl (ap (λ (x : Leaving Numbers). isRead (x .answer)) (sym e))
+unread-begins (unread zs) m e = ap (λ (x : Leaving Numbers). leaving Begun.Unreadable (x .buffer)) e
 
 -- an allowed count is one that the buffer has room for
 pub count-small : (z : ℤ) → between (pos 0) (pos 6659) z ≡ true → natOf z ≤ 6659
@@ -60,28 +181,28 @@ length-of-front n l h = let e = length-take n l in omega arith
 
 -- the configuration is accepted, and its numbers are no more than the buffer has room for
 abbrev pub tells : Beginning → Bool
-tells (ready count numbers at) = leb count 6659 && configOk numbers
-tells refused = true
-tells unreadable = true
+tells (ready numbers at) = leb (length numbers) 6659 && configOk numbers
+tells (refused numbers) = true
+tells (unreadable numbers) = true
 
-judged-tells : (count : ℕ) (numbers : List ℤ) (at : ℕ) → count ≤ 6659 → tells (judgedNumbers count numbers at) ≡ true
+judged-tells : (numbers : List ℤ) (at : ℕ) → length numbers ≤ 6659 → tells (judgedNumbers numbers at) ≡ true
 unfolding judgedNumbers
-judged-tells count numbers at h = go (configOk numbers) refl
+judged-tells numbers at h = go (configOk numbers) refl
   where
-    go : (b : Bool) → configOk numbers ≡ b → tells (cond b (ready count numbers at) refused) ≡ true
-    go true q = rw (le-leb count 6659 h, q)
+    go : (b : Bool) → configOk numbers ≡ b → tells (cond b (ready numbers at) (refused numbers)) ≡ true
+    go true q = rw (le-leb (length numbers) 6659 h, q)
     go false q = refl
 
-numbers-tell : (count : ℕ) (r : Read) → count ≤ 6659 → tells (ofNumbers count r) ≡ true
-numbers-tell count (readTo numbers at) h = judged-tells count numbers at h
-numbers-tell count unread h = refl
+numbers-tell : (count : ℕ) (r : Read) → Counts count r → count ≤ 6659 → tells (ofNumbers r) ≡ true
+numbers-tell count (readTo numbers at) n h = judged-tells numbers at (omega (arith, n, h))
+numbers-tell count (unread numbers) n h = refl
 
 count-tells : (z : ℤ) (at : ℕ) (text : List ℕ) → tells (withCount z at text) ≡ true
 unfolding withCount
 count-tells z at text = go (between (pos 0) (pos 6659) z) refl
   where
-    go : (b : Bool) → between (pos 0) (pos 6659) z ≡ b → tells (cond b (ofNumbers (natOf z) (numbersRead (natOf z) at text)) unreadable) ≡ true
-    go true q = numbers-tell (natOf z) (numbersRead (natOf z) at text) (count-small z q)
+    go : (b : Bool) → between (pos 0) (pos 6659) z ≡ b → tells (cond b (ofNumbers (numbersRead (natOf z) at text)) (unreadable [])) ≡ true
+    go true q = numbers-tell (natOf z) (numbersRead (natOf z) at text) (counts text at (natOf z)) (count-small z q)
     go false q = refl
 
 word-tells : (text : List ℕ) (w : Word) → tells (ofCount text w) ≡ true
@@ -94,7 +215,25 @@ unfolding beginning
 beginning-tells true text = refl
 beginning-tells false text = word-tells text (nextRead 0 text)
 
-pub ready-tells : (longer : Bool) (text : List ℕ) {count : ℕ} {numbers : List ℤ} {at : ℕ} → ready count numbers at ≡ beginning longer text → (count ≤ 6659) × (configOk numbers ≡ true)
-ready-tells longer text {count} {numbers} e =
-    let t : leb count 6659 && configOk numbers ≡ true = ap tells e ∙ beginning-tells longer text in
-    (leb-true count 6659 (and-left (leb count 6659) (configOk numbers) t), and-right (leb count 6659) (configOk numbers) t)
+abbrev isReady : Begun → Bool
+isReady (Ready count next) = true
+isReady Begun.Refused = false
+isReady Begun.Unreadable = false
+
+abbrev countOf : Begun → ℕ
+countOf (Ready count next) = count
+countOf Begun.Refused = 0
+countOf Begun.Unreadable = 0
+
+left-tells : (b : Beginning) {count : ℕ} {next : Cursor} {l : List ℤ} (m : List ℤ) → tells b ≡ true → leaving (Ready count next) l ≡ beginningLeft b m → (count ≤ 6659) × (configOk (take count l) ≡ true)
+left-tells (ready zs at) {count} {next} {l} m t e =
+    let n : count ≡ length zs = ap (λ (x : Leaving Begun). countOf (x .answer)) e in
+    let front : take count l ≡ zs = ap (take count) (ap (λ (x : Leaving Begun). x .buffer) e) ∙ take-at zs _ count (sym n) in
+    let small = leb-true (length zs) 6659 (and-left (leb (length zs) 6659) (configOk zs) t) in
+    (omega (arith, n, small), ap configOk front ∙ and-right (leb (length zs) 6659) (configOk zs) t)
+left-tells (refused zs) m t e = clash true refl (ap (λ (x : Leaving Begun). isReady (x .answer)) e)
+left-tells (unreadable zs) m t e = clash true refl (ap (λ (x : Leaving Begun). isReady (x .answer)) e)
+
+pub ready-tells : (longer : Bool) (text : List ℕ) (m : List ℤ) {count : ℕ} {next : Cursor} {l : List ℤ} → leaving (Ready count next) l ≡ beginningLeft (beginning longer text) m
+    → (count ≤ 6659) × (configOk (take count l) ≡ true)
+ready-tells longer text m e = left-tells (beginning longer text) m (beginning-tells longer text) e

@@ -3,9 +3,10 @@ use mathlib.Core.Bool.{Bool, cond}
 use mathlib.Core.List.{List, [], _∷_, _++_}
 use Prim.Native.Nat.{ℕ, zero, suc}
 use lib.IntN.{ℤ, pos}
-use lib.ListN.{take}
+use lib.ListN.{length, drop}
 use Rattle.manual.specs.Words.{between, natOf}
 use Rattle.manual.specs.Configuration.{configOk}
+use Rattle.transcript.specs.declared.Cursor.{Cursor}
 use Rattle.transcript.specs.declared.Word.{Word}
 use Rattle.transcript.specs.declared.Word.the-variants.{Number, End}
 use Rattle.transcript.specs.Text.{nextRead}
@@ -15,19 +16,19 @@ use Rattle.replay_step.specs.declared.Begun.the-variants.{Ready}
 
 -- ---- the numbers
 
--- numbers that were read, and the place behind them; or one of them could not be
+-- numbers that were read, and the place behind them; or those before one that could not be
 pub data Read : Type 0 where
   readTo : List ℤ → ℕ → Read
-  unread : Read
+  unread : List ℤ → Read
 
 abbrev pub withNext : List ℤ → Word → Read
 withNext numbers (Number r) = readTo (numbers ++ r .value ∷ []) (r .next .at)
-withNext numbers Word.Unreadable = unread
-withNext numbers End = unread
+withNext numbers Word.Unreadable = unread numbers
+withNext numbers End = unread numbers
 
 abbrev pub oneMore : List ℕ → Read → Read
 oneMore text (readTo numbers at) = withNext numbers (nextRead at text)
-oneMore text unread = unread
+oneMore text (unread numbers) = unread numbers
 
 -- so many numbers of the text, from `at` on
 unfoldable pub numbersRead : ℕ → ℕ → List ℕ → Read
@@ -36,40 +37,54 @@ numbersRead (suc k) at text = oneMore text (numbersRead k at text)
 
 -- ---- the configuration
 
--- an accepted configuration of so many numbers, and the place behind it; a refused one; or what cannot be read
+-- an accepted configuration, and the place behind it; a refused one; or what cannot be read, behind these numbers
 pub data Beginning : Type 0 where
-  ready : ℕ → List ℤ → ℕ → Beginning
-  refused : Beginning
-  unreadable : Beginning
+  ready : List ℤ → ℕ → Beginning
+  refused : List ℤ → Beginning
+  unreadable : List ℤ → Beginning
 
 -- "Refused configuration: one line `2`."
-unfoldable pub judgedNumbers : ℕ → List ℤ → ℕ → Beginning
-judgedNumbers count numbers at = cond (configOk numbers) (ready count numbers at) refused
+unfoldable pub judgedNumbers : List ℤ → ℕ → Beginning
+judgedNumbers numbers at = cond (configOk numbers) (ready numbers at) (refused numbers)
 
-abbrev pub ofNumbers : ℕ → Read → Beginning
-ofNumbers count (readTo numbers at) = judgedNumbers count numbers at
-ofNumbers count unread = unreadable
+abbrev pub ofNumbers : Read → Beginning
+ofNumbers (readTo numbers at) = judgedNumbers numbers at
+ofNumbers (unread numbers) = unreadable numbers
 
 -- "a count outside 0 to 6,659: only the line `bad input`"
 unfoldable pub withCount : ℤ → ℕ → List ℕ → Beginning
-withCount count at text = cond (between (pos 0) (pos 6659) count) (ofNumbers (natOf count) (numbersRead (natOf count) at text)) unreadable
+withCount count at text = cond (between (pos 0) (pos 6659) count) (ofNumbers (numbersRead (natOf count) at text)) (unreadable [])
 
 abbrev pub ofCount : List ℕ → Word → Beginning
 ofCount text (Number r) = withCount (r .value) (r .next .at) text
-ofCount text Word.Unreadable = unreadable
-ofCount text End = unreadable
+ofCount text Word.Unreadable = unreadable []
+ofCount text End = unreadable []
 
 -- "Longer input, …: only the line `bad input`."
 unfoldable pub beginning : Bool → List ℕ → Beginning
-beginning longer text = cond longer unreadable (ofCount text (nextRead 0 text))
+beginning longer text = cond longer (unreadable []) (ofCount text (nextRead 0 text))
 
--- ---- what the code answers, with the numbers that it left in front of its configuration buffer
+-- ---- what the code answers, with the configuration buffer that it leaves
 
-abbrev pub numbersIs : Numbers → List ℤ → Read
-numbersIs (Numbers.Read next) numbers = readTo numbers (next .at)
-numbersIs Numbers.Unreadable numbers = unread
+pub record Leaving (A : Type 0) : Type 0 where
+  pub answer : A
+  pub buffer : List ℤ
 
-abbrev pub beginningIs : Begun → List ℤ → Beginning
-beginningIs (Ready count next) cfg = ready count (take count cfg) (next .at)
-beginningIs Begun.Refused cfg = refused
-beginningIs Begun.Unreadable cfg = unreadable
+abbrev pub leaving : {A : Type 0} → A → List ℤ → Leaving A
+leaving answer buffer = record { answer = answer; buffer = buffer }
+
+-- the numbers that were read stand in front of the buffer, the rest of it as found
+abbrev pub laid : List ℤ → List ℤ → List ℤ
+laid numbers buffer = numbers ++ drop (length numbers) buffer
+
+abbrev pub cursor : ℕ → Cursor
+cursor at = record { at = at }
+
+abbrev pub numbersLeft : Read → List ℤ → Leaving Numbers
+numbersLeft (readTo numbers at) buffer = leaving (Numbers.Read (cursor at)) (laid numbers buffer)
+numbersLeft (unread numbers) buffer = leaving Numbers.Unreadable (laid numbers buffer)
+
+abbrev pub beginningLeft : Beginning → List ℤ → Leaving Begun
+beginningLeft (ready numbers at) buffer = leaving (Ready (length numbers) (cursor at)) (laid numbers buffer)
+beginningLeft (refused numbers) buffer = leaving Begun.Refused (laid numbers buffer)
+beginningLeft (unreadable numbers) buffer = leaving Begun.Unreadable (laid numbers buffer)

@@ -7,7 +7,7 @@ use transcript::Cursor;
 use transcript::Word;
 ghost use mathlib.Core.Path.{_≡_};
 ghost use mathlib.Core.List.{[]};
-ghost use Prim.Native.Nat.{suc, _≤_, _<_};
+ghost use Prim.Native.Nat.{_≤_, _<_};
 ghost use lib.IntN.{pos};
 ghost use lib.ListN.{length, take};
 ghost use Rattle.manual.specs.Words.{between, natOf};
@@ -16,7 +16,7 @@ ghost use Rattle.manual.specs.Answers.{alone, ofAnswer, ofReport};
 ghost use Rattle.manual.specs.Sequences.{outcome};
 ghost use Rattle.transcript.specs.Text.{nextRead};
 ghost use Rattle.replay_step.specs.Asked.{argumentOf, argumentAt, reportAsked, callAsked, callWith, askedAt};
-ghost use Rattle.replay_step.specs.Beginning.{numbersIs, withNext, numbersRead, judgedNumbers, ofNumbers, withCount, beginningIs, beginning};
+ghost use Rattle.replay_step.specs.Beginning.{withNext, numbersRead, judgedNumbers, ofNumbers, withCount, beginning, leaving, numbersLeft, beginningLeft};
 ghost use Rattle.replay_step.specs.declared.Asked.the-variants.{Makes};
 ghost use Rattle.replay_step.specs.Turn.{callIs, made, madeBy, turned, turnBy, turn, Playable};
 
@@ -138,7 +138,7 @@ enum Numbers {
 // Reads the next number into its place.
 fn read_into(text: &[u8], from: Cursor, cfg: &mut [i32], place: usize) -> Numbers
     requires { ⌜ place < length (now cfg) ⌝ }
-    ensures { λ r. ⌜ numbersIs r (take (suc place) (now (cfg .exit))) ≡ withNext (take place (now (cfg .entry))) (nextRead (from .at) (now (text .entry))) ⌝ }
+    ensures { λ r. ⌜ leaving r (now (cfg .exit)) ≡ numbersLeft (withNext (take place (now (cfg .entry))) (nextRead (from .at) (now (text .entry)))) (now (cfg .entry)) ⌝ }
 {
     match transcript::next_number(text, from) {
         Word::Number(read) => {
@@ -155,7 +155,7 @@ fn read_into(text: &[u8], from: Cursor, cfg: &mut [i32], place: usize) -> Number
 // Reads so many numbers into the front of cfg.
 fn read_numbers(text: &[u8], from: Cursor, cfg: &mut [i32], count: usize) -> Numbers
     requires { ⌜ count ≤ length (now cfg) ⌝ }
-    ensures { λ r. ⌜ numbersIs r (take count (now (cfg .exit))) ≡ numbersRead count (from .at) (now (text .entry)) ⌝ }
+    ensures { λ r. ⌜ leaving r (now (cfg .exit)) ≡ numbersLeft (numbersRead count (from .at) (now (text .entry))) (now (cfg .entry)) ⌝ }
 {
     let mut next = from;
     for place in 0..count {
@@ -181,7 +181,7 @@ const MOST_NUMBERS: i32 = 6659;
 // The numbers in front of cfg as a configuration: "Refused configuration: one line `2`."
 fn judged(cfg: &[i32], count: usize, next: Cursor) -> Begun
     requires { ⌜ count ≤ length (now cfg) ⌝ }
-    ensures { λ r. ⌜ beginningIs r (now (cfg .entry)) ≡ judgedNumbers count (take count (now (cfg .entry))) (next .at) ⌝ }
+    ensures { λ r. ⌜ leaving r (now (cfg .entry)) ≡ beginningLeft (judgedNumbers (take count (now (cfg .entry))) (next .at)) (now (cfg .entry)) ⌝ }
 {
     if config::config_ok(&cfg[..count]) {
         Begun::Ready(count, next)
@@ -192,7 +192,7 @@ fn judged(cfg: &[i32], count: usize, next: Cursor) -> Begun
 
 fn read_configuration(text: &[u8], from: Cursor, cfg: &mut [i32], count: usize) -> Begun
     requires { ⌜ count ≤ length (now cfg) ⌝ }
-    ensures { λ r. ⌜ beginningIs r (now (cfg .exit)) ≡ ofNumbers count (numbersRead count (from .at) (now (text .entry))) ⌝ }
+    ensures { λ r. ⌜ leaving r (now (cfg .exit)) ≡ beginningLeft (ofNumbers (numbersRead count (from .at) (now (text .entry)))) (now (cfg .entry)) ⌝ }
 {
     match read_numbers(text, from, cfg, count) {
         Numbers::Read(next) => judged(cfg, count, next),
@@ -210,7 +210,7 @@ fn count_allowed(count: i32) -> bool
 // The configuration of so many numbers, if so many are allowed.
 fn counted(text: &[u8], count: i32, from: Cursor, cfg: &mut [i32]) -> Begun
     requires { ⌜ 6659 ≤ length (now cfg) ⌝ }
-    ensures { λ r. ⌜ beginningIs r (now (cfg .exit)) ≡ withCount count (from .at) (now (text .entry)) ⌝ }
+    ensures { λ r. ⌜ leaving r (now (cfg .exit)) ≡ beginningLeft (withCount count (from .at) (now (text .entry))) (now (cfg .entry)) ⌝ }
 {
     if !count_allowed(count) {
         return Begun::Unreadable;
@@ -219,10 +219,10 @@ fn counted(text: &[u8], count: i32, from: Cursor, cfg: &mut [i32]) -> Begun
 }
 
 // "Longer input, or a count outside 0 to 6,659: only the line `bad input`."
-// The configuration is left in front of cfg, which has room for the most numbers.
+// The numbers that were read are left in front of cfg, which has room for the most, and the rest of it as it was.
 pub fn begin(text: &[u8], longer: bool, cfg: &mut [i32]) -> Begun
     requires { ⌜ 6659 ≤ length (now cfg) ⌝ }
-    ensures { λ r. ⌜ beginningIs r (now (cfg .exit)) ≡ beginning longer (now (text .entry)) ⌝ }
+    ensures { λ r. ⌜ leaving r (now (cfg .exit)) ≡ beginningLeft (beginning longer (now (text .entry))) (now (cfg .entry)) ⌝ }
 {
     if longer {
         return Begun::Unreadable;

@@ -33,10 +33,10 @@ enum-known-count : tie.Need-enum-known-count
 enum-known-count c = search needs
 
 array-share-prefix-cfg : tie.Need-array-share-prefix-cfg
-array-share-prefix-cfg c = omega (arith, ready-tells _ _ (rw (c .before .count .given .1) at (c .before .before .before .before .begin .ensures)) .0, c .before .before .before .before .begin .kept .1 .1 .0)
+array-share-prefix-cfg c = omega (arith, ready-tells _ _ _ (rw (c .before .count .given .1) at (c .before .before .before .before .begin .ensures)) .0, c .before .before .before .before .begin .kept .1 .1 .0)
 
 slice-aggregate-story : tie.Need-slice-aggregate-story
-slice-aggregate-story c = length-of-front _ _ (omega (arith, ready-tells _ _ (rw (c .before .before .count .given .1) at (c .before .before .before .before .before .begin .ensures)) .0, c .before .before .before .before .before .begin .kept .1 .1 .0))
+slice-aggregate-story c = length-of-front _ _ (omega (arith, ready-tells _ _ _ (rw (c .before .before .count .given .1) at (c .before .before .before .before .before .begin .ensures)) .0, c .before .before .before .before .before .begin .kept .1 .1 .0))
 
 slice-aggregate-story-2 : tie.Need-slice-aggregate-story-2
 slice-aggregate-story-2 c = search needs
@@ -48,7 +48,7 @@ slice-aggregate-story-4 : tie.Need-slice-aggregate-story-4
 slice-aggregate-story-4 c = search needs
 
 story-requires : tie.Need-story-requires
-story-requires c κs = record { accepted = ready-tells _ _ (rw (c .before .before .before .before .before .count .given .1) at (c .before .before .before .before .before .before .before .before .begin .ensures)) .1; for-records = le-refl 2048; for-numbers = le-refl 512; for-memory = le-refl 2241 }
+story-requires c κs = record { accepted = ready-tells _ _ _ (rw (c .before .before .before .before .before .count .given .1) at (c .before .before .before .before .before .before .before .before .begin .ensures)) .1; for-records = le-refl 2048; for-numbers = le-refl 512; for-memory = le-refl 2241 }
 
 enum-told : tie.Need-enum-told
 enum-told c = search needs

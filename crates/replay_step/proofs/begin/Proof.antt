@@ -2,7 +2,7 @@ use mathlib.Core.Path.{ap, _∙_}
 use lib.IntN.{ℤ}
 use denote.Ref.{now}
 use Rattle.config.proofs.SignedInCode.{back}
-use Rattle.replay_step.specs.Beginning.{beginning, withCount}
+use Rattle.replay_step.specs.Beginning.{beginning, withCount, beginningLeft}
 use borrow.Author.Needs.{needs}
 use Rattle.replay_step.proofs.begin.Statement.{statement}
 use Rattle.replay_step.proofs.begin.Tie as tie
@@ -31,7 +31,7 @@ same-length c = search needs
 
 returns-2 : tie.Need-returns-2
 unfolding beginning
-returns-2 c = rw (c .before .before .before .before .before .before .before .before .before .if1 .left, ← c .before .before .before .before .before .before .before .before .next-number .ensures, c .before .before .before .before .before .before .count .given .1) (c .before .counted .ensures ∙ ap (λ (z : ℤ). withCount z (c .before .before .before .before .before .before .count .given .0 .0 .next .at) (now (c .before .before .before .before .before .before .before .before .before .before .before .args .text))) (back (c .before .before .before .before .before .before .count .given .0 .0 .value) (c .before .before .struct-told .given .0 .1)))
+returns-2 c = rw (c .before .before .before .before .before .before .before .before .before .if1 .left, ← c .before .before .before .before .before .before .before .before .next-number .ensures, c .before .before .before .before .before .before .count .given .1) (c .before .counted .ensures ∙ ap (λ (z : ℤ). beginningLeft (withCount z (c .before .before .before .before .before .before .count .given .0 .0 .next .at) (now (c .before .before .before .before .before .before .before .before .before .before .before .args .text))) (now (c .before .before .before .before .before .before .before .before .before .before .before .args .cfg))) (back (c .before .before .before .before .before .before .count .given .0 .0 .value) (c .before .before .struct-told .given .0 .1)))
 
 returns-3 : tie.Need-returns-3
 unfolding beginning

@@ -3,7 +3,7 @@ use Prim.Native.Nat.{ℕ}
 use mir.Facts.{toZ-ofZ}
 use native.Mathlib.Nat.{le-trans}
 use borrow.Author.Tests.{not-true, not-false}
-use Rattle.replay_step.specs.Beginning.{withCount, ofNumbers, numbersRead}
+use Rattle.replay_step.specs.Beginning.{withCount, ofNumbers, numbersRead, beginningLeft}
 use Rattle.replay_step.proofs.BeginningLaws.{count-small}
 use denote.Ref.{now}
 use borrow.Author.Needs.{needs}
@@ -31,7 +31,7 @@ same-length c = search needs
 
 returns-2 : tie.Need-returns-2
 unfolding withCount
-returns-2 c = let e = toZ-ofZ (c .before .before .before .before .before .before .before .fits .count) in let r = rw e at (c .before .before .before .before .before .count-allowed .ensures) in let n = rw e at (c .before .before .count-of .ensures) in rw (← r, not-false (c .before .before .before .before .before .count-allowed .result) (c .before .before .before .before .if1 .left)) (c .before .read-configuration .ensures ∙ ap (λ (k : ℕ). ofNumbers k (numbersRead k (c .before .before .before .before .before .before .before .args .from .at) (now (c .before .before .before .before .before .before .before .args .text)))) n)
+returns-2 c = let e = toZ-ofZ (c .before .before .before .before .before .before .before .fits .count) in let r = rw e at (c .before .before .before .before .before .count-allowed .ensures) in let n = rw e at (c .before .before .count-of .ensures) in rw (← r, not-false (c .before .before .before .before .before .count-allowed .result) (c .before .before .before .before .if1 .left)) (c .before .read-configuration .ensures ∙ ap (λ (k : ℕ). beginningLeft (ofNumbers (numbersRead k (c .before .before .before .before .before .before .before .args .from .at) (now (c .before .before .before .before .before .before .before .args .text)))) (now (c .before .before .before .before .before .before .before .args .cfg))) n)
 
 pub counted-spec : {M : Type 1} → statement M
 counted-spec =

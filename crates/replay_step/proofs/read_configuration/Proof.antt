@@ -1,3 +1,6 @@
+use denote.Ref.{now}
+use Rattle.replay_step.proofs.BeginningLaws.{counts, read-judged, unread-begins}
+use Rattle.replay_step.specs.Beginning.{numbersRead}
 use borrow.Author.Needs.{needs}
 use Rattle.replay_step.proofs.read_configuration.Statement.{statement}
 use Rattle.replay_step.proofs.read_configuration.Tie as tie
@@ -18,13 +21,19 @@ same-length : tie.Need-same-length
 same-length c = search needs
 
 returns : tie.Need-returns
-returns c = rw (← c .before .before .before .before .before .before .read-numbers .ensures, c .before .before .before .next .given .1) (c .judged .ensures)
+returns c =
+    let a = c .before .before .before .before .before .before .before .before .before .args in
+    read-judged (a .count) (numbersRead (a .count) (a .from .at) (now (a .text))) (now (a .cfg)) (counts (now (a .text)) (a .from .at) (a .count))
+    (rw (c .before .before .before .next .given .1) at (c .before .before .before .before .before .before .read-numbers .ensures))
+    (c .judged .ensures)
 
 same-length-2 : tie.Need-same-length-2
 same-length-2 c = search needs
 
 returns-2 : tie.Need-returns-2
-returns-2 c = rw (← c .before .before .before .read-numbers .ensures, c .enum-told .given .1)
+returns-2 c =
+    let a = c .before .before .before .before .before .before .args in
+    unread-begins (numbersRead (a .count) (a .from .at) (now (a .text))) (now (a .cfg)) (rw (c .enum-told .given .1) at (c .before .before .before .read-numbers .ensures))
 
 pub read-configuration-spec : {M : Type 1} → statement M
 read-configuration-spec =
