@@ -15,10 +15,10 @@ use Rattle.history.specs.History.{Token, failed, stop, clear}
 use Rattle.manual.specs.declared.Verdict.{Verdict}
 use Rattle.manual.specs.declared.Verdict.the-variants.{None, Passed, Failed}
 use Rattle.manual.specs.Words.{forBelow, those}
-use Rattle.manual.specs.Configuration.{Configuration, events, places, frameBytes, priorityOf, limitsOf}
+use Rattle.manual.specs.Configuration.{Configuration, events, places, frameBytes, entryFrames, priorityOf, limitsOf}
 use Rattle.manual.specs.State.{State, opened, recordOf, withD}
 use Rattle.manual.specs.Debouncing.{Debounced}
-use Rattle.manual.specs.Memory.{Entry, eventOf, entryOf, isOf, without, noTwice, Kept, store}
+use Rattle.manual.specs.Memory.{Entry, eventOf, entryOf, payloadOf, renewedPayload, isOf, without, noTwice, Kept, store}
 use Rattle.manual.specs.WellFormed.{entries}
 use Rattle.manual.specs.OneEvent.{happens, isQuiet, entryLeaves, keeps, memoryTold, fails, qualifies, stops, clears, forThose}
 use Rattle.manual.specs.Displacement.{TakenOut, Ruled, renews, adds, replaces, loses}
@@ -26,7 +26,7 @@ use Rattle.manual.specs.Calls.{applied}
 use Rattle.manual.specs.EntriesInACall.{renewedEntry}
 use Rattle.history.proofs.WordsLaws.{and-true}
 use Rattle.manual.proofs.WordsLaws.{by, all-map, all-those, those-those, those-alike, those-each, all-so, others-in, one-in, those-in}
-use Rattle.manual.proofs.MemoryLaws.{EntryGood, frames, memory-entries, good-store}
+use Rattle.manual.proofs.MemoryLaws.{EntryGood, frames, memory-entries, fills, good-store}
 use Rattle.manual.proofs.MemoryStaysGood.{hasFailedBit, MemoryGood, entries-are, good-happens, good-D, bit-own}
 use Rattle.manual.proofs.OneEventLaws.{View, view, Acts, acts-cond, fold-later}
 use Rattle.manual.proofs.StaysWellFormed.{Sound, Keeps, below-going}
@@ -43,17 +43,17 @@ module _ (M : ℕ) (priority : ℕ → ℕ) (quiet : ℕ → Bool) (e : ℕ) (fr
   -- where an entry comes from: it was there, it is e's own, renewed, or e's new one
   abbrev pub StoreOrigin : Entry → Type 0
   StoreOrigin y =
-      List·Memᴰ y xs ⊎ (((x : Entry) × List·Memᴰ x xs × (eventOf x ≡ e) × (y ≡ renewedEntry frame x)) ⊎ (y ≡ entryOf e 1 frame))
+      List·Memᴰ y xs ⊎ (((x : Entry) × List·Memᴰ x xs × (eventOf x ≡ e) × (y ≡ renewedEntry frame x)) ⊎ (y ≡ entryOf e 1 (payloadOf frame)))
 
   module _ (once : noTwice xs ≡ true) where
     pub store-fate : (x : Entry) → List·Memᴰ x xs → StoreFate (store M priority quiet e frame xs .entries) x
     store-fate x m = go (store M priority quiet e frame xs) (store-is-ruled M priority quiet e frame xs once)
       where
         own : (older newer : List Entry) (y : Entry) → eventOf y ≡ e → x ≡ y
-            → StoreFate (older ++ newer ++ (entryOf e (min 255 (suc (y .count))) frame ∷ [])) x
+            → StoreFate (older ++ newer ++ (entryOf e (min 255 (suc (y .count))) (renewedPayload (y .payload) frame) ∷ [])) x
         own older newer y t q =
             let e-is : eventOf x ≡ e = ap eventOf q ∙ t in
-            inr (inl (e-is, Memᴰ·append-right (older ++ newer) (List·Memᴰ·head (λ i. entryOf (e-is i) (min 255 (suc (q i .count))) frame))))
+            inr (inl (e-is, Memᴰ·append-right (older ++ newer) (List·Memᴰ·head (λ i. entryOf (e-is i) (min 255 (suc (q i .count))) (renewedPayload (q i .payload) frame)))))
 
         go : (k : Kept) → Ruled M priority quiet e frame xs k → StoreFate (k .entries) x
         go _ (renews older y newer s t) = ⊎-elim (own older newer y t) inl (others-in xs older y newer s x _ m)
@@ -69,7 +69,7 @@ module _ (M : ℕ) (priority : ℕ → ℕ) (quiet : ℕ → Bool) (e : ℕ) (fr
         go : (k : Kept) → Ruled M priority quiet e frame xs k → List·Memᴰ y (k .entries) → StoreOrigin y
         go _ (renews older v newer s t) m =
             ⊎-elim (λ a. inl (those-in xs older v newer s y a))
-            (λ b. inr (inl (v, one-in xs older v newer s, t, List·Memᴰ·eq-of-singleton b ∙ ap (λ (k : ℕ). entryOf k (min 255 (suc (v .count))) frame) (sym t))))
+            (λ b. inr (inl (v, one-in xs older v newer s, t, List·Memᴰ·eq-of-singleton b ∙ ap (λ (k : ℕ). entryOf k (min 255 (suc (v .count))) (renewedPayload (v .payload) frame)) (sym t))))
             (List·Memᴰ·append-cases (older ++ newer) m)
         go _ (adds n l) m = ⊎-elim inl (λ b. inr (inr (List·Memᴰ·eq-of-singleton b))) (List·Memᴰ·append-cases xs m)
         go _ (replaces v t) m =
@@ -89,8 +89,8 @@ module _ (cfg : Configuration) (frame : List ℕ) (k : ℕ) where
     unfolding memoryTold keeps happens
     told-entries u m =
         entries-are cfg (happens cfg failed k u) (toldEntries u)
-        (good-store (events cfg) (places cfg) (frameBytes cfg) (hasFailedBit cfg (happens cfg failed k u)) (priorityOf cfg) _ k frame below
-        (bit-own cfg failed k u (m .sized) below) framed (entries cfg u) (good-happens cfg failed (λ n r e. refl) k u below m .good))
+        (good-store (events cfg) (places cfg) (entryFrames cfg) (hasFailedBit cfg (happens cfg failed k u)) (priorityOf cfg) _ k frame below
+        (bit-own cfg failed k u (m .sized) below) (fills cfg frame framed) (entries cfg u) (good-happens cfg failed (λ n r e. refl) k u below m .good))
 
     -- where the verdict is a fresh failure the entries are those of the store, else as they were
     pub data PartEntries (d : Debounced) (u : State) (after : List Entry) : Type 0 where
@@ -180,9 +180,9 @@ module _ (cfg : Configuration) {p : ℕ → Bool} {one : ℕ → State → State
   unfolding forThose
   those-stay =
       below-stay (events cfg) (le-refl (events cfg))
-      ∙ those-alike _ _ (entries cfg s) (all-map (EntryGood (events cfg) (frameBytes cfg) (hasFailedBit cfg s)) _ at-last (entries cfg s) (o .memory .good .each))
+      ∙ those-alike _ _ (entries cfg s) (all-map (EntryGood (events cfg) (entryFrames cfg) (hasFailedBit cfg s)) _ at-last (entries cfg s) (o .memory .good .each))
     where
-      at-last : (x : Entry) → EntryGood (events cfg) (frameBytes cfg) (hasFailedBit cfg s) x → staysBelow out (events cfg) (eventOf x) ≡ not (out (eventOf x))
+      at-last : (x : Entry) → EntryGood (events cfg) (entryFrames cfg) (hasFailedBit cfg s) x → staysBelow out (events cfg) (eventOf x) ≡ not (out (eventOf x))
       at-last x g = rw (lt-ltb (eventOf x) (events cfg) (g .below))
 
 -- its entry leaves, after something happened to the event
@@ -190,8 +190,8 @@ module _ (cfg : Configuration) (t : Token) (k : ℕ) (u : State) (m : MemoryGood
   left-entries : entries cfg (entryLeaves cfg k (happens cfg t k u)) ≡ without k (entries cfg u)
   unfolding entryLeaves happens without
   left-entries =
-      memory-entries (places cfg) (frameBytes cfg) (without k (entries cfg u))
-      (all-those _ _ (λ x. not (isOf k x)) (λ x q f. f) (entries cfg u) (frames (events cfg) (frameBytes cfg) (hasFailedBit cfg u) (entries cfg u) (m .good .each)))
+      memory-entries (places cfg) (entryFrames cfg) (without k (entries cfg u))
+      (all-those _ _ (λ x. not (isOf k x)) (λ x q f. f) (entries cfg u) (frames (events cfg) (entryFrames cfg) (hasFailedBit cfg u) (entries cfg u) (m .good .each)))
 
 module _ (cfg : Configuration) where
   -- event e ages at a stop, by what the blocks hold of it

@@ -10,7 +10,7 @@ use lib.Seq.{take-at, drop-at, drop-drop, ext-getD, getD-take}
 use lib.IntN.{pos}
 use Rattle.history.specs.Words.{anyOf}
 use Rattle.manual.specs.Words.{equal}
-use Rattle.manual.specs.Configuration.{Configuration, events, places, frameBytes, cycleOf}
+use Rattle.manual.specs.Configuration.{Configuration, events, places, entryFrames, cycleOf}
 use Rattle.manual.specs.State.{State, allStopped, recordWidth, D}
 use Rattle.manual.specs.Memory.{entryWidth, entryCount, bytesInUse}
 use Rattle.manual.specs.WellFormed.{wellFormed}
@@ -33,7 +33,7 @@ module _ (cfg : Configuration) where
     tells = state-tells cfg s (still .formed)
 
     abbrev used : ℕ
-    used = bytesInUse (frameBytes cfg) (entryCount (s .memory))
+    used = bytesInUse (entryFrames cfg) (entryCount (s .memory))
 
     -- what follows the records in the image and what is behind it
     abbrev bodies : List ℕ
@@ -61,20 +61,20 @@ module _ (cfg : Configuration) where
 
     -- the memory and the overflow flag that bodies tell
     abbrev memoryIn : List ℕ → List ℕ
-    memoryIn l = take (bytesInUse (frameBytes cfg) (entryCount l)) l ++ replicate (entryWidth (frameBytes cfg) * (places cfg - entryCount l)) 0
+    memoryIn l = take (bytesInUse (entryFrames cfg) (entryCount l)) l ++ replicate (entryWidth (entryFrames cfg) * (places cfg - entryCount l)) 0
 
     abbrev overflowIn : List ℕ → Bool
-    overflowIn l = eqb (getD (drop (bytesInUse (frameBytes cfg) (entryCount l)) l) 0 0) 1
+    overflowIn l = eqb (getD (drop (bytesInUse (entryFrames cfg) (entryCount l)) l) 0 0) 1
 
     memory-back : memoryIn bodies ≡ s .memory
     memory-back =
-        ap (λ (j : ℕ). take (bytesInUse (frameBytes cfg) j) bodies ++ replicate (entryWidth (frameBytes cfg) * (places cfg - j)) 0) count-back
-        ∙ ap (λ (l : List ℕ). l ++ replicate (entryWidth (frameBytes cfg) * (places cfg - entryCount (s .memory))) 0) (take-at (memoryBody cfg s) (overflowBody cfg s ++ rest) used (used-length cfg s tells))
+        ap (λ (j : ℕ). take (bytesInUse (entryFrames cfg) j) bodies ++ replicate (entryWidth (entryFrames cfg) * (places cfg - j)) 0) count-back
+        ∙ ap (λ (l : List ℕ). l ++ replicate (entryWidth (entryFrames cfg) * (places cfg - entryCount (s .memory))) 0) (take-at (memoryBody cfg s) (overflowBody cfg s ++ rest) used (used-length cfg s tells))
         ∙ sym (memory-split cfg s tells)
 
     overflow-back : overflowIn bodies ≡ s .board .overflow
     overflow-back =
-        ap (λ (j : ℕ). eqb (getD (drop (bytesInUse (frameBytes cfg) j) bodies) 0 0) 1) count-back
+        ap (λ (j : ℕ). eqb (getD (drop (bytesInUse (entryFrames cfg) j) bodies) 0 0) 1) count-back
         ∙ ap (λ (l : List ℕ). eqb (getD l 0 0) 1) (drop-at (memoryBody cfg s) (overflowBody cfg s ++ rest) used (used-length cfg s tells))
         ∙ flag (s .board .overflow)
       where

@@ -1,6 +1,6 @@
 -- Laws of specs/Memory.antt, in its order: entries and their block are read off each other, one entry leaves and the others keep their
 -- order, and good entries stay good at a store.
-use mathlib.Core.Path.{_≡_, refl, sym, ap, _∙_}
+use mathlib.Core.Path.{_≡_, refl, sym, ap, subst, _∙_}
 use mathlib.Core.Logic.{_≢_}
 use mathlib.Core.Bool.{Bool, true, false, not, cond}
 use mathlib.Core.List.{List, [], _∷_, _++_, append-assoc}
@@ -18,7 +18,8 @@ use Rattle.history.proofs.WordsLaws.{and-left, and-right}
 use Rattle.manual.specs.declared.StoreAnswer.{StoreAnswer}
 use Rattle.manual.specs.declared.StoreAnswer.the-variants.{Renewed, Added, NotStored}
 use Rattle.manual.specs.Words.{All, firstOf, orElse, those}
-use Rattle.manual.specs.Memory.{Entry, eventOf, entryOf, entryWidth, entryBytes, entryAt, memoryLength, entryCount, bytesInUse, entriesFrom, entriesOf, entriesBytes, memoryOf, isOf, without, noTwice, Kept, kept, displacing, outranked, resting, victim, pushedOut, admitted, renewed, store}
+use Rattle.manual.specs.Configuration.{Configuration, frameBytes, entryFrames}
+use Rattle.manual.specs.Memory.{Entry, eventOf, entryOf, payloadOf, renewedPayload, entryWidth, entryBytes, entryAt, memoryLength, entryCount, bytesInUse, entriesFrom, entriesOf, entriesBytes, memoryOf, isOf, without, noTwice, Kept, kept, displacing, outranked, resting, victim, pushedOut, admitted, renewed, store}
 use Rattle.manual.proofs.WordsLaws.{by, neither, all-map, all-append, none-at, anyOf-append, First, first-is, first-none, all-those, those-le, those-all, anyOf-those, as-long}
 
 -- ---- an entry
@@ -26,7 +27,7 @@ use Rattle.manual.proofs.WordsLaws.{by, neither, all-map, all-append, n
 pub event-is : (e c : ℕ) (f : List ℕ) → eventOf (entryOf e c f) ≡ e
 event-is e c f = omega arith
 
--- three bytes and the frame
+-- three bytes and the payload
 width-is : (F : ℕ) → entryWidth F ≡ suc (suc (suc F))
 width-is F = omega arith
 
@@ -36,9 +37,9 @@ entry-bytes F (x ∷ []) h = absurd (omega arith)
 entry-bytes F (x ∷ y ∷ []) h = absurd (omega arith)
 entry-bytes F (x ∷ y ∷ z ∷ m) h = rw (width-is F)
 
--- its frame has F bytes
+-- its payload has F bytes
 abbrev pub Framed : ℕ → Entry → Type 0
-Framed F x = length (x .frame) ≡ F
+Framed F x = length (x .payload) ≡ F
 
 -- ---- the entries of some bytes
 
@@ -60,7 +61,7 @@ entries-framed F (suc k) m h = (
 pub bytes-length : (F : ℕ) (xs : List Entry) → All (Framed F) xs → length (entriesBytes xs) ≡ entryWidth F * length xs
 unfolding entriesBytes
 bytes-length F [] a = sym (mul-zero (entryWidth F))
-bytes-length F (x ∷ xs) a = let h = a .0 in omega (arith, length-append (x .frame) (entriesBytes xs), bytes-length F xs (a .1), mul-suc (entryWidth F) (length xs))
+bytes-length F (x ∷ xs) a = let h = a .0 in omega (arith, length-append (x .payload) (entriesBytes xs), bytes-length F xs (a .1), mul-suc (entryWidth F) (length xs))
 
 pub entries-bytes : (F k : ℕ) (m : List ℕ) → entryWidth F * k ≤ length m → entriesBytes (entriesFrom F k m) ≡ take (entryWidth F * k) m
 unfolding entriesFrom entriesBytes
@@ -74,7 +75,7 @@ entries-back : (F : ℕ) (xs : List Entry) (t : List ℕ) → All (Framed F) xs 
 unfolding entriesFrom entriesBytes
 entries-back F [] t a = refl
 entries-back F (x ∷ xs) t a =
-    rw (append-assoc (x .frame) (entriesBytes xs) t, width-is F, take-at (x .frame) (entriesBytes xs ++ t) F (a .0), drop-at (x .frame) (entriesBytes xs ++ t) F (a .0))
+    rw (append-assoc (x .payload) (entriesBytes xs) t, width-is F, take-at (x .payload) (entriesBytes xs ++ t) F (a .0), drop-at (x .payload) (entriesBytes xs ++ t) F (a .0))
     (ap (λ (l : List Entry). x ∷ l) (entries-back F xs t (a .1)))
 
 -- ---- the block of some entries
@@ -169,7 +170,7 @@ without-is xs older v newer s o = rw s (closes older v newer (rw s at o))
 pub record EntryGood (n F : ℕ) (B : ℕ → Bool) (x : Entry) : Type 0 where
   pub below : eventOf x < n
   pub occurred : 1 ≤ x .count
-  pub framed : length (x .frame) ≡ F
+  pub framed : length (x .payload) ≡ F
   pub failed : B (eventOf x) ≡ true
 
 -- "at most M entries, … no two equal"
@@ -209,14 +210,14 @@ module _ (M : ℕ) (priority : ℕ → ℕ) (quiet : ℕ → Bool) (e : ℕ) (fr
   rests = resting M priority quiet e frame
 
   -- the first that passes a test leaves, e is appended
-  abbrev instead : {p : Entry → Bool} {v : Entry} → StoreAnswer → ℕ → First p xs v → Kept
-  instead did c f = kept did (f .older ++ f .newer ++ (entryOf e c frame ∷ []))
+  abbrev instead : {p : Entry → Bool} {v : Entry} → StoreAnswer → ℕ → List ℕ → First p xs v → Kept
+  instead did c payload f = kept did (f .older ++ f .newer ++ (entryOf e c payload ∷ []))
 
   pub store-cases : (P : Kept → Type 0)
-      → ((x : Entry) (f : First (isOf e) xs x) → P (instead Renewed (min 255 (suc (x .count))) f))
-      → (anyOf (isOf e) xs ≡ false → length xs < M → P (kept Added (xs ++ (entryOf e 1 frame ∷ []))))
-      → (anyOf (isOf e) xs ≡ false → M ≤ length xs → (v : Entry) (f : First top xs v) → P (instead (displacing v) 1 f))
-      → (anyOf (isOf e) xs ≡ false → M ≤ length xs → anyOf top xs ≡ false → (v : Entry) (f : First rests xs v) → P (instead (displacing v) 1 f))
+      → ((x : Entry) (f : First (isOf e) xs x) → P (instead Renewed (min 255 (suc (x .count))) (renewedPayload (x .payload) frame) f))
+      → (anyOf (isOf e) xs ≡ false → length xs < M → P (kept Added (xs ++ (entryOf e 1 (payloadOf frame) ∷ []))))
+      → (anyOf (isOf e) xs ≡ false → M ≤ length xs → (v : Entry) (f : First top xs v) → P (instead (displacing v) 1 (payloadOf frame) f))
+      → (anyOf (isOf e) xs ≡ false → M ≤ length xs → anyOf top xs ≡ false → (v : Entry) (f : First rests xs v) → P (instead (displacing v) 1 (payloadOf frame) f))
       → (anyOf (isOf e) xs ≡ false → M ≤ length xs → anyOf top xs ≡ false → anyOf rests xs ≡ false → P (kept NotStored xs))
       → P (store M priority quiet e frame xs)
   unfolding store renewed admitted pushedOut victim
@@ -236,26 +237,51 @@ module _ (M : ℕ) (priority : ℕ → ℕ) (quiet : ℕ → Bool) (e : ℕ) (fr
           let n = first-none (isOf e) xs q in
           by (ltb (length xs) M) P (λ t. adds n (ltb-true _ _ t)) (λ t. pushed n (ltb-false _ _ t) _ _ refl refl)
 
-module _ (n M F : ℕ) (B : ℕ → Bool) (priority : ℕ → ℕ) (quiet : ℕ → Bool) (e : ℕ) (frame : List ℕ) (below : e < n) (failed : B e ≡ true) (framed : length frame ≡ F) where
-  good-appended : (c : ℕ) (xs : List Entry) → 1 ≤ c → length xs < M → anyOf (isOf e) xs ≡ false → Good n M F B xs → Good n M F B (xs ++ (entryOf e c frame ∷ []))
+module _ (n M F : ℕ) (B : ℕ → Bool) (e : ℕ) (below : e < n) (failed : B e ≡ true) (payload : List ℕ) (framed : length payload ≡ F) where
+  good-appended : (c : ℕ) (xs : List Entry) → 1 ≤ c → length xs < M → anyOf (isOf e) xs ≡ false → Good n M F B xs
+      → Good n M F B (xs ++ (entryOf e c payload ∷ []))
   good-appended c xs k l h g = record {
-    few = omega (arith, length-append xs (entryOf e c frame ∷ []));
+    few = omega (arith, length-append xs (entryOf e c payload ∷ []));
     each = all-append _ xs _ (g .each) (record { below = rw event-is below; occurred = k; framed = framed; failed = rw event-is failed }, tt);
-    once = once-append e c frame xs h (g .once);
+    once = once-append e c payload xs h (g .once);
   }
 
   -- the entry that leaves makes room
-  good-instead : {p : Entry → Bool} {v : Entry} (c : ℕ) (xs : List Entry) (f : First p xs v) → 1 ≤ c → anyOf (isOf e) (without (eventOf v) xs) ≡ false → Good n M F B xs
-      → Good n M F B (f .older ++ f .newer ++ (entryOf e c frame ∷ []))
+  good-instead : {p : Entry → Bool} {v : Entry} (c : ℕ) (xs : List Entry) (f : First p xs v) → 1 ≤ c → anyOf (isOf e) (without (eventOf v) xs) ≡ false
+      → Good n M F B xs → Good n M F B (f .older ++ f .newer ++ (entryOf e c payload ∷ []))
   good-instead {v} c xs f k h g =
       let w = without-is xs (f .older) v (f .newer) (f .there) (g .once) in
-      good-appended c (f .older ++ f .newer) k (omega (arith, length-append (f .older ++ f .newer) (v ∷ []), as-long xs (f .older) v (f .newer) (f .there) v, g .few)) (rw w at h)
+      let l = length-append (f .older ++ f .newer) (v ∷ []) in
+      good-appended c (f .older ++ f .newer) k (omega (arith, l, as-long xs (f .older) v (f .newer) (f .there) v, g .few)) (rw w at h)
       (rw w at (good-without n M F B B (eventOf v) xs (λ j l d t. t) g))
 
+-- the one that stands between these
+between-these : (P : Entry → Type 0) (older : List Entry) (x : Entry) (newer : List Entry) → All P (older ++ x ∷ newer) → P x
+between-these P [] x newer a = a .0
+between-these P (y ∷ older) x newer a = between-these P older x newer (a .1)
+
+-- what is stored of a lent frame fills an entry of F payload bytes
+pub record Fills (F : ℕ) (frame : List ℕ) : Type 0 where
+  pub new : length (payloadOf frame) ≡ F
+  pub renewal : (old : List ℕ) → length old ≡ F → length (renewedPayload old frame) ≡ F
+
+pub fills : (cfg : Configuration) (frame : List ℕ) → length frame ≡ frameBytes cfg → Fills (entryFrames cfg) frame
+fills cfg frame h = record { new = h; renewal = λ old k. h }
+
+module _ (n M F : ℕ) (B : ℕ → Bool) (priority : ℕ → ℕ) (quiet : ℕ → Bool) (e : ℕ) (frame : List ℕ) (below : e < n) (failed : B e ≡ true)
+    (framed : Fills F frame) where
   pub good-store : (xs : List Entry) → Good n M F B xs → Good n M F B (store M priority quiet e frame xs .entries)
   good-store xs g = store-cases M priority quiet e frame xs (g .once) (λ k. Good n M F B (k .entries))
-      (λ x f. good-instead (min 255 (suc (x .count))) xs f (omega arith) (rw (eqb-true (eventOf x) e (f .passes)) (without-gone e xs)) g)
-      (λ h l. good-appended 1 xs (le-refl 1) l h g)
-      (λ h l v f. good-instead 1 xs f (le-refl 1) (without-still e (eventOf v) xs h) g)
-      (λ h l t v f. good-instead 1 xs f (le-refl 1) (without-still e (eventOf v) xs h) g)
+      (λ x f. good-instead n M F B e below failed _ (framed .renewal (x .payload) (own f .framed)) (min 255 (suc (x .count))) xs f (omega arith)
+      (rw (eqb-true (eventOf x) e (f .passes)) (without-gone e xs)) g)
+      (λ h l. good-appended n M F B e below failed _ (framed .new) 1 xs (le-refl 1) l h g)
+      (λ h l v f. good-new f (without-still e (eventOf v) xs h))
+      (λ h l t v f. good-new f (without-still e (eventOf v) xs h))
       (λ h l t r. g)
+    where
+      own : {p : Entry → Bool} {v : Entry} (f : First p xs v) → EntryGood n F B v
+      own {v} f = between-these _ (f .older) v (f .newer) (subst (All (EntryGood n F B)) (f .there) (g .each))
+
+      good-new : {p : Entry → Bool} {v : Entry} (f : First p xs v) → anyOf (isOf e) (without (eventOf v) xs) ≡ false
+          → Good n M F B (f .older ++ f .newer ++ (entryOf e 1 (payloadOf frame) ∷ []))
+      good-new f h = good-instead n M F B e below failed _ (framed .new) 1 xs f (le-refl 1) h g

@@ -10,14 +10,14 @@ use lib.IntN.{ℤ, pos}
 use borrow.Author.Tests.{eqb-true, eqb-false}
 use Rattle.history.specs.StatusByte.{testFailedSinceLastClear, EventRecord, Limits, agesAtStop}
 use Rattle.history.specs.History.{Token, start, stop, clear, step}
-use Rattle.manual.specs.Configuration.{Configuration, events, places, frameBytes, priorityOf, limitsOf}
+use Rattle.manual.specs.Configuration.{Configuration, events, places, frameBytes, entryFrames, priorityOf, limitsOf}
 use Rattle.manual.specs.State.{State, opened, recordOf, withD}
 use Rattle.manual.specs.Memory.{Entry, memoryOf, without, store}
 use Rattle.manual.specs.WellFormed.{entries}
 use Rattle.manual.specs.OneEvent.{happens, withEntries, entryLeaves, isQuiet, keeps, memoryTold, stops, clears}
 use Rattle.manual.proofs.WordsLaws.{by}
 use Rattle.manual.proofs.StateLaws.{opened-stored}
-use Rattle.manual.proofs.MemoryLaws.{Good, frames, memory-entries, good-bits, good-without, good-store}
+use Rattle.manual.proofs.MemoryLaws.{Good, frames, memory-entries, good-bits, good-without, fills, good-store}
 use Rattle.manual.proofs.OneEventLaws.{View, Sized, acts-happens, acts-D}
 
 module _ (cfg : Configuration) where
@@ -26,21 +26,21 @@ module _ (cfg : Configuration) where
   hasFailedBit s e = recordOf s e .status testFailedSinceLastClear
 
   abbrev InOrder : State → List Entry → Type 0
-  InOrder s xs = Good (events cfg) (places cfg) (frameBytes cfg) (hasFailedBit s) xs
+  InOrder s xs = Good (events cfg) (places cfg) (entryFrames cfg) (hasFailedBit s) xs
 
   pub record MemoryGood (s : State) : Type 0 where
     pub sized : Sized cfg s
-    pub block : s .memory ≡ memoryOf (places cfg) (frameBytes cfg) (entries cfg s)
+    pub block : s .memory ≡ memoryOf (places cfg) (entryFrames cfg) (entries cfg s)
     pub good : InOrder s (entries cfg s)
 
   -- a block made of entries in order
   pub entries-are : (s : State) (xs : List Entry) → InOrder s xs → entries cfg (withEntries cfg xs s) ≡ xs
-  entries-are s xs g = memory-entries (places cfg) (frameBytes cfg) xs (frames (events cfg) (frameBytes cfg) (hasFailedBit s) xs (g .each))
+  entries-are s xs g = memory-entries (places cfg) (entryFrames cfg) xs (frames (events cfg) (entryFrames cfg) (hasFailedBit s) xs (g .each))
 
   pub made-good : (s : State) (xs : List Entry) → Sized cfg s → InOrder s xs → MemoryGood (withEntries cfg xs s)
   made-good s xs z g = record {
     sized = record { records = z .records; debounce = z .debounce };
-    block = ap (memoryOf (places cfg) (frameBytes cfg)) (sym (entries-are s xs g));
+    block = ap (memoryOf (places cfg) (entryFrames cfg)) (sym (entries-are s xs g));
     good = subst (InOrder s) (sym (entries-are s xs g)) g;
   }
 
@@ -63,7 +63,7 @@ module _ (cfg : Configuration) where
   good-happens t keep k s h m = record {
     sized = acts-happens cfg t .sized k s (m .sized);
     block = m .block;
-    good = good-bits (events cfg) (places cfg) (frameBytes cfg) (hasFailedBit s) (hasFailedBit (happens cfg t k s)) (entries cfg s) (λ e p q. still e q (eqb e k) refl) (m .good);
+    good = good-bits (events cfg) (places cfg) (entryFrames cfg) (hasFailedBit s) (hasFailedBit (happens cfg t k s)) (entries cfg s) (λ e p q. still e q (eqb e k) refl) (m .good);
   }
     where
       still : (e : ℕ) → hasFailedBit s e ≡ true → (b : Bool) → eqb e k ≡ b → hasFailedBit (happens cfg t k s) e ≡ true
@@ -78,10 +78,10 @@ module _ (cfg : Configuration) where
   -- ---- its entry leaves
 
   -- the bit of its event is asked no more, whatever has become of it
-  good-leaves : (B : ℕ → Bool) (k : ℕ) (s : State) → Sized cfg s → Good (events cfg) (places cfg) (frameBytes cfg) B (entries cfg s)
+  good-leaves : (B : ℕ → Bool) (k : ℕ) (s : State) → Sized cfg s → Good (events cfg) (places cfg) (entryFrames cfg) B (entries cfg s)
       → ((e : ℕ) → e < events cfg → e ≢ k → B e ≡ true → hasFailedBit s e ≡ true) → MemoryGood (entryLeaves cfg k s)
   unfolding entryLeaves
-  good-leaves B k s z g f = made-good s (without k (entries cfg s)) z (good-without (events cfg) (places cfg) (frameBytes cfg) B (hasFailedBit s) k (entries cfg s) f g)
+  good-leaves B k s z g f = made-good s (without k (entries cfg s)) z (good-without (events cfg) (places cfg) (entryFrames cfg) B (hasFailedBit s) k (entries cfg s) f g)
 
   pub good-clears : (k : ℕ) (s : State) → k < events cfg → MemoryGood s → MemoryGood (clears cfg k s)
   unfolding clears happens
@@ -107,5 +107,5 @@ module _ (cfg : Configuration) where
   unfolding memoryTold keeps
   good-told frame k s f h five m =
       let made = made-good s (store (places cfg) (priorityOf cfg) (isQuiet cfg s) k frame (entries cfg s) .entries) (m .sized)
-      (good-store (events cfg) (places cfg) (frameBytes cfg) (hasFailedBit s) (priorityOf cfg) (isQuiet cfg s) k frame h five f (entries cfg s) (m .good)) in
+      (good-store (events cfg) (places cfg) (entryFrames cfg) (hasFailedBit s) (priorityOf cfg) (isQuiet cfg s) k frame h five (fills cfg frame f) (entries cfg s) (m .good)) in
       record { sized = record { records = made .sized .records; debounce = made .sized .debounce }; block = made .block; good = made .good }

@@ -12,7 +12,7 @@ use lib.ListN.{length, length-append}
 use borrow.Author.Tests.{eqb-true, eqb-false, eq-eqb, leb-true, le-leb, ltb-true, lt-ltb}
 use Rattle.history.specs.Words.{anyOf}
 use Rattle.history.proofs.WordsLaws.{and-left, and-right, both}
-use Rattle.manual.specs.Memory.{Entry, eventOf, entryOf, isOf, noTwice, Kept, outranked, resting, store}
+use Rattle.manual.specs.Memory.{Entry, eventOf, entryOf, payloadOf, renewedPayload, isOf, noTwice, Kept, outranked, resting, store}
 use Rattle.manual.specs.Words.{All}
 use Rattle.manual.specs.Displacement as Displacement
 use Rattle.manual.specs.Displacement.{renews, adds, replaces, loses, greatest, oldest}
@@ -107,7 +107,7 @@ module _ (M : ℕ) (priority : ℕ → ℕ) (quiet : ℕ → Bool) (e : ℕ) (fr
   never-fewer o = go (store M priority quiet e frame xs) (store-is-ruled o)
     where
       go : (k : Kept) → Ruled k → length xs ≤ length (k .entries)
-      go _ (renews older x newer s t) = omega (arith, as-long xs older x newer s (entryOf e (min 255 (suc (x .count))) frame))
-      go _ (adds n l) = omega (arith, length-append xs (entryOf e 1 frame ∷ []))
-      go _ (replaces v t) = omega (arith, as-long xs (t .older) v (t .newer) (t .there) (entryOf e 1 frame))
+      go _ (renews older x newer s t) = omega (arith, as-long xs older x newer s (entryOf e (min 255 (suc (x .count))) (renewedPayload (x .payload) frame)))
+      go _ (adds n l) = omega (arith, length-append xs (entryOf e 1 (payloadOf frame) ∷ []))
+      go _ (replaces v t) = omega (arith, as-long xs (t .older) v (t .newer) (t .there) (entryOf e 1 (payloadOf frame)))
       go _ (loses n l g r) = omega arith

@@ -20,7 +20,7 @@ use Rattle.history.proofs.RecordStaysWellFormed.{fresh-well-formed, step-well-f
 use Rattle.manual.specs.declared.Board.{Board}
 use Rattle.manual.specs.declared.Verdict.{Verdict}
 use Rattle.manual.specs.declared.Verdict.the-variants.{None, Passed, Failed}
-use Rattle.manual.specs.Configuration.{Configuration, events, places, frameBytes, cycleOf, isTime, limitsOf, configOk}
+use Rattle.manual.specs.Configuration.{Configuration, events, places, frameBytes, entryFrames, cycleOf, isTime, limitsOf, configOk}
 use Rattle.manual.specs.State.{State, Stored, opened, stored, storedAt, recordOf, runs, D, withD, withMemory, withBoard, withCycle}
 use Rattle.manual.specs.Debouncing.{Debounced, reported, ticked}
 use Rattle.manual.specs.Memory.{Entry, eventOf, entryWidth, memoryLength, entryCount, bytesInUse, entriesOf, entriesBytes, memoryOf, noTwice}
@@ -58,10 +58,10 @@ module _ (cfg : Configuration) where
 
   -- ---- there and back
 
-  entry-good : (s : State) (x : Entry) → entryOk cfg s x ≡ true → Framed (frameBytes cfg) x → EntryGood (events cfg) (frameBytes cfg) (hasFailedBit cfg s) x
+  entry-good : (s : State) (x : Entry) → entryOk cfg s x ≡ true → Framed (entryFrames cfg) x → EntryGood (events cfg) (entryFrames cfg) (hasFailedBit cfg s) x
   entry-good s x o f = record { below = ltb-true _ _ (part _ o 0); occurred = leb-true _ _ (part _ o 1); framed = f; failed = part _ o 2 }
 
-  entry-told : (s : State) (x : Entry) → EntryGood (events cfg) (frameBytes cfg) (hasFailedBit cfg s) x → entryOk cfg s x ≡ true
+  entry-told : (s : State) (x : Entry) → EntryGood (events cfg) (entryFrames cfg) (hasFailedBit cfg s) x → entryOk cfg s x ≡ true
   entry-told s x g = parts _ (lt-ltb (eventOf x) (events cfg) (g .below), (le-leb 1 (x .count) (g .occurred), (g .failed, tt)))
 
   pub sound : (s : State) → wellFormed cfg s ≡ true → Sound s
@@ -69,13 +69,13 @@ module _ (cfg : Configuration) where
   sound s w = record {
     memory = record {
       sized = record { records = t .lengths .records; debounce = t .lengths .debounce };
-      block = block-is (places cfg) (frameBytes cfg) (s .memory) fits (zeros-behind cfg s t);
+      block = block-is (places cfg) (entryFrames cfg) (s .memory) fits (zeros-behind cfg s t);
       good = record {
-        few = subst (λ (j : ℕ). j ≤ places cfg) (sym (entries-length (frameBytes cfg) (entryCount (s .memory)) (drop 1 (s .memory)))) (t .few);
+        few = subst (λ (j : ℕ). j ≤ places cfg) (sym (entries-length (entryFrames cfg) (entryCount (s .memory)) (drop 1 (s .memory)))) (t .few);
         each =
-            all-both (λ x. entryOk cfg s x ≡ true) (Framed (frameBytes cfg)) (EntryGood (events cfg) (frameBytes cfg) (hasFailedBit cfg s)) (entry-good s) (entries cfg s)
+            all-both (λ x. entryOk cfg s x ≡ true) (Framed (entryFrames cfg)) (EntryGood (events cfg) (entryFrames cfg) (hasFailedBit cfg s)) (entry-good s) (entries cfg s)
             (all-of-test (entryOk cfg s) (entries cfg s) (t .each))
-            (entries-framed (frameBytes cfg) (entryCount (s .memory)) (drop 1 (s .memory)) (let l = length-drop 1 (s .memory) in let f = fits in omega arith));
+            (entries-framed (entryFrames cfg) (entryCount (s .memory)) (drop 1 (s .memory)) (let l = length-drop 1 (s .memory) in let f = fits in omega arith));
         once = t .once;
       };
     };
@@ -85,19 +85,19 @@ module _ (cfg : Configuration) where
       t : StateTells cfg s
       t = state-tells cfg s w
 
-      fits : bytesInUse (frameBytes cfg) (entryCount (s .memory)) ≤ length (s .memory)
+      fits : bytesInUse (entryFrames cfg) (entryCount (s .memory)) ≤ length (s .memory)
       fits = used-fits cfg s t
 
   sound-formed : (s : State) → Sound s → wellFormed cfg s ≡ true
   sound-formed s o =
       state-told cfg s (record {
-        lengths = record { records = m .sized .records; debounce = m .sized .debounce; memory = ap length (m .block) ∙ memory-length (places cfg) (frameBytes cfg) xs framed (m .good .few) };
+        lengths = record { records = m .sized .records; debounce = m .sized .debounce; memory = ap length (m .block) ∙ memory-length (places cfg) (entryFrames cfg) xs framed (m .good .few) };
         records = λ e h. o .events-good e h .kept;
         numbers = λ e h. o .events-good e h .number;
         few = subst (λ (j : ℕ). j ≤ places cfg) (sym count) (m .good .few);
-        each = test-of-all (EntryGood (events cfg) (frameBytes cfg) (hasFailedBit cfg s)) (entryOk cfg s) (entry-told s) xs (m .good .each);
+        each = test-of-all (EntryGood (events cfg) (entryFrames cfg) (hasFailedBit cfg s)) (entryOk cfg s) (entry-told s) xs (m .good .each);
         once = m .good .once;
-        tail = subst (λ (l : List ℕ). allOf (λ b. eqb b 0) l ≡ true) (sym zeros) (zeros-pass (entryWidth (frameBytes cfg) * (places cfg - length xs)));
+        tail = subst (λ (l : List ℕ). allOf (λ b. eqb b 0) l ≡ true) (sym zeros) (zeros-pass (entryWidth (entryFrames cfg) * (places cfg - length xs)));
       })
     where
       m : MemoryGood cfg s
@@ -106,17 +106,17 @@ module _ (cfg : Configuration) where
       xs : List Entry
       xs = entries cfg s
 
-      framed : All (Framed (frameBytes cfg)) xs
-      framed = frames (events cfg) (frameBytes cfg) (hasFailedBit cfg s) xs (m .good .each)
+      framed : All (Framed (entryFrames cfg)) xs
+      framed = frames (events cfg) (entryFrames cfg) (hasFailedBit cfg s) xs (m .good .each)
 
       count : entryCount (s .memory) ≡ length xs
-      count = ap entryCount (m .block) ∙ memory-count (places cfg) (frameBytes cfg) xs framed
+      count = ap entryCount (m .block) ∙ memory-count (places cfg) (entryFrames cfg) xs framed
 
-      zeros : drop (bytesInUse (frameBytes cfg) (entryCount (s .memory))) (s .memory) ≡ replicate (entryWidth (frameBytes cfg) * (places cfg - length xs)) 0
+      zeros : drop (bytesInUse (entryFrames cfg) (entryCount (s .memory))) (s .memory) ≡ replicate (entryWidth (entryFrames cfg) * (places cfg - length xs)) 0
       zeros =
-          ap (λ (j : ℕ). drop (bytesInUse (frameBytes cfg) j) (s .memory)) count
-          ∙ ap (drop (bytesInUse (frameBytes cfg) (length xs))) (m .block)
-          ∙ memory-tail (places cfg) (frameBytes cfg) xs framed
+          ap (λ (j : ℕ). drop (bytesInUse (entryFrames cfg) j) (s .memory)) count
+          ∙ ap (drop (bytesInUse (entryFrames cfg) (length xs))) (m .block)
+          ∙ memory-tail (places cfg) (entryFrames cfg) xs framed
 
   -- ---- a state on another board
 
@@ -315,12 +315,12 @@ module _ (cfg : Configuration) where
       };
     }
       where
-        empty : replicate (memoryLength (places cfg) (frameBytes cfg)) 0 ≡ memoryOf (places cfg) (frameBytes cfg) []
+        empty : replicate (memoryLength (places cfg) (entryFrames cfg)) 0 ≡ memoryOf (places cfg) (entryFrames cfg) []
         empty =
-            let whole : memoryLength (places cfg) (frameBytes cfg) ≡ suc (places cfg * entryWidth (frameBytes cfg)) = omega arith in
+            let whole : memoryLength (places cfg) (entryFrames cfg) ≡ suc (places cfg * entryWidth (entryFrames cfg)) = omega arith in
             let none : places cfg - 0 ≡ places cfg = omega arith in
             ap (λ (k : ℕ). replicate k 0) whole
-            ∙ ap (λ (k : ℕ). 0 ∷ replicate k 0) (mul-comm (places cfg) (entryWidth (frameBytes cfg)) ∙ ap (λ (k : ℕ). entryWidth (frameBytes cfg) * k) (sym none))
+            ∙ ap (λ (k : ℕ). 0 ∷ replicate k 0) (mul-comm (places cfg) (entryWidth (entryFrames cfg)) ∙ ap (λ (k : ℕ). entryWidth (entryFrames cfg) * k) (sym none))
 
   -- ---- an accepted call
 

@@ -11,7 +11,7 @@ use borrow.Author.Tests.{eqb-true, eq-eqb, leb-true, le-leb}
 use Rattle.history.specs.Words.{allOf}
 use Rattle.history.proofs.WordsLaws.{and-left, and-right, both, part, parts}
 use Rattle.manual.specs.Words.{allBelow}
-use Rattle.manual.specs.Configuration.{Configuration, events, places, frameBytes}
+use Rattle.manual.specs.Configuration.{Configuration, events, places, entryFrames}
 use Rattle.manual.specs.State.{State, recordWidth, recordOf, D}
 use Rattle.manual.specs.Memory.{entryWidth, memoryLength, entryCount, bytesInUse, noTwice}
 use Rattle.manual.specs.WellFormed.{lengthsFit, recordOk, DOk, eventOk, entries, entryOk, zeroTail, memoryOk, wellFormed}
@@ -21,7 +21,7 @@ module _ (cfg : Configuration) (s : State) where
   pub record LengthsTell : Type 0 where
     pub records : length (s .records) ≡ recordWidth * events cfg
     pub debounce : length (s .debounce) ≡ events cfg
-    pub memory : length (s .memory) ≡ memoryLength (places cfg) (frameBytes cfg)
+    pub memory : length (s .memory) ≡ memoryLength (places cfg) (entryFrames cfg)
 
   pub lengths-tell : lengthsFit cfg s ≡ true → LengthsTell
   unfolding lengthsFit
@@ -32,7 +32,7 @@ module _ (cfg : Configuration) (s : State) where
   lengths-told t =
       parts _ (
         eq-eqb (length (s .records)) (recordWidth * events cfg) (t .records),
-        (eq-eqb (length (s .debounce)) (events cfg) (t .debounce), (eq-eqb (length (s .memory)) (memoryLength (places cfg) (frameBytes cfg)) (t .memory), tt)),
+        (eq-eqb (length (s .debounce)) (events cfg) (t .debounce), (eq-eqb (length (s .memory)) (memoryLength (places cfg) (entryFrames cfg)) (t .memory), tt)),
       )
 
   pub record StateTells : Type 0 where
@@ -78,26 +78,26 @@ module _ (cfg : Configuration) (s : State) where
 
   module _ (t : StateTells) where
     abbrev used : ℕ
-    used = bytesInUse (frameBytes cfg) (entryCount (s .memory))
+    used = bytesInUse (entryFrames cfg) (entryCount (s .memory))
 
     pub used-fits : used ≤ length (s .memory)
     used-fits =
-        let most : entryWidth (frameBytes cfg) * entryCount (s .memory) ≤ places cfg * entryWidth (frameBytes cfg) =
-        subst (λ (j : ℕ). entryWidth (frameBytes cfg) * entryCount (s .memory) ≤ j) (mul-comm (entryWidth (frameBytes cfg)) (places cfg)) (mul-le-mul-left (entryWidth (frameBytes cfg)) (t .few)) in
+        let most : entryWidth (entryFrames cfg) * entryCount (s .memory) ≤ places cfg * entryWidth (entryFrames cfg) =
+        subst (λ (j : ℕ). entryWidth (entryFrames cfg) * entryCount (s .memory) ≤ j) (mul-comm (entryWidth (entryFrames cfg)) (places cfg)) (mul-le-mul-left (entryWidth (entryFrames cfg)) (t .few)) in
         let l = t .lengths .memory in
         omega arith
 
     pub used-length : length (take used (s .memory)) ≡ used
     used-length = length-take-le used (s .memory) used-fits
 
-    pub zeros-behind : drop used (s .memory) ≡ replicate (entryWidth (frameBytes cfg) * (places cfg - entryCount (s .memory))) 0
+    pub zeros-behind : drop used (s .memory) ≡ replicate (entryWidth (entryFrames cfg) * (places cfg - entryCount (s .memory))) 0
     zeros-behind =
         zeros-are (drop used (s .memory)) (t .tail)
         ∙ ap (λ (j : ℕ). replicate j 0)
         (length-drop used (s .memory)
-        ∙ (let l = t .lengths .memory in let e : length (s .memory) - used ≡ places cfg * entryWidth (frameBytes cfg) - entryWidth (frameBytes cfg) * entryCount (s .memory) = omega arith in e)
-        ∙ ap (λ (j : ℕ). j - entryWidth (frameBytes cfg) * entryCount (s .memory)) (mul-comm (places cfg) (entryWidth (frameBytes cfg)))
-        ∙ sym (mul-sub (entryWidth (frameBytes cfg)) (places cfg) (entryCount (s .memory))))
+        ∙ (let l = t .lengths .memory in let e : length (s .memory) - used ≡ places cfg * entryWidth (entryFrames cfg) - entryWidth (entryFrames cfg) * entryCount (s .memory) = omega arith in e)
+        ∙ ap (λ (j : ℕ). j - entryWidth (entryFrames cfg) * entryCount (s .memory)) (mul-comm (places cfg) (entryWidth (entryFrames cfg)))
+        ∙ sym (mul-sub (entryWidth (entryFrames cfg)) (places cfg) (entryCount (s .memory))))
 
-    pub memory-split : s .memory ≡ take used (s .memory) ++ replicate (entryWidth (frameBytes cfg) * (places cfg - entryCount (s .memory))) 0
+    pub memory-split : s .memory ≡ take used (s .memory) ++ replicate (entryWidth (entryFrames cfg) * (places cfg - entryCount (s .memory))) 0
     memory-split = sym (take-append-drop used (s .memory)) ∙ ap (λ (l : List ℕ). take used (s .memory) ++ l) zeros-behind

@@ -14,7 +14,7 @@ use Rattle.manual.specs.declared.Board.{Board}
 use Rattle.manual.specs.declared.Verdict.the-variants.{None}
 use Rattle.manual.specs.declared.StoreAnswer.{StoreAnswer}
 use Rattle.manual.specs.Words.{allBelow}
-use Rattle.manual.specs.Configuration.{Configuration, events, places, frameBytes, codeOf, cycleOf, isInternal, isTime, configOk}
+use Rattle.manual.specs.Configuration.{Configuration, events, places, frameBytes, entryFrames, codeOf, cycleOf, isInternal, isTime, configOk}
 use Rattle.manual.specs.State.{State, stored, runs, allStopped, statusByte, D, withD, withOverflow, withCycle}
 use Rattle.manual.specs.WellFormed.{lengthsFit, wellFormed, entries}
 use Rattle.manual.specs.Answers.{Beside, Outcome, done, Rule, _if_, judged}
@@ -32,7 +32,7 @@ abbrev pub forAll : ℕ → Bool
 forAll code = eqb code 0xFFFFFF
 
 abbrev pub frameOf : Option Entry → List ℕ
-frameOf (some x) = x .frame
+frameOf (some x) = x .payload
 frameOf none = []
 
 module _ (cfg : Configuration) where
@@ -66,7 +66,7 @@ module _ (cfg : Configuration) where
   freshState = record {
     records = freshRecords (events cfg);
     debounce = replicate (events cfg) (pos 0);
-    memory = replicate (memoryLength (places cfg) (frameBytes cfg)) 0;
+    memory = replicate (memoryLength (places cfg) (entryFrames cfg)) 0;
     board = record { running = allStopped; overflow = false };
   }
 

@@ -39,6 +39,10 @@ places cfg = natOf (numberAt cfg 1)
 unfoldable pub frameBytes : Configuration → ℕ
 frameBytes cfg = natOf (numberAt cfg 2)
 
+-- "M(3 + F)": the bytes that a memory entry holds of its frame, behind its number and its count
+abbrev pub entryFrames : Configuration → ℕ
+entryFrames cfg = frameBytes cfg
+
 -- "Then 13 per event, event 0 first"
 abbrev pub rowWidth : ℕ
 rowWidth = 13

@@ -8,7 +8,7 @@ use Prim.Native.Nat.{ℕ, suc, _≤_, _<_, min}
 use lib.ListN.{length}
 use Rattle.manual.specs.declared.StoreAnswer.the-variants.{Renewed, Added, NotStored}
 use Rattle.manual.specs.Words.{All}
-use Rattle.manual.specs.Memory.{Entry, eventOf, entryOf, Kept, kept, displacing}
+use Rattle.manual.specs.Memory.{Entry, eventOf, entryOf, payloadOf, renewedPayload, Kept, kept, displacing}
 
 -- M places; each event's priority number; whether an event has bit 0 clear; a fresh failure of e with a frame; the entries, the oldest
 -- first
@@ -40,11 +40,11 @@ module _ (M : ℕ) (priority : ℕ → ℕ) (quiet : ℕ → Bool) (e : ℕ) (fr
   pub data Ruled : Kept → Type 0 where
     -- "1. e has an entry: count up by one, at most 255; frame replaced; the entry moves to the end (newest)."
     renews : (older : List Entry) (x : Entry) (newer : List Entry) → xs ≡ older ++ x ∷ newer → eventOf x ≡ e
-        → Ruled (kept Renewed (older ++ newer ++ (entryOf e (min 255 (suc (x .count))) frame ∷ [])))
+        → Ruled (kept Renewed (older ++ newer ++ (entryOf e (min 255 (suc (x .count))) (renewedPayload (x .payload) frame) ∷ [])))
     -- "2. Else, fewer than M entries: appended with count 1."
-    adds : All (λ x. eventOf x ≢ e) xs → length xs < M → Ruled (kept Added (xs ++ (entryOf e 1 frame ∷ [])))
+    adds : All (λ x. eventOf x ≢ e) xs → length xs < M → Ruled (kept Added (xs ++ (entryOf e 1 (payloadOf frame) ∷ [])))
     -- "3. Else the victim … is taken out, e appended with count 1."
-    replaces : (v : Entry) (t : TakenOut v) → Ruled (kept (displacing v) (t .older ++ t .newer ++ (entryOf e 1 frame ∷ [])))
+    replaces : (v : Entry) (t : TakenOut v) → Ruled (kept (displacing v) (t .older ++ t .newer ++ (entryOf e 1 (payloadOf frame) ∷ [])))
     -- "4. Else not stored; overflow is set."
     loses : All (λ x. eventOf x ≢ e) xs → M ≤ length xs → All (λ x. priorityOf x ≤ priority e) xs → All (λ x. ¬ Rests x) xs
         → Ruled (kept NotStored xs)

@@ -11,7 +11,7 @@ use Rattle.manual.specs.Words.{forBelow, threeAt}
 use Rattle.manual.specs.Configuration.{Configuration, events, places, priorityOf, limitsOf}
 use Rattle.manual.specs.State.{State, recordOf, D}
 use Rattle.manual.specs.Debouncing.{reported, ticked}
-use Rattle.manual.specs.Memory.{Entry, eventOf, entryOf}
+use Rattle.manual.specs.Memory.{Entry, eventOf, entryOf, payloadOf, renewedPayload}
 use Rattle.manual.specs.WellFormed.{entries}
 use Rattle.manual.specs.Answers.{Beside}
 use Rattle.manual.specs.OneEvent.{happens, isQuiet}
@@ -22,7 +22,7 @@ use Rattle.manual.specs.Sequences.{Call, Report, Tick, Stop, Clear, Requ
 
 -- "count up by one, at most 255; frame replaced"
 abbrev pub renewedEntry : List ℕ → Entry → Entry
-renewedEntry frame x = entryOf (eventOf x) (min 255 (suc (x .count))) frame
+renewedEntry frame x = entryOf (eventOf x) (min 255 (suc (x .count))) (renewedPayload (x .payload) frame)
 
 module _ (cfg : Configuration) where
   -- "Tick …, events in rising number": the state when the events below k have had their part of a tick
@@ -80,4 +80,4 @@ module _ (cfg : Configuration) where
     renewed-from : {x : Entry} {frame : List ℕ} {u : State} → FailsAfresh b s c (eventOf x) frame u → Origin b s c x
         → Origin b s c (renewedEntry frame x)
     -- its event failed afresh and had none: "appended with count 1"
-    came : {k : ℕ} {frame : List ℕ} {u : State} → FailsAfresh b s c k frame u → Origin b s c (entryOf k 1 frame)
+    came : {k : ℕ} {frame : List ℕ} {u : State} → FailsAfresh b s c k frame u → Origin b s c (entryOf k 1 (payloadOf frame))

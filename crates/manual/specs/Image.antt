@@ -10,7 +10,7 @@ use Rattle.history.specs.Words.{anyOf}
 use Rattle.manual.specs.declared.Board.{Board}
 use Rattle.manual.specs.declared.Verdict.the-variants.{None}
 use Rattle.manual.specs.Words.{two, equal}
-use Rattle.manual.specs.Configuration.{Configuration, events, places, frameBytes}
+use Rattle.manual.specs.Configuration.{Configuration, events, places, entryFrames}
 use Rattle.manual.specs.State.{State, allStopped, recordWidth}
 use Rattle.manual.specs.Memory.{entryWidth, entryCount, bytesInUse}
 use Rattle.manual.specs.WellFormed.{wellFormed}
@@ -56,7 +56,7 @@ anyRuns b = anyOf (λ r. r) (b .running)
 module _ (cfg : Configuration) where
   -- "2 the entry count and the entries in use"
   abbrev pub memoryBody : State → List ℕ
-  memoryBody s = take (bytesInUse (frameBytes cfg) (entryCount (s .memory))) (s .memory)
+  memoryBody s = take (bytesInUse (entryFrames cfg) (entryCount (s .memory))) (s .memory)
 
   -- "3 the overflow flag (0 or 1)"
   abbrev pub overflowBody : State → List ℕ
@@ -74,13 +74,13 @@ module _ (cfg : Configuration) where
   afterRecords image = drop (headerLength + recordWidth * events cfg) image
 
   abbrev pub usedIn : List ℕ → ℕ
-  usedIn image = bytesInUse (frameBytes cfg) (entryCount (afterRecords image))
+  usedIn image = bytesInUse (entryFrames cfg) (entryCount (afterRecords image))
 
   unfoldable pub stateOf : List ℕ → State
   stateOf image = record {
     records = recordsOf image;
     debounce = replicate (events cfg) (pos 0);
-    memory = take (usedIn image) (afterRecords image) ++ replicate (entryWidth (frameBytes cfg) * (places cfg - entryCount (afterRecords image))) 0;
+    memory = take (usedIn image) (afterRecords image) ++ replicate (entryWidth (entryFrames cfg) * (places cfg - entryCount (afterRecords image))) 0;
     board = record { running = allStopped; overflow = eqb (getD (drop (usedIn image) (afterRecords image)) 0 0) 1 };
   }
 

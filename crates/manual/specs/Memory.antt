@@ -11,29 +11,37 @@ use Rattle.manual.specs.declared.StoreAnswer.the-variants.{Untold, Renew
 use Rattle.manual.specs.Words.{firstOf, orElse, those}
 use Rattle.manual.specs.Configuration.{mostPlaces, mostFrame}
 
--- "event number (2 bytes, high first), occurrence count (1 to 255), F frame bytes"
+-- "event number (2 bytes, high first), occurrence count (1 to 255), F frame bytes": the payload is what it holds of its frame
 pub record Entry : Type 0 where
   pub high : ℕ
   pub low : ℕ
   pub count : ℕ
-  pub frame : List ℕ
+  pub payload : List ℕ
 
 abbrev pub eventOf : Entry → ℕ
 eventOf x = x .high * 256 + x .low
 
 abbrev pub entryOf : ℕ → ℕ → List ℕ → Entry
-entryOf e count frame = record { high = e / 256; low = e % 256; count = count; frame = frame }
+entryOf e count payload = record { high = e / 256; low = e % 256; count = count; payload = payload }
 
--- ---- the bytes of an entry, and the entry of some bytes: its layout
+-- what a new entry holds of the lent frame
+abbrev pub payloadOf : List ℕ → List ℕ
+payloadOf frame = frame
+
+-- "frame replaced": what an entry that held the old payload holds of the lent frame
+abbrev pub renewedPayload : List ℕ → List ℕ → List ℕ
+renewedPayload old frame = frame
+
+-- ---- the bytes of an entry, and the entry of some bytes: its layout, where F is the length of a payload
 
 abbrev pub entryWidth : ℕ → ℕ
 entryWidth F = 3 + F
 
 abbrev pub entryBytes : Entry → List ℕ
-entryBytes x = x .high ∷ x .low ∷ x .count ∷ x .frame
+entryBytes x = x .high ∷ x .low ∷ x .count ∷ x .payload
 
 abbrev pub entryAt : ℕ → List ℕ → Entry
-entryAt F m = record { high = getD m 0 0; low = getD m 1 0; count = getD m 2 0; frame = take F (drop 3 m) }
+entryAt F m = record { high = getD m 0 0; low = getD m 1 0; count = getD m 2 0; payload = take F (drop 3 m) }
 
 -- ---- "Memory: 1 + M(3 + F) lent bytes: number of entries, then the entries with the oldest first"
 
@@ -121,21 +129,21 @@ module _ (M : ℕ) (priority : ℕ → ℕ) (quiet : ℕ → Bool) (e : ℕ) (fr
   unfoldable pub victim : List Entry → Option Entry
   victim xs = orElse (firstOf (outranked xs) xs) (firstOf resting xs)
 
-  abbrev pub appended : ℕ → List Entry → List Entry
-  appended count xs = xs ++ (entryOf e count frame ∷ [])
+  abbrev pub appended : ℕ → List ℕ → List Entry → List Entry
+  appended count payload xs = xs ++ (entryOf e count payload ∷ [])
 
   -- "The victim is taken out, e appended with count 1." "4. Else not stored; overflow is set."
   unfoldable pub pushedOut : Option Entry → List Entry → Kept
-  pushedOut (some v) xs = kept (displacing v) (appended 1 (without (eventOf v) xs))
+  pushedOut (some v) xs = kept (displacing v) (appended 1 (payloadOf frame) (without (eventOf v) xs))
   pushedOut none xs = kept NotStored xs
 
   -- "2. Else, fewer than M entries: appended with count 1."
   unfoldable pub admitted : List Entry → Kept
-  admitted xs = cond (ltb (length xs) M) (kept Added (appended 1 xs)) (pushedOut (victim xs) xs)
+  admitted xs = cond (ltb (length xs) M) (kept Added (appended 1 (payloadOf frame) xs)) (pushedOut (victim xs) xs)
 
   -- "1. e has an entry: count up by one, at most 255; frame replaced; the entry moves to the end (newest)."
   unfoldable pub renewed : Option Entry → List Entry → Kept
-  renewed (some x) xs = kept Renewed (appended (min 255 (suc (x .count))) (without e xs))
+  renewed (some x) xs = kept Renewed (appended (min 255 (suc (x .count))) (renewedPayload (x .payload) frame) (without e xs))
   renewed none xs = admitted xs
 
   unfoldable pub store : List Entry → Kept

@@ -10,7 +10,7 @@ use Rattle.manual.specs.declared.Verdict.the-variants.{None, Passed, Fai
 use Rattle.manual.specs.declared.StoreAnswer.{StoreAnswer}
 use Rattle.manual.specs.declared.StoreAnswer.the-variants.{Untold}
 use Rattle.manual.specs.Words.{forBelow}
-use Rattle.manual.specs.Configuration.{Configuration, events, places, frameBytes, priorityOf, limitsOf}
+use Rattle.manual.specs.Configuration.{Configuration, events, places, entryFrames, priorityOf, limitsOf}
 use Rattle.manual.specs.State.{State, recordOf, withRecord, withD, withMemory, withOverflow}
 use Rattle.manual.specs.Memory.{Entry, memoryOf, without, Kept, isLost, store}
 use Rattle.manual.specs.WellFormed.{entries}
@@ -21,7 +21,7 @@ module _ (cfg : Configuration) where
   happens t e s = withRecord e (step (limitsOf cfg e) t (recordOf s e)) s
 
   abbrev pub withEntries : List Entry → State → State
-  withEntries xs s = withMemory (memoryOf (places cfg) (frameBytes cfg) xs) s
+  withEntries xs s = withMemory (memoryOf (places cfg) (entryFrames cfg) xs) s
 
   -- "its entry leaves memory"
   unfoldable pub entryLeaves : ℕ → State → State

@@ -10,7 +10,7 @@ use Rattle.history.specs.StatusByte.{testFailedSinceLastClear, EventRecord}
 use Rattle.history.specs.WellFormed.{wellFormedRecord}
 use Rattle.manual.specs.declared.Board.{Board}
 use Rattle.manual.specs.Words.{allBelow, between, eqZ}
-use Rattle.manual.specs.Configuration.{Configuration, events, places, frameBytes, cycleOf, isInternal, limitsOf}
+use Rattle.manual.specs.Configuration.{Configuration, events, places, entryFrames, cycleOf, isInternal, limitsOf}
 use Rattle.manual.specs.State.{State, runs, recordWidth, recordOf, D}
 use Rattle.manual.specs.Debouncing.{top, bottom}
 use Rattle.manual.specs.Memory.{Entry, eventOf, memoryLength, entryCount, bytesInUse, entriesOf, noTwice}
@@ -24,7 +24,7 @@ module _ (cfg : Configuration) where
   debounceFits s = eqb (length (s .debounce)) (events cfg)
 
   abbrev pub memoryFits : State → Bool
-  memoryFits s = eqb (length (s .memory)) (memoryLength (places cfg) (frameBytes cfg))
+  memoryFits s = eqb (length (s .memory)) (memoryLength (places cfg) (entryFrames cfg))
 
   unfoldable pub lengthsFit : State → Bool
   lengthsFit s = holds (recordsFit s ∷ debounceFits s ∷ memoryFits s ∷ [])
@@ -48,7 +48,7 @@ module _ (cfg : Configuration) where
   atMostM s = leb (entryCount (s .memory)) (places cfg)
 
   abbrev pub entries : State → List Entry
-  entries s = entriesOf (frameBytes cfg) (s .memory)
+  entries s = entriesOf (entryFrames cfg) (s .memory)
 
   -- "event numbers below n", "occurrence ≥ 1", "each entry's event has bit 5 set"
   abbrev pub eventBelow : Entry → Bool
@@ -65,7 +65,7 @@ module _ (cfg : Configuration) where
 
   -- "and the bytes after the last entry are 0"
   abbrev pub zeroTail : State → Bool
-  zeroTail s = allOf (λ b. eqb b 0) (drop (bytesInUse (frameBytes cfg) (entryCount (s .memory))) (s .memory))
+  zeroTail s = allOf (λ b. eqb b 0) (drop (bytesInUse (entryFrames cfg) (entryCount (s .memory))) (s .memory))
 
   -- "Memory has at most M entries, event numbers below n and no two equal, occurrence ≥ 1, each entry's event has bit 5 set, and
   -- the bytes after the last entry are 0."

@@ -62,7 +62,7 @@ entry-front : (F : ℕ) (a t : List ℕ) → entryWidth F ≤ length a → entry
 entry-front F [] t h = absurd (omega arith)
 entry-front F (x ∷ []) t h = absurd (omega arith)
 entry-front F (x ∷ y ∷ []) t h = absurd (omega arith)
-entry-front F (x ∷ y ∷ z ∷ a) t h = ap (λ (l : List ℕ). record { high = x; low = y; count = z; frame = l }) (take-append-le F a t (omega arith))
+entry-front F (x ∷ y ∷ z ∷ a) t h = ap (λ (l : List ℕ). record { high = x; low = y; count = z; payload = l }) (take-append-le F a t (omega arith))
 
 entries-front : (F k : ℕ) (a t : List ℕ) → entryWidth F * k ≤ length a → entriesFrom F k (a ++ t) ≡ entriesFrom F k a
 unfolding entriesFrom

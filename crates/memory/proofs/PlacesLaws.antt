@@ -65,8 +65,8 @@ module _ (F : ℕ) (m : List ℕ) where
     pub count-is-at : atPlace p (entriesOf F m) .count ≡ getD m (bytesInUse F p + 2) 0
     count-is-at = ap (λ (x : Entry). x .count) entry-is ∙ getD-drop (bytesInUse F p) m 2 0
 
-    pub frame-is-at : atPlace p (entriesOf F m) .frame ≡ take F (drop (bytesInUse F p + 3) m)
-    frame-is-at = ap (λ (x : Entry). x .frame) entry-is ∙ ap (take F) (drop-drop 3 (bytesInUse F p) m)
+    pub frame-is-at : atPlace p (entriesOf F m) .payload ≡ take F (drop (bytesInUse F p + 3) m)
+    frame-is-at = ap (λ (x : Entry). x .payload) entry-is ∙ ap (take F) (drop-drop 3 (bytesInUse F p) m)
 
 -- ---- a search by place, turn by turn
 

@@ -10,19 +10,20 @@ use lib.ListN.{length}
 use borrow.Author.Tests.{eqb-true, ltb-true, lt-ltb, le-ltb}
 use Rattle.manual.specs.declared.Place.{Place}
 use Rattle.manual.specs.declared.StoreAnswer.the-variants.{Renewed, Added, NotStored}
-use Rattle.manual.specs.Configuration.{Configuration, events, places, frameBytes, priorityOf}
-use Rattle.manual.specs.Memory.{Entry, eventOf, entryOf, entryCount, entriesOf, memoryOf, isOf, without, kept, displacing, victim, pushedOut, admitted, renewed, store}
+use Rattle.manual.specs.Configuration.{Configuration, events, places, entryFrames, priorityOf}
+use Rattle.manual.specs.Memory.{Entry, eventOf, entryOf, payloadOf, renewedPayload, entryCount, entriesOf, memoryOf, isOf, without, kept, displacing, victim, pushedOut, admitted, renewed, store}
+use Rattle.manual.proofs.MemoryLaws.{Fills, fills}
 use Rattle.memory.specs.declared.Find.the-variants.{At, Nothing}
-use Rattle.memory.specs.Block.{removed, added, replaced}
+use Rattle.memory.specs.Block.{removed, added, replaced, renewedAt}
 use Rattle.memory.specs.Places.{atPlace, placeOf, victimPlace}
 use Rattle.memory.specs.Fits.{EntriesFit, PlaceFits, RoomAt, EventsFit}
 use Rattle.memory.specs.InOrder.{InOrder}
 use Rattle.memory.specs.Store.{MayStore, quietIn, Left, leftWith, leftBy, admits, stores}
 use Rattle.memory.proofs.PlacesLaws.{entries-are-count, found, found-nothing, all-places, at-each-place}
-use Rattle.memory.proofs.SurgeryLaws.{entries-fit, room-at-end, added-at, replaced-at, place-fits, forgotten-at, forgotten-nothing}
+use Rattle.memory.proofs.SurgeryLaws.{entries-fit, room-at-end, added-at, place-framed, replaced-at, place-fits, forgotten-at, forgotten-nothing}
 use Rattle.memory.proofs.VictimLaws.{entryIn, victim-entry, victim-inside}
 
--- ---- event e's entry leaves: F was read from the configuration, whose frame bytes are F₀
+-- ---- event e's entry leaves: F was read from the configuration, whose entries have payloads of F₀ bytes
 
 module _ (n M F₀ F : ℕ) (m : List ℕ) (o₀ : InOrder n M F₀ m) (f : F ≡ F₀) (e : ℕ) where
   ordered : InOrder n M F m
@@ -45,7 +46,8 @@ module _ (n M F₀ F : ℕ) (m : List ℕ) (o₀ : InOrder n M F₀ m) (f : F �
 
 -- ---- a store into a memory block in order
 
-module _ (n M F : ℕ) (m : List ℕ) (o : InOrder n M F m) (priority : ℕ → ℕ) (quiet : ℕ → Bool) (e : ℕ) (frame : List ℕ) (framed : length frame ≡ F) where
+module _ (n M F : ℕ) (m : List ℕ) (o : InOrder n M F m) (priority : ℕ → ℕ) (quiet : ℕ → Bool) (e : ℕ) (frame : List ℕ)
+    (fits : Fills F frame) where
   abbrev xs : List Entry
   xs = entriesOf F m
 
@@ -64,15 +66,18 @@ module _ (n M F : ℕ) (m : List ℕ) (o : InOrder n M F m) (priority : ℕ → 
   }
 
   -- rule 1: "e has an entry: count up by one, at most 255; frame replaced; the entry moves to the end (newest)."
-  rule-1 : (p : Place) → placeOf e xs ≡ At p → leftWith (replaced (p .0) e (min 255 (suc (atPlace (p .0) xs .count))) frame m) Renewed ≡ storesAll
+  rule-1 : (p : Place) → placeOf e xs ≡ At p → leftWith (renewedAt F (p .0) e frame m) Renewed ≡ storesAll
   unfolding stores store renewed
   rule-1 p h =
       let f = found (isOf e) xs p h in
-      let c = min 255 (suc (atPlace (p .0) xs .count)) in
+      let below = place-fits n M F m o (isOf e) p h .below in
+      let x = atPlace (p .0) xs in
+      let c = min 255 (suc (x .count)) in
+      let payload = renewedPayload (x .payload) frame in
       ap (λ (b : List ℕ). leftWith b Renewed)
-      (replaced-at n M F m o (p .0) (place-fits n M F m o (isOf e) p h .below) e c frame framed
-      ∙ ap (λ (k : ℕ). memoryOf M F (without k xs ++ (entryOf e c frame ∷ []))) (eqb-true _ _ (f .passes)))
-      ∙ ap (λ (x : Option Entry). leftBy M F priority quiet e frame (renewed M priority quiet e frame x xs)) (sym (f .first))
+      (replaced-at n M F m o (p .0) below e c payload (fits .renewal (x .payload) (place-framed n M F m o (p .0) below))
+      ∙ ap (λ (k : ℕ). memoryOf M F (without k xs ++ (entryOf e c payload ∷ []))) (eqb-true _ _ (f .passes)))
+      ∙ ap (λ (y : Option Entry). leftBy M F priority quiet e frame (renewed M priority quiet e frame y xs)) (sym (f .first))
 
   -- rules 2 to 4: e has no entry
   rules-2-to-4 : placeOf e xs ≡ Nothing → admitsAll ≡ storesAll
@@ -83,16 +88,16 @@ module _ (n M F : ℕ) (m : List ℕ) (o : InOrder n M F m) (priority : ℕ → 
   -- what they leave, by whether there are fewer than M entries and by the victim
   abbrev by-room : Bool → Option Entry → Left
   by-room b v =
-      leftBy M F priority quiet e frame (cond b (kept Added (xs ++ (entryOf e 1 frame ∷ []))) (pushedOut M priority quiet e frame v xs))
+      leftBy M F priority quiet e frame (cond b (kept Added (xs ++ (entryOf e 1 (payloadOf frame) ∷ []))) (pushedOut M priority quiet e frame v xs))
 
   admits-is : (b : Bool) (v : Option Entry) → ltb (length xs) M ≡ b → victim M priority quiet e frame xs ≡ v → by-room b v ≡ admitsAll
   unfolding admits admitted
   admits-is b v p q = λ i. by-room (sym p i) (sym q i)
 
   -- rule 2: "Else, fewer than M entries: appended with count 1."
-  rule-2 : entryCount m < M → leftWith (added e 1 frame m) Added ≡ admitsAll
+  rule-2 : entryCount m < M → leftWith (added F e 1 (payloadOf frame) m) Added ≡ admitsAll
   rule-2 h =
-      ap (λ (b : List ℕ). leftWith b Added) (added-at n M F m o e 1 frame framed h)
+      ap (λ (b : List ℕ). leftWith b Added) (added-at n M F m o e 1 (payloadOf frame) (fits .new) h)
       ∙ admits-is true (victim M priority quiet e frame xs) (lt-ltb (length xs) M (omega (arith, entries-are-count F m))) refl
 
   full : M ≤ entryCount m → ltb (length xs) M ≡ false
@@ -103,10 +108,10 @@ module _ (n M F : ℕ) (m : List ℕ) (o : InOrder n M F m) (priority : ℕ → 
 
   -- rule 3: "The victim is taken out, e appended with count 1."
   rule-3 : M ≤ entryCount m → (p : Place) → victimPlace priority quiet e xs ≡ At p
-      → leftWith (replaced (p .0) e 1 frame m) (displacing (atPlace (p .0) xs)) ≡ admitsAll
+      → leftWith (replaced F (p .0) e 1 (payloadOf frame) m) (displacing (atPlace (p .0) xs)) ≡ admitsAll
   unfolding pushedOut
   rule-3 h p v =
-      ap (λ (b : List ℕ). leftWith b (displacing (atPlace (p .0) xs))) (replaced-at n M F m o (p .0) (victim-fits p v .below) e 1 frame framed)
+      ap (λ (b : List ℕ). leftWith b (displacing (atPlace (p .0) xs))) (replaced-at n M F m o (p .0) (victim-fits p v .below) e 1 (payloadOf frame) (fits .new))
       ∙ admits-is false (some (atPlace (p .0) xs)) (full h) (victim-entry M priority quiet e frame xs ∙ ap (entryIn xs) v)
 
   -- rule 4: "Else not stored; overflow is set."
@@ -116,54 +121,65 @@ module _ (n M F : ℕ) (m : List ℕ) (o : InOrder n M F m) (priority : ℕ → 
       ap (λ (b : List ℕ). leftWith b NotStored) (o .block)
       ∙ admits-is false none (full h) (victim-entry M priority quiet e frame xs ∙ ap (entryIn xs) v)
 
--- ---- the same for a caller's configuration: the frame has the length that it says
+-- ---- the same for a caller's configuration: W was read from it, and the frame has the length that it says
 
-module _ (cfg : Configuration) (records m : List ℕ) (e : ℕ) (frame : List ℕ) (r : MayStore cfg m e frame) where
-  abbrev F₁ : ℕ
-  F₁ = length frame
+module _ (cfg : Configuration) (records m : List ℕ) (e : ℕ) (frame : List ℕ) (r : MayStore cfg m e frame) {W : ℕ} (w : W ≡ entryFrames cfg) where
+  abbrev n : ℕ
+  n = events cfg
 
-  order : InOrder (events cfg) (places cfg) F₁ m
-  order = subst (λ (k : ℕ). InOrder (events cfg) (places cfg) k m) (sym (r .frame-fits)) (r .in-order)
+  abbrev M : ℕ
+  M = places cfg
+
+  abbrev quiet : ℕ → Bool
+  quiet = quietIn records
+
+  order : InOrder n M W m
+  order = subst (λ (k : ℕ). InOrder n M k m) (sym w) (r .in-order)
+
+  fits-here : Fills W frame
+  fits-here = subst (λ (k : ℕ). Fills k frame) (sym w) (fills cfg frame (r .frame-fits))
 
   abbrev admitsAt : ℕ → Left
-  admitsAt F = admits (places cfg) F (priorityOf cfg) (quietIn records) e frame (entriesOf F m)
+  admitsAt F = admits M F (priorityOf cfg) quiet e frame (entriesOf F m)
 
   abbrev storesAt : ℕ → Left
-  storesAt F = stores (places cfg) F (priorityOf cfg) (quietIn records) e frame (entriesOf F m)
+  storesAt F = stores M F (priorityOf cfg) quiet e frame (entriesOf F m)
 
-  pub may-find : EntriesFit F₁ m
-  may-find = entries-fit (events cfg) (places cfg) F₁ m order
+  pub may-find : EntriesFit W m
+  may-find = entries-fit n M W m order
 
-  pub may-search : EventsFit F₁ m × (e < 512)
-  may-search = (events-fit (events cfg) (places cfg) F₁ m order (priorityOf cfg) (quietIn records) e frame refl, omega (arith, r .event-below, r .in-order .events-most))
+  pub may-search : EventsFit W m × (e < 512)
+  may-search = (events-fit n M W m order (priorityOf cfg) quiet e frame fits-here, omega (arith, r .event-below, r .in-order .events-most))
 
   two-bytes : e < 65536
   two-bytes = omega (arith, may-search .1)
 
-  pub may-renew : (p : Place) → placeOf e (entriesOf F₁ m) ≡ At p → PlaceFits F₁ m (p .0) × (e < 65536)
-  may-renew p h = (place-fits (events cfg) (places cfg) F₁ m order (isOf e) p h, two-bytes)
+  pub may-renew : (p : Place) → placeOf e (entriesOf W m) ≡ At p
+      → PlaceFits W m (p .0) × ((e < 65536) × (length (renewedPayload (atPlace (p .0) (entriesOf W m) .payload) frame) ≡ W))
+  may-renew p h =
+      let there = place-fits n M W m order (isOf e) p h in
+      (there, (two-bytes, fits-here .renewal (atPlace (p .0) (entriesOf W m) .payload) (place-framed n M W m order (p .0) (there .below))))
 
-  pub may-append : entryCount m < places cfg → RoomAt F₁ m (entryCount m) e
-  may-append h = room-at-end (events cfg) (places cfg) F₁ m order e two-bytes h
+  pub may-append : entryCount m < places cfg → RoomAt W m (entryCount m) e × (length (payloadOf frame) ≡ W)
+  may-append h = (room-at-end n M W m order e two-bytes h, fits-here .new)
 
-  pub may-displace : (p : Place) → victimPlace (priorityOf cfg) (quietIn records) e (entriesOf F₁ m) ≡ At p → PlaceFits F₁ m (p .0) × (e < 65536)
-  may-displace p h = (victim-fits (events cfg) (places cfg) F₁ m order (priorityOf cfg) (quietIn records) e frame refl p h, two-bytes)
+  pub may-displace : (p : Place) → victimPlace (priorityOf cfg) quiet e (entriesOf W m) ≡ At p
+      → PlaceFits W m (p .0) × ((e < 65536) × (length (payloadOf frame) ≡ W))
+  may-displace p h = (victim-fits n M W m order (priorityOf cfg) quiet e frame fits-here p h, (two-bytes, fits-here .new))
 
-  pub renews : (p : Place) → placeOf e (entriesOf F₁ m) ≡ At p
-      → leftWith (replaced (p .0) e (min 255 (suc (atPlace (p .0) (entriesOf F₁ m) .count))) frame m) Renewed ≡ storesAt (frameBytes cfg)
-  renews p h = rule-1 (events cfg) (places cfg) F₁ m order (priorityOf cfg) (quietIn records) e frame refl p h ∙ ap storesAt (r .frame-fits)
+  pub renews : (p : Place) → placeOf e (entriesOf W m) ≡ At p → leftWith (renewedAt W (p .0) e frame m) Renewed ≡ storesAt (entryFrames cfg)
+  renews p h = rule-1 n M W m order (priorityOf cfg) quiet e frame fits-here p h ∙ ap storesAt w
 
-  pub has-none : placeOf e (entriesOf F₁ m) ≡ Nothing → admitsAt (frameBytes cfg) ≡ storesAt (frameBytes cfg)
-  has-none h =
-      ap admitsAt (sym (r .frame-fits)) ∙ rules-2-to-4 (events cfg) (places cfg) F₁ m order (priorityOf cfg) (quietIn records) e frame refl h
-      ∙ ap storesAt (r .frame-fits)
+  pub has-none : placeOf e (entriesOf W m) ≡ Nothing → admitsAt (entryFrames cfg) ≡ storesAt (entryFrames cfg)
+  has-none h = ap admitsAt (sym w) ∙ rules-2-to-4 n M W m order (priorityOf cfg) quiet e frame fits-here h ∙ ap storesAt w
 
-  pub appends : entryCount m < places cfg → leftWith (added e 1 frame m) Added ≡ admitsAt (frameBytes cfg)
-  appends h = rule-2 (events cfg) (places cfg) F₁ m order (priorityOf cfg) (quietIn records) e frame refl h ∙ ap admitsAt (r .frame-fits)
+  pub appends : entryCount m < places cfg → leftWith (added W e 1 (payloadOf frame) m) Added ≡ admitsAt (entryFrames cfg)
+  appends h = rule-2 n M W m order (priorityOf cfg) quiet e frame fits-here h ∙ ap admitsAt w
 
-  pub displaces : places cfg ≤ entryCount m → (p : Place) → victimPlace (priorityOf cfg) (quietIn records) e (entriesOf F₁ m) ≡ At p
-      → leftWith (replaced (p .0) e 1 frame m) (displacing (atPlace (p .0) (entriesOf F₁ m))) ≡ admitsAt (frameBytes cfg)
-  displaces h p v = rule-3 (events cfg) (places cfg) F₁ m order (priorityOf cfg) (quietIn records) e frame refl h p v ∙ ap admitsAt (r .frame-fits)
+  pub displaces : places cfg ≤ entryCount m → (p : Place) → victimPlace (priorityOf cfg) quiet e (entriesOf W m) ≡ At p
+      → leftWith (replaced W (p .0) e 1 (payloadOf frame) m) (displacing (atPlace (p .0) (entriesOf W m))) ≡ admitsAt (entryFrames cfg)
+  displaces h p v = rule-3 n M W m order (priorityOf cfg) quiet e frame fits-here h p v ∙ ap admitsAt w
 
-  pub loses : places cfg ≤ entryCount m → victimPlace (priorityOf cfg) (quietIn records) e (entriesOf F₁ m) ≡ Nothing → leftWith m NotStored ≡ admitsAt (frameBytes cfg)
-  loses h v = rule-4 (events cfg) (places cfg) F₁ m order (priorityOf cfg) (quietIn records) e frame refl h v ∙ ap admitsAt (r .frame-fits)
+  pub loses : places cfg ≤ entryCount m → victimPlace (priorityOf cfg) quiet e (entriesOf W m) ≡ Nothing
+      → leftWith m NotStored ≡ admitsAt (entryFrames cfg)
+  loses h v = rule-4 n M W m order (priorityOf cfg) quiet e frame fits-here h v ∙ ap admitsAt w

@@ -88,7 +88,7 @@ module _ (M F : ℕ) where
 
   -- an entry is put at the end
   added-is : (e c : ℕ) (frame : List ℕ) (xs : List Entry) → All (Framed F) xs → length frame ≡ F → length xs < M
-      → added e c frame (memoryOf M F xs) ≡ memoryOf M F (xs ++ (entryOf e c frame ∷ []))
+      → added F e c frame (memoryOf M F xs) ≡ memoryOf M F (xs ++ (entryOf e c frame ∷ []))
   unfolding entered memoryOf entriesBytes
   added-is e c frame xs a k r =
       let x = entryOf e c frame in
@@ -98,8 +98,7 @@ module _ (M F : ℕ) where
       let q : M - length xs ≡ suc (M - length (xs ++ (x ∷ []))) = omega arith in
       let y : w * (M - length xs) ≡ w + z = ap (λ (j : ℕ). w * j) q ∙ mul-suc w _ ∙ add-comm _ w in
       let f : replicate {A = ℕ} (w * (M - length xs)) 0 ≡ replicate w 0 ++ replicate z 0 = ap (λ (j : ℕ). replicate j 0) y ∙ sym (replicate-append-replicate w z 0) in
-      ap (λ (j : ℕ). sets ((length xs + 1) ∷ (entriesBytes xs ++ replicate (w * (M - length xs)) 0)) (bytesInUse j (length xs)) (entryBytes x)) k
-      ∙ sets-after-one (length xs + 1) (w * length xs) (entryBytes x) (entriesBytes xs ++ replicate (w * (M - length xs)) 0)
+      sets-after-one (length xs + 1) (w * length xs) (entryBytes x) (entriesBytes xs ++ replicate (w * (M - length xs)) 0)
       ∙ (λ i. s i ∷ sets (entriesBytes xs ++ f i) (sym (bytes-length F xs a) i) (entryBytes x))
       ∙ ap (λ (l : List ℕ). length (xs ++ (x ∷ [])) ∷ l)
       (sets-middle (entriesBytes xs) (entryBytes x) (replicate w 0) (replicate z 0) (length-replicate {A = ℕ} w 0 ∙ sym n)
@@ -108,15 +107,14 @@ module _ (M F : ℕ) where
 
 -- ---- the same in one step
 
-replaced-is : (p e c : ℕ) (frame m : List ℕ) → 0 < entryCount m → replaced p e c frame m ≡ added e c frame (removed (length frame) p m)
-replaced-is p e c frame [] h = absurd (omega arith)
-replaced-is p e c frame (n ∷ m) h =
-    let F = length frame in
+replaced-is : (F p e c : ℕ) (payload m : List ℕ) → 0 < entryCount m → replaced F p e c payload m ≡ added F e c payload (removed F p m)
+replaced-is F p e c payload [] h = absurd (omega arith)
+replaced-is F p e c payload (n ∷ m) h =
     let rest = closed (entryWidth F * p) (entryWidth F) m in
     let k : n - 1 + 1 ≡ n = omega arith in
-    ap (entered (n - 1) e c frame) (gap-cons F p n m)
-    ∙ ap (λ (j : ℕ). entered (n - 1) e c frame (j ∷ rest)) (sym k)
-    ∙ ap (λ (l : List ℕ). entered (entryCount l) e c frame (set l 0 (entryCount l + 1))) (sym (ap (λ (l : List ℕ). set l 0 (n - 1)) (gap-cons F p n m)))
+    ap (entered F (n - 1) e c payload) (gap-cons F p n m)
+    ∙ ap (λ (j : ℕ). entered F (n - 1) e c payload (j ∷ rest)) (sym k)
+    ∙ ap (λ (l : List ℕ). entered F (entryCount l) e c payload (set l 0 (entryCount l + 1))) (sym (ap (λ (l : List ℕ). set l 0 (n - 1)) (gap-cons F p n m)))
 
 -- and there is room for an entry at each place in use
 gap-length : (F p : ℕ) (m : List ℕ) → PlaceFits F m p → length (gapClosed F p m) ≡ length m
@@ -158,8 +156,8 @@ module _ (n M F : ℕ) (m : List ℕ) (o : InOrder n M F m) where
   few-entries : length xs ≤ M
   few-entries = omega (arith, entries-are-count F m, o .few)
 
-  pub added-at : (e c : ℕ) (frame : List ℕ) → length frame ≡ F → entryCount m < M → added e c frame m ≡ memoryOf M F (xs ++ (entryOf e c frame ∷ []))
-  added-at e c frame k h = ap (added e c frame) (o .block) ∙ added-is M F e c frame xs framed k (omega (arith, entries-are-count F m))
+  pub added-at : (e c : ℕ) (frame : List ℕ) → length frame ≡ F → entryCount m < M → added F e c frame m ≡ memoryOf M F (xs ++ (entryOf e c frame ∷ []))
+  added-at e c frame k h = ap (added F e c frame) (o .block) ∙ added-is M F e c frame xs framed k (omega (arith, entries-are-count F m))
 
   module _ (p : ℕ) (h : p < entryCount m) where
     in-entries : p < length xs
@@ -173,6 +171,9 @@ module _ (n M F : ℕ) (m : List ℕ) (o : InOrder n M F m) where
 
     all-framed : All (Framed F) (take p xs ++ atPlace p xs ∷ drop (suc p) xs)
     all-framed = subst (All (Framed F)) there framed
+
+    pub place-framed : Framed F (atPlace p xs)
+    place-framed = all-back (Framed F) (take p xs) (atPlace p xs ∷ drop (suc p) xs) all-framed .0
 
     few-left : length (take p xs ++ drop (suc p) xs) < M
     few-left =
@@ -195,11 +196,10 @@ module _ (n M F : ℕ) (m : List ℕ) (o : InOrder n M F m) where
         (all-back (Framed F) (take p xs) (atPlace p xs ∷ drop (suc p) xs) all-framed .1)
 
     -- and an entry of event e is put at the end
-    pub replaced-at : (e c : ℕ) (frame : List ℕ) → length frame ≡ F → replaced p e c frame m ≡ memoryOf M F (without (eventOf (atPlace p xs)) xs ++ (entryOf e c frame ∷ []))
+    pub replaced-at : (e c : ℕ) (frame : List ℕ) → length frame ≡ F → replaced F p e c frame m ≡ memoryOf M F (without (eventOf (atPlace p xs)) xs ++ (entryOf e c frame ∷ []))
     replaced-at e c frame k =
-        replaced-is p e c frame m (omega arith)
-        ∙ ap (λ (j : ℕ). added e c frame (removed j p m)) k
-        ∙ ap (added e c frame) removed-as
+        replaced-is F p e c frame m (omega arith)
+        ∙ ap (added F e c frame) removed-as
         ∙ added-is M F e c frame (take p xs ++ drop (suc p) xs) left-framed k few-left
         ∙ ap (λ (l : List Entry). memoryOf M F (l ++ (entryOf e c frame ∷ []))) (sym leaves)
 

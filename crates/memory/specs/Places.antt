@@ -14,7 +14,7 @@ frameAt F p = bytesInUse F (p .0) + 3
 
 -- the entry at a place; no entry stands at a place past the last
 abbrev pub blank : Entry
-blank = record { high = 0; low = 0; count = 0; frame = [] }
+blank = record { high = 0; low = 0; count = 0; payload = [] }
 
 abbrev pub atPlace : ℕ → List Entry → Entry
 atPlace p xs = getD xs p blank

@@ -6,7 +6,7 @@ use Prim.Native.Nat.{ℕ, _*_, _<_}
 use lib.ListN.{length, getD}
 use Rattle.history.specs.StatusByte.{statusOf, testFailed}
 use Rattle.manual.specs.declared.StoreAnswer.{StoreAnswer}
-use Rattle.manual.specs.Configuration.{Configuration, events, places, frameBytes}
+use Rattle.manual.specs.Configuration.{Configuration, events, places, frameBytes, entryFrames}
 use Rattle.manual.specs.State.{recordWidth}
 use Rattle.manual.specs.Memory.{Entry, memoryOf, Kept, admitted, store}
 use Rattle.memory.specs.InOrder.{InOrder}
@@ -15,7 +15,7 @@ use Rattle.memory.specs.InOrder.{InOrder}
 pub record MayStore (cfg : Configuration) (m : List ℕ) (e : ℕ) (frame : List ℕ) : Type 0 where
   pub event-below : e < events cfg
   pub frame-fits : length frame ≡ frameBytes cfg
-  pub in-order : InOrder (events cfg) (places cfg) (frameBytes cfg) m
+  pub in-order : InOrder (events cfg) (places cfg) (entryFrames cfg) m
 
 -- whether an event has bit 0 clear, by the records
 abbrev pub quietIn : List ℕ → ℕ → Bool

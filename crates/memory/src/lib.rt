@@ -12,14 +12,14 @@ ghost use lib.Dec.{eqb};
 ghost use Prim.Native.Nat.{suc, min, _≤_, _<_};
 ghost use lib.ListN.{length, drop};
 ghost use Rattle.history.specs.Words.{anyOf, allOf};
-ghost use Rattle.manual.specs.Configuration.{events, places, frameBytes, priorityOf};
-ghost use Rattle.manual.specs.Memory.{eventOf, displacing, memoryLength, entryCount, bytesInUse, entriesOf, memoryOf, isOf, without, noTwice};
+ghost use Rattle.manual.specs.Configuration.{events, places, entryFrames, priorityOf};
+ghost use Rattle.manual.specs.Memory.{eventOf, payloadOf, renewedPayload, displacing, memoryLength, entryCount, bytesInUse, entriesOf, memoryOf, isOf, without, noTwice};
 ghost use Rattle.memory.specs.Places.{frameAt, atPlace, firstPlace, placeOf, outranks, rests, victimPlace};
 ghost use Rattle.memory.specs.Fits.{EntriesFit, PlaceFits, RoomAt, EventsFit};
 ghost use Rattle.memory.specs.InOrder.{InOrder};
 ghost use Rattle.memory.specs.Judgement.{Small, soundNumbers, soundEntry, usedOk, zeros, blockOk};
 ghost use Rattle.memory.specs.Store.{MayStore, quietIn, leftWith, admits, stores};
-ghost use Rattle.memory.specs.Block.{gapClosed, entered, removed, added, replaced};
+ghost use Rattle.memory.specs.Block.{gapClosed, entered, removed, added, replaced, renewedAt};
 
 // Where an entry was found.
 pub enum Find {
@@ -27,8 +27,15 @@ pub enum Find {
     Nothing,
 }
 
-// "event number (2 bytes, high first), occurrence count (1 to 255)": the bytes of an entry before its frame.
-const BEFORE_FRAME: usize = 3;
+// "event number (2 bytes, high first), occurrence count (1 to 255)": the bytes of an entry before its payload.
+const BEFORE_PAYLOAD: usize = 3;
+
+// The length of an entry's payload.
+pub fn entry_frames(cfg: &[i32]) -> usize
+    ensures { λ r. ⌜ r ≡ entryFrames (now (cfg .entry)) ⌝ }
+{
+    config::frame_bytes(cfg)
+}
 
 // The number of entries.
 pub fn entry_count(memory: &[u8]) -> usize
@@ -39,64 +46,64 @@ pub fn entry_count(memory: &[u8]) -> usize
 }
 
 // The first byte of the entry at a place, or of what follows the entries before it.
-fn start_of(frame_bytes: usize, place: Place) -> usize
-    requires { ⌜ («frame_bytes» ≤ 32) × (place .0 ≤ 64) ⌝ }
-    ensures { λ r. ⌜ r ≡ bytesInUse «frame_bytes» (place .0) ⌝ }
+fn start_of(payload_bytes: usize, place: Place) -> usize
+    requires { ⌜ («payload_bytes» ≤ 32) × (place .0 ≤ 64) ⌝ }
+    ensures { λ r. ⌜ r ≡ bytesInUse «payload_bytes» (place .0) ⌝ }
 {
-    1 + (BEFORE_FRAME + frame_bytes) * place.0
+    1 + (BEFORE_PAYLOAD + payload_bytes) * place.0
 }
 
 // The length of a memory block.
-pub fn memory_length(places: usize, frame_bytes: usize) -> usize
-    requires { ⌜ (places ≤ 64) × («frame_bytes» ≤ 32) ⌝ }
-    ensures { λ r. ⌜ r ≡ memoryLength places «frame_bytes» ⌝ }
+pub fn memory_length(places: usize, payload_bytes: usize) -> usize
+    requires { ⌜ (places ≤ 64) × («payload_bytes» ≤ 32) ⌝ }
+    ensures { λ r. ⌜ r ≡ memoryLength places «payload_bytes» ⌝ }
 {
-    1 + places * (BEFORE_FRAME + frame_bytes)
+    1 + places * (BEFORE_PAYLOAD + payload_bytes)
 }
 
 // The bytes of the number of entries and of the entries.
-pub fn bytes_in_use(memory: &[u8], frame_bytes: usize) -> usize
-    requires { ⌜ (0 < length (now memory)) × ((entryCount (now memory) ≤ 64) × («frame_bytes» ≤ 32)) ⌝ }
-    ensures { λ r. ⌜ r ≡ bytesInUse «frame_bytes» (entryCount (now (memory .entry))) ⌝ }
+pub fn bytes_in_use(memory: &[u8], payload_bytes: usize) -> usize
+    requires { ⌜ (0 < length (now memory)) × ((entryCount (now memory) ≤ 64) × («payload_bytes» ≤ 32)) ⌝ }
+    ensures { λ r. ⌜ r ≡ bytesInUse «payload_bytes» (entryCount (now (memory .entry))) ⌝ }
 {
-    start_of(frame_bytes, Place(entry_count(memory)))
+    start_of(payload_bytes, Place(entry_count(memory)))
 }
 
 // The event of the entry at a place: "event number (2 bytes, high first)".
-pub fn event_at(memory: &[u8], frame_bytes: usize, place: Place) -> EventNumber
-    requires { ⌜ PlaceFits «frame_bytes» (now memory) (place .0) ⌝ }
-    ensures { λ r. ⌜ r .0 ≡ eventOf (atPlace (place .0) (entriesOf «frame_bytes» (now (memory .entry)))) ⌝ }
+pub fn event_at(memory: &[u8], payload_bytes: usize, place: Place) -> EventNumber
+    requires { ⌜ PlaceFits «payload_bytes» (now memory) (place .0) ⌝ }
+    ensures { λ r. ⌜ r .0 ≡ eventOf (atPlace (place .0) (entriesOf «payload_bytes» (now (memory .entry)))) ⌝ }
 {
-    let start = start_of(frame_bytes, place);
+    let start = start_of(payload_bytes, place);
     EventNumber(block::wide(memory[start]) * 256 + block::wide(memory[start + 1]))
 }
 
 // The occurrence count of the entry at a place.
-pub fn count_at(memory: &[u8], frame_bytes: usize, place: Place) -> u8
-    requires { ⌜ PlaceFits «frame_bytes» (now memory) (place .0) ⌝ }
-    ensures { λ r. ⌜ r ≡ atPlace (place .0) (entriesOf «frame_bytes» (now (memory .entry))) .count ⌝ }
+pub fn count_at(memory: &[u8], payload_bytes: usize, place: Place) -> u8
+    requires { ⌜ PlaceFits «payload_bytes» (now memory) (place .0) ⌝ }
+    ensures { λ r. ⌜ r ≡ atPlace (place .0) (entriesOf «payload_bytes» (now (memory .entry))) .count ⌝ }
 {
-    let start = start_of(frame_bytes, place);
+    let start = start_of(payload_bytes, place);
     memory[start + 2]
 }
 
 // Where the frame of the entry at a place starts.
-pub fn frame_start(frame_bytes: usize, place: Place) -> usize
-    requires { ⌜ («frame_bytes» ≤ 32) × (place .0 ≤ 64) ⌝ }
-    ensures { λ r. ⌜ r ≡ frameAt «frame_bytes» place ⌝ }
+pub fn frame_start(payload_bytes: usize, place: Place) -> usize
+    requires { ⌜ («payload_bytes» ≤ 32) × (place .0 ≤ 64) ⌝ }
+    ensures { λ r. ⌜ r ≡ frameAt «payload_bytes» place ⌝ }
 {
-    start_of(frame_bytes, place) + BEFORE_FRAME
+    start_of(payload_bytes, place) + BEFORE_PAYLOAD
 }
 
 // The place of the event's entry.
-pub fn place_of(memory: &[u8], frame_bytes: usize, event: EventNumber) -> Find
-    requires { ⌜ EntriesFit «frame_bytes» (now memory) ⌝ }
-    ensures { λ r. ⌜ r ≡ placeOf (event .0) (entriesOf «frame_bytes» (now (memory .entry))) ⌝ }
+pub fn place_of(memory: &[u8], payload_bytes: usize, event: EventNumber) -> Find
+    requires { ⌜ EntriesFit «payload_bytes» (now memory) ⌝ }
+    ensures { λ r. ⌜ r ≡ placeOf (event .0) (entriesOf «payload_bytes» (now (memory .entry))) ⌝ }
 {
     let entries = entry_count(memory);
     let mut i = 0;
     while i < entries {
-        let other = event_at(memory, frame_bytes, Place(i));
+        let other = event_at(memory, payload_bytes, Place(i));
         if other.0 == event.0 {
             return Find::At(Place(i));
         }
@@ -106,80 +113,94 @@ pub fn place_of(memory: &[u8], frame_bytes: usize, event: EventNumber) -> Find
 }
 
 // "Removal closes the gap and keeps the order.": takes the bytes of the entry at a place out.
-fn close_gap(memory: &mut [u8], frame_bytes: usize, place: Place)
-    requires { ⌜ PlaceFits «frame_bytes» (now memory) (place .0) ⌝ }
-    ensures { λ _. ⌜ now (memory .exit) ≡ gapClosed «frame_bytes» (place .0) (now (memory .entry)) ⌝ }
+fn close_gap(memory: &mut [u8], payload_bytes: usize, place: Place)
+    requires { ⌜ PlaceFits «payload_bytes» (now memory) (place .0) ⌝ }
+    ensures { λ _. ⌜ now (memory .exit) ≡ gapClosed «payload_bytes» (place .0) (now (memory .entry)) ⌝ }
 {
-    let start = start_of(frame_bytes, place);
-    block::close(memory, start, BEFORE_FRAME + frame_bytes);
+    let start = start_of(payload_bytes, place);
+    block::close(memory, start, BEFORE_PAYLOAD + payload_bytes);
 }
 
 // Takes the entry at a place out.
-fn remove(memory: &mut [u8], frame_bytes: usize, place: Place)
-    requires { ⌜ PlaceFits «frame_bytes» (now memory) (place .0) ⌝ }
-    ensures { λ _. ⌜ now (memory .exit) ≡ removed «frame_bytes» (place .0) (now (memory .entry)) ⌝ }
+fn remove(memory: &mut [u8], payload_bytes: usize, place: Place)
+    requires { ⌜ PlaceFits «payload_bytes» (now memory) (place .0) ⌝ }
+    ensures { λ _. ⌜ now (memory .exit) ≡ removed «payload_bytes» (place .0) (now (memory .entry)) ⌝ }
 {
     let entries = memory[0];
-    close_gap(memory, frame_bytes, place);
+    close_gap(memory, payload_bytes, place);
     memory[0] = entries - 1;
 }
 
-// Writes an entry of the event, with an occurrence count and a frame, at a place.
-fn enter(memory: &mut [u8], place: Place, event: EventNumber, count: u8, frame: &[u8])
-    requires { ⌜ RoomAt (length (now frame)) (now memory) (place .0) (event .0) ⌝ }
-    ensures { λ _. ⌜ now (memory .exit) ≡ entered (place .0) (event .0) count (now (frame .entry)) (now (memory .entry)) ⌝ }
+// Writes an entry of the event, with an occurrence count and a payload, at a place.
+fn enter(
+    memory: &mut [u8],
+    payload_bytes: usize,
+    place: Place,
+    event: EventNumber,
+    count: u8,
+    payload: &[u8],
+)
+    requires { ⌜ (RoomAt «payload_bytes» (now memory) (place .0) (event .0)) × (length (now payload) ≡ «payload_bytes») ⌝ }
+    ensures { λ _. ⌜ now (memory .exit) ≡ entered «payload_bytes» (place .0) (event .0) count (now (payload .entry)) (now (memory .entry)) ⌝ }
 {
-    let start = start_of(frame.len(), place);
+    let start = start_of(payload_bytes, place);
     let high = (event.0 / 256) as u8;
     let low = (event.0 % 256) as u8;
     writing::put(memory, start, &[high, low, count]);
-    writing::put(memory, start + BEFORE_FRAME, frame);
+    writing::put(memory, start + BEFORE_PAYLOAD, payload);
 }
 
-// Puts an entry of the event, with an occurrence count and a frame, at the end.
-fn append(memory: &mut [u8], event: EventNumber, count: u8, frame: &[u8])
-    requires { ⌜ RoomAt (length (now frame)) (now memory) (entryCount (now memory)) (event .0) ⌝ }
-    ensures { λ _. ⌜ now (memory .exit) ≡ added (event .0) count (now (frame .entry)) (now (memory .entry)) ⌝ }
+// Puts an entry of the event, with an occurrence count and a payload, at the end.
+fn append(memory: &mut [u8], payload_bytes: usize, event: EventNumber, count: u8, payload: &[u8])
+    requires { ⌜ (RoomAt «payload_bytes» (now memory) (entryCount (now memory)) (event .0)) × (length (now payload) ≡ «payload_bytes») ⌝ }
+    ensures { λ _. ⌜ now (memory .exit) ≡ added «payload_bytes» (event .0) count (now (payload .entry)) (now (memory .entry)) ⌝ }
 {
     let end = Place(entry_count(memory));
     memory[0] = memory[0] + 1;
-    enter(memory, end, event, count, frame);
+    enter(memory, payload_bytes, end, event, count, payload);
 }
 
 // Takes the entry at a place out and puts one of the event at the end, where the newest then stands.
-fn replace(memory: &mut [u8], place: Place, event: EventNumber, count: u8, frame: &[u8])
-    requires { ⌜ (PlaceFits (length (now frame)) (now memory) (place .0)) × (event .0 < 65536) ⌝ }
-    ensures { λ _. ⌜ now (memory .exit) ≡ replaced (place .0) (event .0) count (now (frame .entry)) (now (memory .entry)) ⌝ }
+fn replace(
+    memory: &mut [u8],
+    payload_bytes: usize,
+    place: Place,
+    event: EventNumber,
+    count: u8,
+    payload: &[u8],
+)
+    requires { ⌜ (PlaceFits «payload_bytes» (now memory) (place .0)) × ((event .0 < 65536) × (length (now payload) ≡ «payload_bytes»)) ⌝ }
+    ensures { λ _. ⌜ now (memory .exit) ≡ replaced «payload_bytes» (place .0) (event .0) count (now (payload .entry)) (now (memory .entry)) ⌝ }
 {
     let newest = Place(entry_count(memory) - 1);
-    close_gap(memory, frame.len(), place);
-    enter(memory, newest, event, count, frame);
+    close_gap(memory, payload_bytes, place);
+    enter(memory, payload_bytes, newest, event, count, payload);
 }
 
 // The event's entry leaves, where it has one.
 pub fn forget(cfg: &[i32], memory: &mut [u8], event: EventNumber)
-    requires { ⌜ InOrder (events (now cfg)) (places (now cfg)) (frameBytes (now cfg)) (now memory) ⌝ }
-    ensures { λ _. ⌜ now (memory .exit) ≡ memoryOf (places (now (cfg .entry))) (frameBytes (now (cfg .entry))) (without (event .0) (entriesOf (frameBytes (now (cfg .entry))) (now (memory .entry)))) ⌝ }
+    requires { ⌜ InOrder (events (now cfg)) (places (now cfg)) (entryFrames (now cfg)) (now memory) ⌝ }
+    ensures { λ _. ⌜ now (memory .exit) ≡ memoryOf (places (now (cfg .entry))) (entryFrames (now (cfg .entry))) (without (event .0) (entriesOf (entryFrames (now (cfg .entry))) (now (memory .entry)))) ⌝ }
 {
-    let frame_bytes = config::frame_bytes(cfg);
-    let own = place_of(memory, frame_bytes, event);
+    let payload_bytes = entry_frames(cfg);
+    let own = place_of(memory, payload_bytes, event);
     match own {
-        Find::At(place) => remove(memory, frame_bytes, place),
+        Find::At(place) => remove(memory, payload_bytes, place),
         Find::Nothing => {}
     }
 }
 
 // "among entries whose priority number is greater than e's, the greatest, and the oldest among equals"
-fn place_of_greatest(cfg: &[i32], memory: &[u8], frame_bytes: usize, event: EventNumber) -> Find
-    requires { ⌜ (EventsFit «frame_bytes» (now memory)) × (event .0 < 512) ⌝ }
-    ensures { λ r. ⌜ r ≡ firstPlace (outranks (priorityOf (now (cfg .entry))) (event .0) (entriesOf «frame_bytes» (now (memory .entry)))) (entriesOf «frame_bytes» (now (memory .entry))) ⌝ }
+fn place_of_greatest(cfg: &[i32], memory: &[u8], payload_bytes: usize, event: EventNumber) -> Find
+    requires { ⌜ (EventsFit «payload_bytes» (now memory)) × (event .0 < 512) ⌝ }
+    ensures { λ r. ⌜ r ≡ firstPlace (outranks (priorityOf (now (cfg .entry))) (event .0) (entriesOf «payload_bytes» (now (memory .entry)))) (entriesOf «payload_bytes» (now (memory .entry))) ⌝ }
 {
     let entries = entry_count(memory);
     let mut best = Find::Nothing;
     let mut top = config::priority_of(cfg, event);
     let mut i = 0;
     while i < entries {
-        let priority = config::priority_of(cfg, event_at(memory, frame_bytes, Place(i)));
+        let priority = config::priority_of(cfg, event_at(memory, payload_bytes, Place(i)));
         if top < priority {
             top = priority;
             best = Find::At(Place(i));
@@ -203,17 +224,17 @@ fn place_of_resting(
     cfg: &[i32],
     records: &[u8],
     memory: &[u8],
-    frame_bytes: usize,
+    payload_bytes: usize,
     event: EventNumber,
 ) -> Find
-    requires { ⌜ (EventsFit «frame_bytes» (now memory)) × (event .0 < 512) ⌝ }
-    ensures { λ r. ⌜ r ≡ firstPlace (rests (priorityOf (now (cfg .entry))) (quietIn (now (records .entry))) (event .0)) (entriesOf «frame_bytes» (now (memory .entry))) ⌝ }
+    requires { ⌜ (EventsFit «payload_bytes» (now memory)) × (event .0 < 512) ⌝ }
+    ensures { λ r. ⌜ r ≡ firstPlace (rests (priorityOf (now (cfg .entry))) (quietIn (now (records .entry))) (event .0)) (entriesOf «payload_bytes» (now (memory .entry))) ⌝ }
 {
     let entries = entry_count(memory);
     let p = config::priority_of(cfg, event);
     let mut i = 0;
     while i < entries {
-        if gives_way(cfg, records, event_at(memory, frame_bytes, Place(i)), p) {
+        if gives_way(cfg, records, event_at(memory, payload_bytes, Place(i)), p) {
             return Find::At(Place(i));
         }
         i += 1;
@@ -226,16 +247,16 @@ fn victim(
     cfg: &[i32],
     records: &[u8],
     memory: &[u8],
-    frame_bytes: usize,
+    payload_bytes: usize,
     event: EventNumber,
 ) -> Find
-    requires { ⌜ (EventsFit «frame_bytes» (now memory)) × (event .0 < 512) ⌝ }
-    ensures { λ r. ⌜ r ≡ victimPlace (priorityOf (now (cfg .entry))) (quietIn (now (records .entry))) (event .0) (entriesOf «frame_bytes» (now (memory .entry))) ⌝ }
+    requires { ⌜ (EventsFit «payload_bytes» (now memory)) × (event .0 < 512) ⌝ }
+    ensures { λ r. ⌜ r ≡ victimPlace (priorityOf (now (cfg .entry))) (quietIn (now (records .entry))) (event .0) (entriesOf «payload_bytes» (now (memory .entry))) ⌝ }
 {
-    let greatest = place_of_greatest(cfg, memory, frame_bytes, event);
+    let greatest = place_of_greatest(cfg, memory, payload_bytes, event);
     match greatest {
         Find::At(place) => Find::At(place),
-        Find::Nothing => place_of_resting(cfg, records, memory, frame_bytes, event),
+        Find::Nothing => place_of_resting(cfg, records, memory, payload_bytes, event),
     }
 }
 
@@ -247,21 +268,27 @@ fn one_more(count: u8) -> u8
 }
 
 // Rule 1: "e has an entry: count up by one, at most 255; frame replaced; the entry moves to the end (newest)."
-fn renew(memory: &mut [u8], place: Place, event: EventNumber, frame: &[u8])
-    requires { ⌜ (PlaceFits (length (now frame)) (now memory) (place .0)) × (event .0 < 65536) ⌝ }
-    ensures { λ _. ⌜ now (memory .exit) ≡ replaced (place .0) (event .0) (min 255 (suc (atPlace (place .0) (entriesOf (length (now (frame .entry))) (now (memory .entry))) .count))) (now (frame .entry)) (now (memory .entry)) ⌝ }
+fn renew(memory: &mut [u8], payload_bytes: usize, place: Place, event: EventNumber, frame: &[u8])
+    requires { ⌜ (PlaceFits «payload_bytes» (now memory) (place .0)) × ((event .0 < 65536) × (length (renewedPayload (atPlace (place .0) (entriesOf «payload_bytes» (now memory)) .payload) (now frame)) ≡ «payload_bytes»)) ⌝ }
+    ensures { λ _. ⌜ now (memory .exit) ≡ renewedAt «payload_bytes» (place .0) (event .0) (now (frame .entry)) (now (memory .entry)) ⌝ }
 {
-    let count = one_more(count_at(memory, frame.len(), place));
-    replace(memory, place, event, count, frame);
+    let count = one_more(count_at(memory, payload_bytes, place));
+    replace(memory, payload_bytes, place, event, count, frame);
 }
 
 // Rule 3: "The victim is taken out, e appended with count 1."
-fn displace(memory: &mut [u8], place: Place, event: EventNumber, frame: &[u8]) -> StoreAnswer
-    requires { ⌜ (PlaceFits (length (now frame)) (now memory) (place .0)) × (event .0 < 65536) ⌝ }
-    ensures { λ r. ⌜ leftWith (now (memory .exit)) r ≡ leftWith (replaced (place .0) (event .0) 1 (now (frame .entry)) (now (memory .entry))) (displacing (atPlace (place .0) (entriesOf (length (now (frame .entry))) (now (memory .entry))))) ⌝ }
+fn displace(
+    memory: &mut [u8],
+    payload_bytes: usize,
+    place: Place,
+    event: EventNumber,
+    frame: &[u8],
+) -> StoreAnswer
+    requires { ⌜ (PlaceFits «payload_bytes» (now memory) (place .0)) × ((event .0 < 65536) × (length (payloadOf (now frame)) ≡ «payload_bytes»)) ⌝ }
+    ensures { λ r. ⌜ leftWith (now (memory .exit)) r ≡ leftWith (replaced «payload_bytes» (place .0) (event .0) 1 (payloadOf (now (frame .entry))) (now (memory .entry))) (displacing (atPlace (place .0) (entriesOf «payload_bytes» (now (memory .entry))))) ⌝ }
 {
-    let out = event_at(memory, frame.len(), place);
-    replace(memory, place, event, 1, frame);
+    let out = event_at(memory, payload_bytes, place);
+    replace(memory, payload_bytes, place, event, 1, frame);
     StoreAnswer::Displaced(out)
 }
 
@@ -270,19 +297,20 @@ fn admit(
     cfg: &[i32],
     records: &[u8],
     memory: &mut [u8],
+    payload_bytes: usize,
     event: EventNumber,
     frame: &[u8],
 ) -> StoreAnswer
-    requires { ⌜ MayStore (now cfg) (now memory) (event .0) (now frame) ⌝ }
-    ensures { λ r. ⌜ leftWith (now (memory .exit)) r ≡ admits (places (now (cfg .entry))) (frameBytes (now (cfg .entry))) (priorityOf (now (cfg .entry))) (quietIn (now (records .entry))) (event .0) (now (frame .entry)) (entriesOf (frameBytes (now (cfg .entry))) (now (memory .entry))) ⌝ }
+    requires { ⌜ (MayStore (now cfg) (now memory) (event .0) (now frame)) × («payload_bytes» ≡ entryFrames (now cfg)) ⌝ }
+    ensures { λ r. ⌜ leftWith (now (memory .exit)) r ≡ admits (places (now (cfg .entry))) (entryFrames (now (cfg .entry))) (priorityOf (now (cfg .entry))) (quietIn (now (records .entry))) (event .0) (now (frame .entry)) (entriesOf (entryFrames (now (cfg .entry))) (now (memory .entry))) ⌝ }
 {
     if entry_count(memory) < config::places(cfg) {
-        append(memory, event, 1, frame);
+        append(memory, payload_bytes, event, 1, frame);
         return StoreAnswer::Added;
     }
-    let found = victim(cfg, records, memory, frame.len(), event);
+    let found = victim(cfg, records, memory, payload_bytes, event);
     match found {
-        Find::At(place) => displace(memory, place, event, frame),
+        Find::At(place) => displace(memory, payload_bytes, place, event, frame),
         Find::Nothing => StoreAnswer::NotStored,
     }
 }
@@ -296,15 +324,16 @@ pub fn store(
     frame: &[u8],
 ) -> StoreAnswer
     requires { ⌜ MayStore (now cfg) (now memory) (event .0) (now frame) ⌝ }
-    ensures { λ r. ⌜ leftWith (now (memory .exit)) r ≡ stores (places (now (cfg .entry))) (frameBytes (now (cfg .entry))) (priorityOf (now (cfg .entry))) (quietIn (now (records .entry))) (event .0) (now (frame .entry)) (entriesOf (frameBytes (now (cfg .entry))) (now (memory .entry))) ⌝ }
+    ensures { λ r. ⌜ leftWith (now (memory .exit)) r ≡ stores (places (now (cfg .entry))) (entryFrames (now (cfg .entry))) (priorityOf (now (cfg .entry))) (quietIn (now (records .entry))) (event .0) (now (frame .entry)) (entriesOf (entryFrames (now (cfg .entry))) (now (memory .entry))) ⌝ }
 {
-    let own = place_of(memory, frame.len(), event);
+    let payload_bytes = entry_frames(cfg);
+    let own = place_of(memory, payload_bytes, event);
     match own {
         Find::At(place) => {
-            renew(memory, place, event, frame);
+            renew(memory, payload_bytes, place, event, frame);
             StoreAnswer::Renewed
         }
-        Find::Nothing => admit(cfg, records, memory, event, frame),
+        Find::Nothing => admit(cfg, records, memory, payload_bytes, event, frame),
     }
 }
 
@@ -321,15 +350,15 @@ fn entry_ok(events: usize, records: &[u8], event: EventNumber, count: u8) -> boo
 }
 
 // Whether each entry is so.
-fn each_ok(events: usize, frame_bytes: usize, memory: &[u8], records: &[u8]) -> bool
-    requires { ⌜ (events ≤ 512) × EntriesFit «frame_bytes» (now memory) ⌝ }
-    ensures { λ r. ⌜ r ≡ allOf (soundEntry events (now (records .entry))) (entriesOf «frame_bytes» (now (memory .entry))) ⌝ }
+fn each_ok(events: usize, payload_bytes: usize, memory: &[u8], records: &[u8]) -> bool
+    requires { ⌜ (events ≤ 512) × EntriesFit «payload_bytes» (now memory) ⌝ }
+    ensures { λ r. ⌜ r ≡ allOf (soundEntry events (now (records .entry))) (entriesOf «payload_bytes» (now (memory .entry))) ⌝ }
 {
     let entries = entry_count(memory);
     let mut i = 0;
     while i < entries {
-        let event = event_at(memory, frame_bytes, Place(i));
-        let count = count_at(memory, frame_bytes, Place(i));
+        let event = event_at(memory, payload_bytes, Place(i));
+        let count = count_at(memory, payload_bytes, Place(i));
         if !entry_ok(events, records, event, count) {
             return false;
         }
@@ -339,14 +368,14 @@ fn each_ok(events: usize, frame_bytes: usize, memory: &[u8], records: &[u8]) -> 
 }
 
 // Whether an entry of the event stands at a place from `first` on.
-fn stands_from(memory: &[u8], frame_bytes: usize, first: Place, event: EventNumber) -> bool
-    requires { ⌜ (EntriesFit «frame_bytes» (now memory)) × (first .0 ≤ entryCount (now memory)) ⌝ }
-    ensures { λ r. ⌜ r ≡ anyOf (isOf (event .0)) (drop (first .0) (entriesOf «frame_bytes» (now (memory .entry)))) ⌝ }
+fn stands_from(memory: &[u8], payload_bytes: usize, first: Place, event: EventNumber) -> bool
+    requires { ⌜ (EntriesFit «payload_bytes» (now memory)) × (first .0 ≤ entryCount (now memory)) ⌝ }
+    ensures { λ r. ⌜ r ≡ anyOf (isOf (event .0)) (drop (first .0) (entriesOf «payload_bytes» (now (memory .entry)))) ⌝ }
 {
     let entries = entry_count(memory);
     let mut i = first.0;
     while i < entries {
-        let other = event_at(memory, frame_bytes, Place(i));
+        let other = event_at(memory, payload_bytes, Place(i));
         if other.0 == event.0 {
             return true;
         }
@@ -356,16 +385,16 @@ fn stands_from(memory: &[u8], frame_bytes: usize, first: Place, event: EventNumb
 }
 
 // "no two equal"
-fn none_twice(memory: &[u8], frame_bytes: usize) -> bool
-    requires { ⌜ EntriesFit «frame_bytes» (now memory) ⌝ }
-    ensures { λ r. ⌜ r ≡ noTwice (entriesOf «frame_bytes» (now (memory .entry))) ⌝ }
+fn none_twice(memory: &[u8], payload_bytes: usize) -> bool
+    requires { ⌜ EntriesFit «payload_bytes» (now memory) ⌝ }
+    ensures { λ r. ⌜ r ≡ noTwice (entriesOf «payload_bytes» (now (memory .entry))) ⌝ }
 {
     let entries = entry_count(memory);
     let mut i = 0;
     while i < entries {
-        let event = event_at(memory, frame_bytes, Place(i));
+        let event = event_at(memory, payload_bytes, Place(i));
         i += 1;
-        if stands_from(memory, frame_bytes, Place(i), event) {
+        if stands_from(memory, payload_bytes, Place(i), event) {
             return false;
         }
     }
@@ -376,12 +405,12 @@ fn none_twice(memory: &[u8], frame_bytes: usize) -> bool
 pub fn entries_ok(
     events: usize,
     places: usize,
-    frame_bytes: usize,
+    payload_bytes: usize,
     used: &[u8],
     records: &[u8],
 ) -> bool
-    requires { ⌜ Small events places «frame_bytes» ⌝ }
-    ensures { λ r. ⌜ r ≡ usedOk events places «frame_bytes» (now (records .entry)) (now (used .entry)) ⌝ }
+    requires { ⌜ Small events places «payload_bytes» ⌝ }
+    ensures { λ r. ⌜ r ≡ usedOk events places «payload_bytes» (now (records .entry)) (now (used .entry)) ⌝ }
 {
     if used.len() == 0 {
         return false;
@@ -389,10 +418,10 @@ pub fn entries_ok(
     if places < entry_count(used) {
         return false;
     }
-    if used.len() != bytes_in_use(used, frame_bytes) {
+    if used.len() != bytes_in_use(used, payload_bytes) {
         return false;
     }
-    each_ok(events, frame_bytes, used, records) & none_twice(used, frame_bytes)
+    each_ok(events, payload_bytes, used, records) & none_twice(used, payload_bytes)
 }
 
 // "the bytes after the last entry are 0"
@@ -413,19 +442,19 @@ pub fn all_zero(bytes: &[u8]) -> bool
 pub fn memory_ok(
     events: usize,
     places: usize,
-    frame_bytes: usize,
+    payload_bytes: usize,
     memory: &[u8],
     records: &[u8],
 ) -> bool
-    requires { ⌜ Small events places «frame_bytes» ⌝ }
-    ensures { λ r. ⌜ r ≡ blockOk events places «frame_bytes» (now (records .entry)) (now (memory .entry)) ⌝ }
+    requires { ⌜ Small events places «payload_bytes» ⌝ }
+    ensures { λ r. ⌜ r ≡ blockOk events places «payload_bytes» (now (records .entry)) (now (memory .entry)) ⌝ }
 {
-    if memory.len() != memory_length(places, frame_bytes) {
+    if memory.len() != memory_length(places, payload_bytes) {
         return false;
     }
     if places < entry_count(memory) {
         return false;
     }
-    let end = bytes_in_use(memory, frame_bytes);
-    entries_ok(events, places, frame_bytes, &memory[..end], records) & all_zero(&memory[end..])
+    let end = bytes_in_use(memory, payload_bytes);
+    entries_ok(events, places, payload_bytes, &memory[..end], records) & all_zero(&memory[end..])
 }

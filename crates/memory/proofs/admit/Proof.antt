@@ -19,23 +19,37 @@ places-requires : tie.Need-places-requires
 places-requires c κs = search needs
 
 append-requires : tie.Need-append-requires
-append-requires c κs = may-append (now (c .before .before .before .before .before .before .before .before .args .cfg)) (now (c .before .before .before .before .before .before .before .before .args .records)) (now (c .before .before .before .before .before .before .before .before .args .memory)) (c .before .before .before .before .before .before .before .before .args .event .0) (now (c .before .before .before .before .before .before .before .before .args .frame)) (c .before .before .before .before .before .before .before .before .pre) (omega (arith, c .before .before .before .entry-count .ensures, c .before .before .places .ensures, c .before .if1 .taken))
+append-requires c κs =
+    let a = c .before .before .before .before .before .before .before .before .args in
+    let pre = c .before .before .before .before .before .before .before .before .pre in
+    let h : entryCount (now (a .memory)) < places (now (a .cfg)) = omega (arith, c .before .before .before .entry-count .ensures, c .before .before .places .ensures, c .before .if1 .taken) in
+    may-append (now (a .cfg)) (now (a .records)) (now (a .memory)) (a .event .0) (now (a .frame)) (pre .0) (pre .1) h
 
 same-length : tie.Need-same-length
 same-length c = search needs
 
 returns : tie.Need-returns
-returns c = let h : entryCount (now (c .before .before .before .before .before .before .before .before .before .before .before .args .memory)) < places (now (c .before .before .before .before .before .before .before .before .before .before .before .args .cfg)) = omega (arith, c .before .before .before .before .before .before .entry-count .ensures, c .before .before .before .before .before .places .ensures, c .before .before .before .before .if1 .taken) in
-    ap (λ (m : List ℕ). leftWith m Added) (c .before .before .append .ensures) ∙ appends (now (c .before .before .before .before .before .before .before .before .before .before .before .args .cfg)) (now (c .before .before .before .before .before .before .before .before .before .before .before .args .records)) (now (c .before .before .before .before .before .before .before .before .before .before .before .args .memory)) (c .before .before .before .before .before .before .before .before .before .before .before .args .event .0) (now (c .before .before .before .before .before .before .before .before .before .before .before .args .frame)) (c .before .before .before .before .before .before .before .before .before .before .before .pre) h
+returns c =
+    let a = c .before .before .before .before .before .before .before .before .before .before .before .args in
+    let pre = c .before .before .before .before .before .before .before .before .before .before .before .pre in
+    let h : entryCount (now (a .memory)) < places (now (a .cfg)) = omega (arith, c .before .before .before .before .before .before .entry-count .ensures, c .before .before .before .before .before .places .ensures, c .before .before .before .before .if1 .taken) in
+    ap (λ (m : List ℕ). leftWith m Added) (c .before .before .append .ensures)
+    ∙ appends (now (a .cfg)) (now (a .records)) (now (a .memory)) (a .event .0) (now (a .frame)) (pre .0) (pre .1) h
 
 victim-requires : tie.Need-victim-requires
-victim-requires c κs = may-search (now (c .before .before .before .before .before .before .before .before .args .cfg)) (now (c .before .before .before .before .before .before .before .before .args .records)) (now (c .before .before .before .before .before .before .before .before .args .memory)) (c .before .before .before .before .before .before .before .before .args .event .0) (now (c .before .before .before .before .before .before .before .before .args .frame)) (c .before .before .before .before .before .before .before .before .pre)
+victim-requires c κs =
+    let a = c .before .before .before .before .before .before .before .before .args in
+    let pre = c .before .before .before .before .before .before .before .before .pre in
+    may-search (now (a .cfg)) (now (a .records)) (now (a .memory)) (a .event .0) (now (a .frame)) (pre .0) (pre .1)
 
 enum-known-found : tie.Need-enum-known-found
 enum-known-found c = search needs
 
 displace-requires : tie.Need-displace-requires
-displace-requires c κs = may-displace (now (c .before .before .before .before .before .before .before .before .before .before .before .before .before .args .cfg)) (now (c .before .before .before .before .before .before .before .before .before .before .before .before .before .args .records)) (now (c .before .before .before .before .before .before .before .before .before .before .before .before .before .args .memory)) (c .before .before .before .before .before .before .before .before .before .before .before .before .before .args .event .0) (now (c .before .before .before .before .before .before .before .before .before .before .before .before .before .args .frame)) (c .before .before .before .before .before .before .before .before .before .before .before .before .before .pre) _ (sym (c .before .before .before .before .victim .ensures) ∙ c .before .before .found .given .1)
+displace-requires c κs =
+    let a = c .before .before .before .before .before .before .before .before .before .before .before .before .before .args in
+    let pre = c .before .before .before .before .before .before .before .before .before .before .before .before .before .pre in
+    may-displace (now (a .cfg)) (now (a .records)) (now (a .memory)) (a .event .0) (now (a .frame)) (pre .0) (pre .1) _ (sym (c .before .before .before .before .victim .ensures) ∙ c .before .before .found .given .1)
 
 enum-told : tie.Need-enum-told
 enum-told c = search needs
@@ -44,15 +58,22 @@ same-length-2 : tie.Need-same-length-2
 same-length-2 c = search needs
 
 returns-2 : tie.Need-returns-2
-returns-2 c = let h : places (now (c .before .before .before .before .before .before .before .before .before .before .before .before .before .before .before .before .args .cfg)) ≤ entryCount (now (c .before .before .before .before .before .before .before .before .before .before .before .before .before .before .before .before .args .memory)) = omega (arith, c .before .before .before .before .before .before .before .before .before .before .before .entry-count .ensures, c .before .before .before .before .before .before .before .before .before .before .places .ensures, c .before .before .before .before .before .before .before .before .before .if1 .left) in
-    c .before .before .displace .ensures ∙ displaces (now (c .before .before .before .before .before .before .before .before .before .before .before .before .before .before .before .before .args .cfg)) (now (c .before .before .before .before .before .before .before .before .before .before .before .before .before .before .before .before .args .records)) (now (c .before .before .before .before .before .before .before .before .before .before .before .before .before .before .before .before .args .memory)) (c .before .before .before .before .before .before .before .before .before .before .before .before .before .before .before .before .args .event .0) (now (c .before .before .before .before .before .before .before .before .before .before .before .before .before .before .before .before .args .frame)) (c .before .before .before .before .before .before .before .before .before .before .before .before .before .before .before .before .pre) h _ (sym (c .before .before .before .before .before .before .before .victim .ensures) ∙ c .before .before .before .before .before .found .given .1)
+returns-2 c =
+    let a = c .before .before .before .before .before .before .before .before .before .before .before .before .before .before .before .before .args in
+    let pre = c .before .before .before .before .before .before .before .before .before .before .before .before .before .before .before .before .pre in
+    let h : places (now (a .cfg)) ≤ entryCount (now (a .memory)) = omega (arith, c .before .before .before .before .before .before .before .before .before .before .before .entry-count .ensures, c .before .before .before .before .before .before .before .before .before .before .places .ensures, c .before .before .before .before .before .before .before .before .before .if1 .left) in
+    c .before .before .displace .ensures
+    ∙ displaces (now (a .cfg)) (now (a .records)) (now (a .memory)) (a .event .0) (now (a .frame)) (pre .0) (pre .1) h _ (sym (c .before .before .before .before .before .before .before .victim .ensures) ∙ c .before .before .before .before .before .found .given .1)
 
 same-length-3 : tie.Need-same-length-3
 same-length-3 c = search needs
 
 returns-3 : tie.Need-returns-3
-returns-3 c = let h : places (now (c .before .before .before .before .before .before .before .before .before .before .before .args .cfg)) ≤ entryCount (now (c .before .before .before .before .before .before .before .before .before .before .before .args .memory)) = omega (arith, c .before .before .before .before .before .before .entry-count .ensures, c .before .before .before .before .before .places .ensures, c .before .before .before .before .if1 .left) in
-    loses (now (c .before .before .before .before .before .before .before .before .before .before .before .args .cfg)) (now (c .before .before .before .before .before .before .before .before .before .before .before .args .records)) (now (c .before .before .before .before .before .before .before .before .before .before .before .args .memory)) (c .before .before .before .before .before .before .before .before .before .before .before .args .event .0) (now (c .before .before .before .before .before .before .before .before .before .before .before .args .frame)) (c .before .before .before .before .before .before .before .before .before .before .before .pre) h (sym (c .before .before .victim .ensures) ∙ c .enum-told .given .1)
+returns-3 c =
+    let a = c .before .before .before .before .before .before .before .before .before .before .before .args in
+    let pre = c .before .before .before .before .before .before .before .before .before .before .before .pre in
+    let h : places (now (a .cfg)) ≤ entryCount (now (a .memory)) = omega (arith, c .before .before .before .before .before .before .entry-count .ensures, c .before .before .before .before .before .places .ensures, c .before .before .before .before .if1 .left) in
+    loses (now (a .cfg)) (now (a .records)) (now (a .memory)) (a .event .0) (now (a .frame)) (pre .0) (pre .1) h (sym (c .before .before .victim .ensures) ∙ c .enum-told .given .1)
 
 pub admit-spec : {M : Type 1} → statement M
 admit-spec =

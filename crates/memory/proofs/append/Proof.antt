@@ -22,19 +22,27 @@ slice-write-memory : tie.Need-slice-write-memory
 slice-write-memory c = search needs
 
 enter-requires : tie.Need-enter-requires
-enter-requires c κs = record {
-  frame-most = c .before .before .before .before .before .before .pre .frame-most;
-  event-most = c .before .before .before .before .before .before .pre .event-most;
-  place-most = omega (arith, c .before .before .entry-count .ensures, c .before .before .before .before .before .before .pre .place-most);
-  within = simp length-set (rw (c .before .before .entry-count .ensures) (c .before .before .before .before .before .before .pre .within));
-}
+enter-requires c κs =
+    let pre = c .before .before .before .before .before .before .pre in
+    let entry-count = c .before .before .entry-count in (
+      record {
+        frame-most = pre .0 .frame-most;
+        event-most = pre .0 .event-most;
+        place-most = omega (arith, entry-count .ensures, pre .0 .place-most);
+        within = simp length-set (rw (entry-count .ensures) (pre .0 .within));
+      },
+      pre .1,
+    )
 
 same-length : tie.Need-same-length
 same-length c = c .before .before .enter .kept .0 ∙ simp length-set
 
 returns : tie.Need-returns
-returns c = let m = now (c .before .before .before .before .before .before .before .before .before .args .memory) in
-    c .before .before .enter .ensures ∙ ap (λ (k : ℕ). entered k (c .before .before .before .before .before .before .before .before .before .args .event .0) (c .before .before .before .before .before .before .before .before .before .args .count) (now (c .before .before .before .before .before .before .before .before .before .args .frame)) (set m 0 (entryCount m + 1))) (c .before .before .before .before .before .entry-count .ensures)
+returns c =
+    let a = c .before .before .before .before .before .before .before .before .before .args in
+    let m = now (a .memory) in
+    c .before .before .enter .ensures
+    ∙ ap (λ (k : ℕ). entered (a .payload-bytes) k (a .event .0) (a .count) (now (a .payload)) (set m 0 (entryCount m + 1))) (c .before .before .before .before .before .entry-count .ensures)
 
 pub append-spec : {M : Type 1} → statement M
 append-spec =

@@ -11,7 +11,7 @@ start-of-requires : tie.Need-start-of-requires
 start-of-requires c κs = search needs
 
 returns : tie.Need-returns
-returns c = c .start-of .ensures ∙ ap (bytesInUse (c .before .before .before .args .frame-bytes)) (c .before .entry-count .ensures)
+returns c = c .start-of .ensures ∙ ap (bytesInUse (c .before .before .before .args .payload-bytes)) (c .before .entry-count .ensures)
 
 pub bytes-in-use-spec : {M : Type 1} → statement M
 bytes-in-use-spec = tie.close (tie.spec entry-count-requires start-of-requires returns)

@@ -40,12 +40,12 @@ returns c =
     let a = c .before .before .before .before .before .before .before .before .before .before .before .before .before .before .args in
     let start-of = c .before .before .before .before .before .before .before .before .before .before .before .start-of in
     let m = now (a .memory) in
-    let frame = now (a .frame) in
+    let payload = now (a .payload) in
     let e = a .event .0 in
     c .before .before .put2 .ensures
-    ∙ ap (λ (l : List ℕ). sets l (start-of .result + 3) frame) (c .before .before .before .before .before .before .put .ensures)
-    ∙ sets-append (e / 256 ∷ e % 256 ∷ a .count ∷ []) frame m (start-of .result)
-    ∙ ap (λ (k : ℕ). sets m k (entryBytes (entryOf e (a .count) frame))) (start-of .ensures)
+    ∙ ap (λ (l : List ℕ). sets l (start-of .result + 3) payload) (c .before .before .before .before .before .before .put .ensures)
+    ∙ sets-append (e / 256 ∷ e % 256 ∷ a .count ∷ []) payload m (start-of .result)
+    ∙ ap (λ (k : ℕ). sets m k (entryBytes (entryOf e (a .count) payload))) (start-of .ensures)
 
 pub enter-spec : {M : Type 1} → statement M
 enter-spec =

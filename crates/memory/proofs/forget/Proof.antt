@@ -1,22 +1,22 @@
 use mathlib.Core.Path.{sym, _∙_}
 use denote.Ref.{now}
-use Rattle.manual.specs.Configuration.{events, places, frameBytes}
+use Rattle.manual.specs.Configuration.{events, places, entryFrames}
 use Rattle.memory.proofs.StoreLaws.{may-seek, may-remove, forgets, forgets-nothing}
 use borrow.Author.Needs.{needs}
 use Rattle.memory.proofs.forget.Statement.{statement}
 use Rattle.memory.proofs.forget.Tie as tie
 
-frame-bytes-requires : tie.Need-frame-bytes-requires
-frame-bytes-requires c κs = search needs
+entry-frames-requires : tie.Need-entry-frames-requires
+entry-frames-requires c κs = search needs
 
 place-of-requires : tie.Need-place-of-requires
-place-of-requires c κs = may-seek (events (now (c .before .before .before .args .cfg))) (places (now (c .before .before .before .args .cfg))) (frameBytes (now (c .before .before .before .args .cfg))) (c .before .frame-bytes .result) (now (c .before .before .before .args .memory)) (c .before .before .before .pre) (c .before .frame-bytes .ensures) (c .before .before .before .args .event .0)
+place-of-requires c κs = may-seek (events (now (c .before .before .before .args .cfg))) (places (now (c .before .before .before .args .cfg))) (entryFrames (now (c .before .before .before .args .cfg))) (c .before .entry-frames .result) (now (c .before .before .before .args .memory)) (c .before .before .before .pre) (c .before .entry-frames .ensures) (c .before .before .before .args .event .0)
 
 enum-known-own : tie.Need-enum-known-own
 enum-known-own c = search needs
 
 remove-requires : tie.Need-remove-requires
-remove-requires c κs = may-remove (events (now (c .before .before .before .before .before .before .before .before .args .cfg))) (places (now (c .before .before .before .before .before .before .before .before .args .cfg))) (frameBytes (now (c .before .before .before .before .before .before .before .before .args .cfg))) (c .before .before .before .before .before .before .frame-bytes .result) (now (c .before .before .before .before .before .before .before .before .args .memory)) (c .before .before .before .before .before .before .before .before .pre) (c .before .before .before .before .before .before .frame-bytes .ensures) (c .before .before .before .before .before .before .before .before .args .event .0) _ (sym (c .before .before .before .before .place-of .ensures) ∙ c .before .before .own .given .1)
+remove-requires c κs = may-remove (events (now (c .before .before .before .before .before .before .before .before .args .cfg))) (places (now (c .before .before .before .before .before .before .before .before .args .cfg))) (entryFrames (now (c .before .before .before .before .before .before .before .before .args .cfg))) (c .before .before .before .before .before .before .entry-frames .result) (now (c .before .before .before .before .before .before .before .before .args .memory)) (c .before .before .before .before .before .before .before .before .pre) (c .before .before .before .before .before .before .entry-frames .ensures) (c .before .before .before .before .before .before .before .before .args .event .0) _ (sym (c .before .before .before .before .place-of .ensures) ∙ c .before .before .own .given .1)
 
 enum-told : tie.Need-enum-told
 enum-told c = search needs
@@ -26,19 +26,19 @@ same-length c = search needs
 
 returns : tie.Need-returns
 returns c = c .before .before .remove .ensures
-    ∙ forgets (events (now (c .before .before .before .before .before .before .before .before .before .before .before .args .cfg))) (places (now (c .before .before .before .before .before .before .before .before .before .before .before .args .cfg))) (frameBytes (now (c .before .before .before .before .before .before .before .before .before .before .before .args .cfg))) (c .before .before .before .before .before .before .before .before .before .frame-bytes .result) (now (c .before .before .before .before .before .before .before .before .before .before .before .args .memory)) (c .before .before .before .before .before .before .before .before .before .before .before .pre) (c .before .before .before .before .before .before .before .before .before .frame-bytes .ensures) (c .before .before .before .before .before .before .before .before .before .before .before .args .event .0) _ (sym (c .before .before .before .before .before .before .before .place-of .ensures) ∙ c .before .before .before .before .before .own .given .1)
+    ∙ forgets (events (now (c .before .before .before .before .before .before .before .before .before .before .before .args .cfg))) (places (now (c .before .before .before .before .before .before .before .before .before .before .before .args .cfg))) (entryFrames (now (c .before .before .before .before .before .before .before .before .before .before .before .args .cfg))) (c .before .before .before .before .before .before .before .before .before .entry-frames .result) (now (c .before .before .before .before .before .before .before .before .before .before .before .args .memory)) (c .before .before .before .before .before .before .before .before .before .before .before .pre) (c .before .before .before .before .before .before .before .before .before .entry-frames .ensures) (c .before .before .before .before .before .before .before .before .before .before .before .args .event .0) _ (sym (c .before .before .before .before .before .before .before .place-of .ensures) ∙ c .before .before .before .before .before .own .given .1)
 
 same-length-2 : tie.Need-same-length-2
 same-length-2 c = search needs
 
 returns-2 : tie.Need-returns-2
-returns-2 c = forgets-nothing (events (now (c .before .before .before .before .before .before .args .cfg))) (places (now (c .before .before .before .before .before .before .args .cfg))) (frameBytes (now (c .before .before .before .before .before .before .args .cfg))) (c .before .before .before .before .frame-bytes .result) (now (c .before .before .before .before .before .before .args .memory)) (c .before .before .before .before .before .before .pre) (c .before .before .before .before .frame-bytes .ensures) (c .before .before .before .before .before .before .args .event .0) (sym (c .before .before .place-of .ensures) ∙ c .enum-told .given .1)
+returns-2 c = forgets-nothing (events (now (c .before .before .before .before .before .before .args .cfg))) (places (now (c .before .before .before .before .before .before .args .cfg))) (entryFrames (now (c .before .before .before .before .before .before .args .cfg))) (c .before .before .before .before .entry-frames .result) (now (c .before .before .before .before .before .before .args .memory)) (c .before .before .before .before .before .before .pre) (c .before .before .before .before .entry-frames .ensures) (c .before .before .before .before .before .before .args .event .0) (sym (c .before .before .place-of .ensures) ∙ c .enum-told .given .1)
 
 pub forget-spec : {M : Type 1} → statement M
 forget-spec =
     tie.close
     (tie.spec
-    frame-bytes-requires
+    entry-frames-requires
     place-of-requires
     enum-known-own
     remove-requires

@@ -10,10 +10,10 @@ add-result : tie.Need-add-result
 add-result c = search needs
 
 mul-result : tie.Need-mul-result
-mul-result c = omega (arith, mul-comm (c .args .places) (entryWidth (c .args .frame-bytes)), start-small (c .args .frame-bytes) (c .args .places) (c .pre .1) (c .pre .0))
+mul-result c = omega (arith, mul-comm (c .args .places) (entryWidth (c .args .payload-bytes)), start-small (c .args .payload-bytes) (c .args .places) (c .pre .1) (c .pre .0))
 
 add-result-2 : tie.Need-add-result-2
-add-result-2 c = omega (arith, mul-comm (c .args .places) (entryWidth (c .args .frame-bytes)), start-small (c .args .frame-bytes) (c .args .places) (c .pre .1) (c .pre .0))
+add-result-2 c = omega (arith, mul-comm (c .args .places) (entryWidth (c .args .payload-bytes)), start-small (c .args .payload-bytes) (c .args .places) (c .pre .1) (c .pre .0))
 
 returns : tie.Need-returns
 returns c = search needs

@@ -12,10 +12,10 @@ use Rattle.memory.proofs.place_of_greatest.Statement.{statement}
 use Rattle.memory.proofs.place_of_greatest.Tie as tie
 
 abbrev Inv-loop : tie.InvT-loop
-Inv-loop cfg memory frame-bytes entries best₀ top₀ i₀ best top i = (i ≤ entries) × Best (priorityAt (priorityOf cfg) (entriesOf frame-bytes memory)) top₀ i best top
+Inv-loop cfg memory payload-bytes entries best₀ top₀ i₀ best top i = (i ≤ entries) × Best (priorityAt (priorityOf cfg) (entriesOf payload-bytes memory)) top₀ i best top
 
 abbrev μ-loop : tie.MeasureT-loop
-μ-loop cfg memory frame-bytes entries best₀ top₀ i₀ best top i = entries - i
+μ-loop cfg memory payload-bytes entries best₀ top₀ i₀ best top i = entries - i
 
 entry-count-requires : tie.Need-entry-count-requires Inv-loop μ-loop
 entry-count-requires c κs = omega (arith, c .before .pre .0 .entries .within)
@@ -24,13 +24,13 @@ priority-of-requires : tie.Need-priority-of-requires Inv-loop μ-loop
 priority-of-requires c κs = c .before .before .pre .1
 
 loop-holds : tie.Need-loop-holds Inv-loop μ-loop
-loop-holds c = (omega arith, best-of-none (priorityAt (priorityOf (now (c .before .before .before .args .cfg))) (entriesOf (c .before .before .before .args .frame-bytes) (now (c .before .before .before .args .memory)))) (c .priority-of .result))
+loop-holds c = (omega arith, best-of-none (priorityAt (priorityOf (now (c .before .before .before .args .cfg))) (entriesOf (c .before .before .before .args .payload-bytes) (now (c .before .before .before .args .memory)))) (c .priority-of .result))
 
 event-at-requires : tie.Need-event-at-requires Inv-loop μ-loop
 event-at-requires c κs = record { entries = c .before .before .before .before .before .pre .0 .entries; below = omega (arith, c .before .before .before .entry-count .ensures, c .loop-test .taken) }
 
 priority-of-requires-2 : tie.Need-priority-of-requires-2 Inv-loop μ-loop
-priority-of-requires-2 c κs = rw (c .event-at .ensures) (event-small (c .before .before .before .before .before .before .args .frame-bytes) (c .before .before .loop .i) (now (c .before .before .before .before .before .before .args .memory)) (c .before .before .before .before .before .before .pre .0) (omega (arith, c .before .before .before .before .entry-count .ensures, c .before .loop-test .taken)))
+priority-of-requires-2 c κs = rw (c .event-at .ensures) (event-small (c .before .before .before .before .before .before .args .payload-bytes) (c .before .before .loop .i) (now (c .before .before .before .before .before .before .args .memory)) (c .before .before .before .before .before .before .pre .0) (omega (arith, c .before .before .before .before .entry-count .ensures, c .before .loop-test .taken)))
 
 add-i : tie.Need-add-i Inv-loop μ-loop
 add-i c = omega arith
@@ -39,7 +39,7 @@ loop-less : tie.Need-loop-less Inv-loop μ-loop
 loop-less c = omega arith
 
 loop-again : tie.Need-loop-again Inv-loop μ-loop
-loop-again c = let f = priorityAt (priorityOf (now (c .before .before .before .before .before .before .before .before .args .cfg))) (entriesOf (c .before .before .before .before .before .before .before .before .args .frame-bytes) (now (c .before .before .before .before .before .before .before .before .args .memory))) in
+loop-again c = let f = priorityAt (priorityOf (now (c .before .before .before .before .before .before .before .before .args .cfg))) (entriesOf (c .before .before .before .before .before .before .before .before .args .payload-bytes) (now (c .before .before .before .before .before .before .before .before .args .memory))) in
     let i = c .before .before .before .before .loop .i in
     let e : c .before .priority-of2 .result ≡ f i = c .before .priority-of2 .ensures ∙ ap (priorityOf (now (c .before .before .before .before .before .before .before .before .args .cfg))) (c .before .before .event-at .ensures) in (
       omega (arith, c .before .before .before .loop-test .taken),
@@ -51,8 +51,8 @@ loop-again c = let f = priorityAt (priorityOf (now (c .before .before .before .b
 
 returns : tie.Need-returns Inv-loop μ-loop
 returns c = let p = priorityOf (now (c .before .before .before .before .before .args .cfg)) in
-    let xs = entriesOf (c .before .before .before .before .before .args .frame-bytes) (now (c .before .before .before .before .before .args .memory)) in
-    let i : c .before .loop .i ≡ length xs = omega (arith, entries-are-count (c .before .before .before .before .before .args .frame-bytes) (now (c .before .before .before .before .before .args .memory)), c .before .before .before .entry-count .ensures, c .loop-test .left, c .before .loop .inv .0) in
+    let xs = entriesOf (c .before .before .before .before .before .args .payload-bytes) (now (c .before .before .before .before .before .args .memory)) in
+    let i : c .before .loop .i ≡ length xs = omega (arith, entries-are-count (c .before .before .before .before .before .args .payload-bytes) (now (c .before .before .before .before .before .args .memory)), c .before .before .before .entry-count .ensures, c .loop-test .left, c .before .loop .inv .0) in
     sym (best-is-first p (c .before .before .before .before .before .args .event .0) xs (c .before .loop .best) (c .before .loop .top) (rw (i, c .before .before .priority-of .ensures) at (c .before .loop .inv .1)))
 
 pub place-of-greatest-spec : {M : Type 1} → statement M

@@ -19,8 +19,11 @@ same-length : tie.Need-same-length
 same-length c = search needs
 
 returns : tie.Need-returns
-returns c = c .before .before .replace .ensures
-    ∙ ap (λ (k : ℕ). replaced (c .before .before .before .before .before .before .before .before .before .args .place .0) (c .before .before .before .before .before .before .before .before .before .args .event .0) k (now (c .before .before .before .before .before .before .before .before .before .args .frame)) (now (c .before .before .before .before .before .before .before .before .before .args .memory))) (c .before .before .before .before .one-more .ensures ∙ ap (λ (k : ℕ). min 255 (suc k)) (c .before .before .before .before .before .count-at .ensures))
+returns c =
+    let a = c .before .before .before .before .before .before .before .before .before .args in
+    c .before .before .replace .ensures
+    ∙ ap (λ (k : ℕ). replaced (a .payload-bytes) (a .place .0) (a .event .0) k (now (a .frame)) (now (a .memory)))
+    (c .before .before .before .before .one-more .ensures ∙ ap (λ (k : ℕ). min 255 (suc k)) (c .before .before .before .before .before .count-at .ensures))
 
 pub renew-spec : {M : Type 1} → statement M
 renew-spec =

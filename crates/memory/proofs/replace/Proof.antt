@@ -2,7 +2,6 @@ use Prim.Native.Nat.{_-_}
 use native.Mathlib.Omega.{arith}
 use mathlib.Core.Path.{_∙_}
 use denote.Ref.{now}
-use lib.ListN.{length}
 use Rattle.memory.specs.Block.{entered}
 use Rattle.memory.proofs.SurgeryLaws.{room-in-use}
 use borrow.Author.Needs.{needs}
@@ -12,22 +11,28 @@ use Rattle.memory.proofs.replace.Tie as tie
 entry-count-requires : tie.Need-entry-count-requires
 entry-count-requires c κs = search needs
 
-sub-t10 : tie.Need-sub-t10
-sub-t10 c = search needs
+sub-t11 : tie.Need-sub-t11
+sub-t11 c = search needs
 
 close-gap-requires : tie.Need-close-gap-requires
 close-gap-requires c κs = search needs
 
 enter-requires : tie.Need-enter-requires
-enter-requires c κs = rw (c .before .before .before .close-gap .ensures) (room-in-use (length (now (c .before .before .before .before .before .before .before .before .before .args .frame))) (c .before .before .before .before .before .before .before .before .before .args .place .0) (c .before .before .before .before .before .before .before .before .before .args .event .0) _ (now (c .before .before .before .before .before .before .before .before .before .args .memory)) (c .before .before .before .before .before .before .before .before .before .pre .0) (c .before .before .before .before .before .before .before .before .before .pre .1) (omega (arith, c .before .before .before .before .before .entry-count .ensures, c .before .before .before .before .before .before .before .before .before .pre .0 .below)))
+enter-requires c κs =
+    let a = c .before .before .before .before .before .before .before .before .before .args in
+    let pre = c .before .before .before .before .before .before .before .before .before .pre in
+    (rw (c .before .before .before .close-gap .ensures) (room-in-use (a .payload-bytes) (a .place .0) (a .event .0) _ (now (a .memory)) (pre .0) (pre .1 .0) (omega (arith, c .before .before .before .before .before .entry-count .ensures, pre .0 .below))), pre .1 .1)
 
 same-length : tie.Need-same-length
 same-length c = search needs
 
 returns : tie.Need-returns
-returns c = c .before .before .enter .ensures ∙ (λ i. entered (c .before .before .before .before .before .before .before .before .entry-count .ensures i - 1) (c .before .before .before .before .before .before .before .before .before .before .before .before .args .event .0) (c .before .before .before .before .before .before .before .before .before .before .before .before .args .count) (now (c .before .before .before .before .before .before .before .before .before .before .before .before .args .frame)) (c .before .before .before .before .before .before .close-gap .ensures i))
+returns c =
+    let a = c .before .before .before .before .before .before .before .before .before .before .before .before .args in
+    c .before .before .enter .ensures
+    ∙ (λ i. entered (a .payload-bytes) (c .before .before .before .before .before .before .before .before .entry-count .ensures i - 1) (a .event .0) (a .count) (now (a .payload)) (c .before .before .before .before .before .before .close-gap .ensures i))
 
 pub replace-spec : {M : Type 1} → statement M
 replace-spec =
     tie.close
-    (tie.spec entry-count-requires sub-t10 close-gap-requires enter-requires same-length returns)
+    (tie.spec entry-count-requires sub-t11 close-gap-requires enter-requires same-length returns)

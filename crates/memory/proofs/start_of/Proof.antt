@@ -8,10 +8,10 @@ add-result : tie.Need-add-result
 add-result c = search needs
 
 mul-result : tie.Need-mul-result
-mul-result c = omega (arith, start-small (c .before .args .frame-bytes) (c .before .args .place .0) (c .before .pre .0) (c .before .pre .1))
+mul-result c = omega (arith, start-small (c .before .args .payload-bytes) (c .before .args .place .0) (c .before .pre .0) (c .before .pre .1))
 
 add-result-2 : tie.Need-add-result-2
-add-result-2 c = omega (arith, start-small (c .before .args .frame-bytes) (c .before .args .place .0) (c .before .pre .0) (c .before .pre .1))
+add-result-2 c = omega (arith, start-small (c .before .args .payload-bytes) (c .before .args .place .0) (c .before .pre .0) (c .before .pre .1))
 
 returns : tie.Need-returns
 returns c = search needs
