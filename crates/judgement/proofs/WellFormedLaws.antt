@@ -10,7 +10,7 @@ use Rattle.history.specs.Words.{holds}
 use Rattle.history.proofs.WordsLaws.{and-true}
 use Rattle.manual.specs.declared.Board.{Board}
 use Rattle.manual.specs.Words.{allBelow}
-use Rattle.manual.specs.Configuration.{Configuration, events, places, frameBytes}
+use Rattle.manual.specs.Configuration.{Configuration, events, places, entryFrames}
 use Rattle.manual.specs.State.{opened, storedAt, lent}
 use Rattle.manual.specs.WellFormed.{lengthsFit, memoryFits, recordOk, DOk, memoryOk, wellFormed}
 use Rattle.manual.proofs.WellFormedLaws.{lengths-tell}
@@ -26,7 +26,7 @@ numbersAre cfg b debounce = allBelow (events cfg) (λ e. DOk cfg b e (getD debou
 
 module _ (cfg : Configuration) (records : List ℕ) (debounce : List ℤ) (memory : List ℕ) (b : Board) where
   -- the judgement of a memory block is the manual's, with the block's length
-  pub block-is : blockOk (events cfg) (places cfg) (frameBytes cfg) records memory ≡ memoryFits cfg (lent records debounce memory b) && memoryOk cfg (lent records debounce memory b)
+  pub block-is : blockOk (events cfg) (places cfg) (entryFrames cfg) records memory ≡ memoryFits cfg (lent records debounce memory b) && memoryOk cfg (lent records debounce memory b)
   unfolding blockOk memoryOk holds storedAt
   block-is = refl
 
@@ -35,7 +35,7 @@ module _ (cfg : Configuration) (records : List ℕ) (debounce : List ℤ) (memor
   not-fitting l = rw l
 
   pub judged-in-passes : lengthsFit cfg (lent records debounce memory b) ≡ true
-      → recordsAre cfg records && numbersAre cfg b debounce && blockOk (events cfg) (places cfg) (frameBytes cfg) records memory ≡ wellFormed cfg (lent records debounce memory b)
+      → recordsAre cfg records && numbersAre cfg b debounce && blockOk (events cfg) (places cfg) (entryFrames cfg) records memory ≡ wellFormed cfg (lent records debounce memory b)
   unfolding wellFormed holds
   judged-in-passes l =
       let s = lent records debounce memory b in

@@ -42,7 +42,7 @@ pub fn lengths_fit(cfg: &[i32], records: &[u8], debounce: &[i32], memory: &[u8])
     ensures { λ r. ⌜ ((b : Board) → r ≡ lengthsFit (now (cfg .entry)) (lent (now (records .entry)) (now (debounce .entry)) (now (memory .entry)) b)) ⌝ }
 {
     let n = config::events(cfg);
-    let memory_length = memory::memory_length(config::places(cfg), config::frame_bytes(cfg));
+    let memory_length = memory::memory_length(config::places(cfg), memory::entry_frames(cfg));
     (records.len() == manual::RECORD_WIDTH * n)
         & (debounce.len() == n)
         & (memory.len() == memory_length)
@@ -113,7 +113,7 @@ pub fn well_formed(
     }
     let n = config::events(cfg);
     let m = config::places(cfg);
-    let f = config::frame_bytes(cfg);
+    let f = memory::entry_frames(cfg);
     records_ok(cfg, records)
         & numbers_ok(cfg, board, debounce)
         & memory::memory_ok(n, m, f, memory, records)

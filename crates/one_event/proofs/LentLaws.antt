@@ -13,7 +13,7 @@ use Rattle.manual.specs.declared.Board.{Board}
 use Rattle.manual.specs.declared.StoreAnswer.{StoreAnswer}
 use Rattle.manual.specs.declared.StoreAnswer.the-variants.{Untold}
 use Rattle.manual.specs.declared.Verdict.{Verdict}
-use Rattle.manual.specs.Configuration.{Configuration, events, places, frameBytes, priorityOf, limitsOf}
+use Rattle.manual.specs.Configuration.{Configuration, events, places, entryFrames, priorityOf, limitsOf}
 use Rattle.manual.specs.State.{State, recordWidth, Stored, opened, stored, storedAt, withStored, D, withD, lent}
 use Rattle.manual.specs.Memory.{entriesOf, memoryOf, without, isLost, store}
 use Rattle.manual.specs.OneEvent.{happens, entryLeaves, keeps, storedFor, memoryTold, fails, failsDid, stops, clears}
@@ -56,7 +56,7 @@ module _ (cfg : Configuration) (e : ℕ) (records : List ℕ) where
 
 module _ (cfg : Configuration) (e : ℕ) (memory : List ℕ) where
   abbrev forgotten : List ℕ
-  forgotten = memoryOf (places cfg) (frameBytes cfg) (without e (entriesOf (frameBytes cfg) memory))
+  forgotten = memoryOf (places cfg) (entryFrames cfg) (without e (entriesOf (entryFrames cfg) memory))
 
   abbrev leavesIf : Bool → List ℕ → List ℤ → Board → State
   leavesIf test r d b = cond test (entryLeaves cfg e (lent r d memory b)) (lent r d memory b)
@@ -93,7 +93,7 @@ module _ (cfg : Configuration) (e : ℕ) (records : List ℕ) (debounce : List �
 
 module _ (cfg : Configuration) (e : ℕ) (frame records memory : List ℕ) (board : Board) where
   abbrev told : Left
-  told = stores (places cfg) (frameBytes cfg) (priorityOf cfg) (quietIn records) e frame (entriesOf (frameBytes cfg) memory)
+  told = stores (places cfg) (entryFrames cfg) (priorityOf cfg) (quietIn records) e frame (entriesOf (entryFrames cfg) memory)
 
   pub told-is : {memory′ : List ℕ} (did : StoreAnswer) {lost : Bool} → leftWith memory′ did ≡ told → lost ≡ isLost did
       → (d : List ℤ) → stepped (lent records d memory′ (record { running = board .running; overflow = board .overflow || lost })) did ≡ tellsMemory cfg frame e (lent records d memory board)

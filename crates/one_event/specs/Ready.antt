@@ -6,7 +6,7 @@ use Prim.Native.Nat.{ℕ, _*_, _<_}
 use lib.IntN.{ℤ}
 use lib.ListN.{length}
 use Rattle.manual.specs.declared.Verdict.{Verdict}
-use Rattle.manual.specs.Configuration.{Configuration, events, places, frameBytes, configOk}
+use Rattle.manual.specs.Configuration.{Configuration, events, places, entryFrames, configOk}
 use Rattle.manual.specs.State.{State, recordWidth, opened, storedAt, D}
 use Rattle.manual.specs.WellFormed.{recordOk, DOk}
 use Rattle.manual.specs.Answers.{Outcome, alone}
@@ -20,7 +20,7 @@ accepts verdict s = record { answer = 0; verdict = verdict; value = 0; part = []
 pub record BlocksFit (cfg : Configuration) (records memory : List ℕ) (e : ℕ) : Type 0 where
   pub below : e < events cfg
   pub records-fit : length records ≡ recordWidth * events cfg
-  pub in-order : InOrder (events cfg) (places cfg) (frameBytes cfg) memory
+  pub in-order : InOrder (events cfg) (places cfg) (entryFrames cfg) memory
 
 -- under an accepted configuration, the debounce numbers have room for it too, and its record is as "well formed" asks
 pub record EventFits (cfg : Configuration) (records : List ℕ) (debounce : List ℤ) (memory : List ℕ) (e : ℕ) : Type 0 where

@@ -10,7 +10,7 @@ ghost use Prim.Native.Nat.{ℕ, _+_, _*_, _≤_, _<_};
 ghost use lib.IntN.{ℤ, pos};
 ghost use lib.ListN.{length, set};
 ghost use Rattle.history.specs.History.{passed, start};
-ghost use Rattle.manual.specs.Configuration.{Configuration, events, places, frameBytes};
+ghost use Rattle.manual.specs.Configuration.{Configuration, events, places, frameBytes, entryFrames};
 ghost use Rattle.manual.specs.State.{recordWidth, lent};
 ghost use Rattle.manual.specs.Memory.{isLost};
 ghost use Rattle.manual.specs.OneEvent.{happens, entryLeaves, stops, clears};
@@ -40,7 +40,7 @@ pub fn passes(records: &mut [u8], event: EventNumber)
 
 // Where the test holds, "its entry leaves memory".
 fn entry_leaves_if(test: bool, cfg: &[i32], memory: &mut [u8], event: EventNumber)
-    requires { ⌜ InOrder (events (now cfg)) (places (now cfg)) (frameBytes (now cfg)) (now memory) ⌝ }
+    requires { ⌜ InOrder (events (now cfg)) (places (now cfg)) (entryFrames (now cfg)) (now memory) ⌝ }
     ensures { λ _. ⌜ ((r : List ℕ) (d : List ℤ) (b : Board) → lent r d (now (memory .exit)) b ≡ cond test (entryLeaves (now (cfg .entry)) (event .0) (lent r d (now (memory .entry)) b)) (lent r d (now (memory .entry)) b)) ⌝ }
 {
     if test {

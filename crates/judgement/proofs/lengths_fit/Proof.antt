@@ -13,18 +13,18 @@ events-requires c κs = search needs
 places-requires : tie.Need-places-requires
 places-requires c κs = search needs
 
-frame-bytes-requires : tie.Need-frame-bytes-requires
-frame-bytes-requires c κs = search needs
+entry-frames-requires : tie.Need-entry-frames-requires
+entry-frames-requires c κs = search needs
 
 memory-length-requires : tie.Need-memory-length-requires
-memory-length-requires c κs = let t = config-tells _ (c .before .before .before .before .before .pre) in (rw (c .before .places .ensures) (t .M-most), rw (c .frame-bytes .ensures) (t .F-most))
+memory-length-requires c κs = let t = config-tells _ (c .before .before .before .before .before .pre) in (rw (c .before .places .ensures) (t .M-most), rw (c .entry-frames .ensures) (t .F-most))
 
 mul-result : tie.Need-mul-result
 mul-result c = let t = config-tells _ (c .before .before .before .before .before .before .pre) in let h : c .before .before .before .events .result ≤ 512 = rw (c .before .before .before .events .ensures) (t .n-most) in record { fits = omega arith }
 
 returns : tie.Need-returns
 unfolding lengthsFit
-returns c = λ b. rw (c .memory-length .ensures, c .before .frame-bytes .ensures, c .before .before .places .ensures, c .before .before .before .events .ensures) (joined-is _ _)
+returns c = λ b. rw (c .memory-length .ensures, c .before .entry-frames .ensures, c .before .before .places .ensures, c .before .before .before .events .ensures) (joined-is _ _)
 
 pub lengths-fit-spec : {M : Type 1} → statement M
 lengths-fit-spec =
@@ -32,7 +32,7 @@ lengths-fit-spec =
     (tie.spec
     events-requires
     places-requires
-    frame-bytes-requires
+    entry-frames-requires
     memory-length-requires
     mul-result
     returns)

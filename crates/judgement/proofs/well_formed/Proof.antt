@@ -28,8 +28,8 @@ events-requires c κs = search needs
 places-requires : tie.Need-places-requires
 places-requires c κs = search needs
 
-frame-bytes-requires : tie.Need-frame-bytes-requires
-frame-bytes-requires c κs = search needs
+entry-frames-requires : tie.Need-entry-frames-requires
+entry-frames-requires c κs = search needs
 
 records-ok-requires : tie.Need-records-ok-requires
 records-ok-requires c κs = record { accepted = c .before .before .before .before .before .before .before .pre; as-long = lengths-tell _ _ (fits (c .before .before .before)) .records }
@@ -43,7 +43,7 @@ memory-ok-requires c κs =
     record {
       events-most = rw (c .before .before .before .before .events .ensures) (t .n-most);
       places-most = rw (c .before .before .before .places .ensures) (t .M-most);
-      frame-most = rw (c .before .before .frame-bytes .ensures) (t .F-most);
+      frame-most = rw (c .before .before .entry-frames .ensures) (t .F-most);
     }
 
 returns-2 : tie.Need-returns-2
@@ -51,7 +51,7 @@ returns-2 c =
     let a = c .before .before .before .before .before .before .before .before .before .before .args in
     let n = c .before .before .before .before .before .events .ensures in
     let m = c .before .before .before .before .places .ensures in
-    let f = c .before .before .before .frame-bytes .ensures in
+    let f = c .before .before .before .entry-frames .ensures in
     (λ i. c .before .before .records-ok .ensures i && c .before .numbers-ok .ensures i && (c .memory-ok .ensures ∙ (λ j. blockOk (n j) (m j) (f j) (now (a .records)) (now (a .memory)))) i)
     ∙ judged-in-passes _ _ _ _ _ (fits (c .before .before .before .before .before .before))
 
@@ -63,7 +63,7 @@ well-formed-spec =
     returns
     events-requires
     places-requires
-    frame-bytes-requires
+    entry-frames-requires
     records-ok-requires
     numbers-ok-requires
     memory-ok-requires
