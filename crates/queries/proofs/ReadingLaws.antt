@@ -14,7 +14,7 @@ use Rattle.manual.specs.declared.Place.{Place}
 use Rattle.manual.specs.declared.Refusal.{Refusal}
 use Rattle.manual.specs.declared.Refusal.the-variants.{NoEntry}
 use Rattle.manual.specs.declared.Verdict.the-variants.{None}
-use Rattle.manual.specs.Configuration.{Configuration, frameBytes, configOk}
+use Rattle.manual.specs.Configuration.{Configuration, frameBytes, entryFrames, configOk}
 use Rattle.manual.specs.State.{State, statusByte}
 use Rattle.manual.specs.Memory.{entriesOf, isOf, entryFor}
 use Rattle.manual.specs.WellFormed.{entries, wellFormed}
@@ -45,19 +45,22 @@ module _ (start size : ℕ) (m : List ℕ) where
 
 -- ---- the answer of a search
 
-module _ (F e : ℕ) (m : List ℕ) {F′ : ℕ} (f : F′ ≡ F) where
-  pub found-most : EntriesFit F m → (p : Place) → placeOf e (entriesOf F′ m) ≡ Find.At p → (F′ ≤ 32) × (p .0 ≤ 64)
-  found-most fits p q = (rw f (fits .frame-most), let inside = found (isOf e) (entriesOf F′ m) p q .inside in let most = fits .count-most in omega (arith, entries-are-count F′ m))
+module _ (W F e : ℕ) (m : List ℕ) {W′ : ℕ} (w : W′ ≡ W) where
+  pub found-most : EntriesFit W m → (p : Place) → placeOf e (entriesOf W′ m) ≡ Find.At p → (W′ ≤ 32) × (p .0 ≤ 64)
+  found-most fits p q =
+      let inside = found (isOf e) (entriesOf W′ m) p q .inside in
+      let most = fits .count-most in
+      (rw w (fits .frame-most), omega (arith, entries-are-count W′ m))
 
-  same-answer : entryAnswer F′ (placeOf e (entriesOf F′ m)) ≡ entryAnswer F (placeOf e (entriesOf F m))
-  same-answer = λ i. entryAnswer (f i) (placeOf e (entriesOf (f i) m))
+  same-answer : entryAnswer W′ F (placeOf e (entriesOf W′ m)) ≡ entryAnswer W F (placeOf e (entriesOf W m))
+  same-answer = λ i. entryAnswer (w i) F (placeOf e (entriesOf (w i) m))
 
-  pub answers-at : (p : Place) {start : ℕ} → placeOf e (entriesOf F′ m) ≡ Find.At p → start ≡ frameAt F′ p
-      → At (record { start = start; length = F′ }) ≡ entryAnswer F (placeOf e (entriesOf F m))
-  answers-at p q k = (λ i. At (record { start = k i; length = F′ })) ∙ ap (entryAnswer F′) (sym q) ∙ same-answer
+  pub answers-at : (p : Place) {start size : ℕ} → placeOf e (entriesOf W′ m) ≡ Find.At p → start ≡ frameAt W′ p → size ≡ F
+      → At (record { start = start; length = size }) ≡ entryAnswer W F (placeOf e (entriesOf W m))
+  answers-at p q k l = (λ i. At (record { start = k i; length = l i })) ∙ ap (entryAnswer W′ F) (sym q) ∙ same-answer
 
-  pub answers-nothing : placeOf e (entriesOf F′ m) ≡ Nothing → FrameAnswer.Refused NoEntry ≡ entryAnswer F (placeOf e (entriesOf F m))
-  answers-nothing q = ap (entryAnswer F′) (sym q) ∙ same-answer
+  pub answers-nothing : placeOf e (entriesOf W′ m) ≡ Nothing → FrameAnswer.Refused NoEntry ≡ entryAnswer W F (placeOf e (entriesOf W m))
+  answers-nothing q = ap (entryAnswer W′ F) (sym q) ∙ same-answer
 
 -- "read frame 4, 10"
 abbrev ten : Configuration → State → ℕ → List Rule
@@ -80,7 +83,7 @@ module _ (cfg : Configuration) (s : State) (e : ℕ) (z : firstThatApplies (begi
   tells : StateTells cfg s
   tells = state-tells cfg s (not-false (wellFormed cfg s) (none-applies _ z refl 1))
 
-  pub may-seek : EntriesFit (frameBytes cfg) (s .memory)
+  pub may-seek : EntriesFit (entryFrames cfg) (s .memory)
   may-seek =
       let t = config-tells cfg (not-false (configOk cfg) (none-applies _ z refl 0)) in
       let most = t .M-most in
@@ -96,14 +99,14 @@ module _ (cfg : Configuration) (s : State) (e : ℕ) (z : firstThatApplies (begi
 
   -- the event has an entry
   frame-there : (p : Place) → placeOf e (entries cfg s) ≡ Find.At p
-      → leaves (answered 0 None 0) (partAt (frameAt (frameBytes cfg) p) (frameBytes cfg) (s .memory)) alone s ≡ readFrame cfg e alone s
+      → leaves (answered 0 None 0) (partAt (frameAt (entryFrames cfg) p) (frameBytes cfg) (s .memory)) alone s ≡ readFrame cfg e alone s
   unfolding readFrame firstThatApplies
   frame-there p q =
       let own = found (isOf e) (entries cfg s) p q in
-      let fits : PlaceFits (frameBytes cfg) (s .memory) (p .0) = record { entries = may-seek; below = omega (arith, own .inside, entries-are-count (frameBytes cfg) (s .memory)) } in
-      let part : partAt (frameAt (frameBytes cfg) p) (frameBytes cfg) (s .memory) ≡ frameOf (entryFor e (entries cfg s)) =
-      sym (part-within _ _ _ (omega (arith, entry-within (frameBytes cfg) (p .0) (s .memory) fits)))
-      ∙ sym (frame-is-at (frameBytes cfg) (s .memory) (p .0) (fits .below))
+      let fits : PlaceFits (entryFrames cfg) (s .memory) (p .0) = record { entries = may-seek; below = omega (arith, own .inside, entries-are-count (entryFrames cfg) (s .memory)) } in
+      let part : partAt (frameAt (entryFrames cfg) p) (frameBytes cfg) (s .memory) ≡ frameOf (entryFor e (entries cfg s)) =
+      sym (part-within _ _ _ (omega (arith, entry-within (entryFrames cfg) (p .0) (s .memory) fits)))
+      ∙ sym (frame-is-at (entryFrames cfg) (s .memory) (p .0) (fits .below))
       ∙ ap frameOf (sym (own .first)) in
       ap (λ (l : List ℕ). leaves (answered 0 None 0) l alone s) part
       ∙ sym (goes-through _ alone s _ (only-ten ∙ rw (first-some (isOf e) (entries cfg s) _ (own .first))))
@@ -113,13 +116,13 @@ module _ (cfg : Configuration) (s : State) (e : ℕ) (z : firstThatApplies (begi
   unfolding readFrame firstThatApplies
   frame-nowhere q = stops-with _ alone s _ NoEntry (sym (only-ten ∙ rw (first-none (isOf e) (entries cfg s) (found-nothing (isOf e) (entries cfg s) q))))
 
-  pub frame-is : says (entryAnswer (frameBytes cfg) (placeOf e (entries cfg s))) s ≡ frameRead cfg e s
+  pub frame-is : says (entryAnswer (entryFrames cfg) (frameBytes cfg) (placeOf e (entries cfg s))) s ≡ frameRead cfg e s
   unfolding frameRead
   frame-is = go (placeOf e (entries cfg s)) refl
     where
       go : (f : Find) → placeOf e (entries cfg s) ≡ f
-          → says (entryAnswer (frameBytes cfg) f) s ≡ placed (readFrame cfg e alone s) (frameStart (frameBytes cfg) (placeOf e (entries cfg s))) (frameBytes cfg)
-      go (Find.At p) q = λ i. placed (frame-there p q i) (frameStart (frameBytes cfg) (sym q i)) (frameBytes cfg)
+          → says (entryAnswer (entryFrames cfg) (frameBytes cfg) f) s ≡ placed (readFrame cfg e alone s) (frameStart (entryFrames cfg) (placeOf e (entries cfg s))) (frameBytes cfg)
+      go (Find.At p) q = λ i. placed (frame-there p q i) (frameStart (entryFrames cfg) (sym q i)) (frameBytes cfg)
       go Nothing q = refused-is NoEntry s _ _ _ (frame-nowhere q)
 
 -- ---- where 2, 3 or 4 applies

@@ -7,7 +7,7 @@ use lib.ListN.{length, take, drop}
 use Rattle.manual.specs.declared.FrameAnswer.{FrameAnswer}
 use Rattle.manual.specs.declared.FrameAnswer.the-variants.{At}
 use Rattle.manual.specs.declared.Refusal.the-variants.{NoEntry}
-use Rattle.manual.specs.Configuration.{Configuration, frameBytes}
+use Rattle.manual.specs.Configuration.{Configuration, frameBytes, entryFrames}
 use Rattle.manual.specs.State.{State}
 use Rattle.manual.specs.WellFormed.{entries}
 use Rattle.manual.specs.Answers.{alone, Outcome, Rule, _if_, ofFrame, leaves}
@@ -51,13 +51,13 @@ abbrev pub says : FrameAnswer → State → FrameRead
 says a s = record { outcome = leaves (ofFrame a) (partOf a (s .memory)) alone s; start = startIn a; length = lengthIn a }
 
 abbrev pub frameStart : ℕ → Find → ℕ
-frameStart F (Find.At p) = frameAt F p
-frameStart F Nothing = 0
+frameStart W (Find.At p) = frameAt W p
+frameStart W Nothing = 0
 
--- the answer where 2, 3 and 4 do not apply: "10 | event has no memory entry"
-abbrev pub entryAnswer : ℕ → Find → FrameAnswer
-entryAnswer F (Find.At p) = At (record { start = frameAt F p; length = F })
-entryAnswer F Nothing = FrameAnswer.Refused NoEntry
+-- the answer where 2, 3 and 4 do not apply, with payloads of W bytes and frames of F: "10 | event has no memory entry"
+abbrev pub entryAnswer : ℕ → ℕ → Find → FrameAnswer
+entryAnswer W F (Find.At p) = At (record { start = frameAt W p; length = F })
+entryAnswer W F Nothing = FrameAnswer.Refused NoEntry
 
 -- "a frame part empty": a refusal has neither start nor length
 abbrev pub placed : Outcome → ℕ → ℕ → FrameRead
@@ -65,4 +65,4 @@ placed o start size = record { outcome = o; start = cond (eqb (o .answer) 0) sta
 
 -- "The stored frame is read as a part of the caller's own memory block, no copy.": the F bytes that stand in the event's own entry
 unfoldable pub frameRead : Configuration → ℕ → State → FrameRead
-frameRead cfg e s = placed (readFrame cfg e alone s) (frameStart (frameBytes cfg) (placeOf e (entries cfg s))) (frameBytes cfg)
+frameRead cfg e s = placed (readFrame cfg e alone s) (frameStart (entryFrames cfg) (placeOf e (entries cfg s))) (frameBytes cfg)

@@ -10,7 +10,7 @@ use memory::Find;
 ghost use mathlib.Core.Bool.{true};
 ghost use mathlib.Core.Path.{_≡_};
 ghost use mathlib.Core.List.{[]};
-ghost use Rattle.manual.specs.Configuration.{frameBytes};
+ghost use Rattle.manual.specs.Configuration.{frameBytes, entryFrames};
 ghost use Rattle.manual.specs.State.{lent};
 ghost use Rattle.manual.specs.Memory.{entriesOf};
 ghost use Rattle.manual.specs.Answers.{alone, firstThatApplies, ofStatus, leaves};
@@ -72,14 +72,15 @@ pub fn read_status(
 
 // Where the frame of the event's entry stands; "10 | event has no memory entry".
 fn frame_of(cfg: &[i32], memory: &[u8], event: EventNumber) -> FrameAnswer
-    requires { ⌜ EntriesFit (frameBytes (now cfg)) (now memory) ⌝ }
-    ensures { λ r. ⌜ r ≡ entryAnswer (frameBytes (now (cfg .entry))) (placeOf (event .0) (entriesOf (frameBytes (now (cfg .entry))) (now (memory .entry)))) ⌝ }
+    requires { ⌜ EntriesFit (entryFrames (now cfg)) (now memory) ⌝ }
+    ensures { λ r. ⌜ r ≡ entryAnswer (entryFrames (now (cfg .entry))) (frameBytes (now (cfg .entry))) (placeOf (event .0) (entriesOf (entryFrames (now (cfg .entry))) (now (memory .entry)))) ⌝ }
 {
     let frame_bytes = config::frame_bytes(cfg);
-    let own = memory::place_of(memory, frame_bytes, event);
+    let payload_bytes = memory::entry_frames(cfg);
+    let own = memory::place_of(memory, payload_bytes, event);
     match own {
         Find::At(place) => FrameAnswer::At(FramePart {
-            start: memory::frame_start(frame_bytes, place),
+            start: memory::frame_start(payload_bytes, place),
             length: frame_bytes,
         }),
         Find::Nothing => FrameAnswer::Refused(Refusal::NoEntry),

@@ -2,7 +2,7 @@
 use mathlib.Core.Path.{sym, _∙_}
 use native.Mathlib.Omega.{arith}
 use denote.Ref.{now}
-use Rattle.manual.specs.Configuration.{frameBytes}
+use Rattle.manual.specs.Configuration.{frameBytes, entryFrames}
 use Rattle.queries.proofs.ReadingLaws.{found-most, answers-at, answers-nothing}
 use borrow.Author.Needs.{needs}
 use Rattle.queries.proofs.frame_of.Statement.{statement}
@@ -11,19 +11,23 @@ use Rattle.queries.proofs.frame_of.Tie as tie
 frame-bytes-requires : tie.Need-frame-bytes-requires
 frame-bytes-requires c κs = search needs
 
+entry-frames-requires : tie.Need-entry-frames-requires
+entry-frames-requires c κs = search needs
+
 place-of-requires : tie.Need-place-of-requires
-place-of-requires c κs = rw (c .frame-bytes .ensures)
-    (c .before .before .pre)
+place-of-requires c κs = rw (c .entry-frames .ensures) (c .before .before .before .pre)
 
 enum-known-own : tie.Need-enum-known-own
 enum-known-own c = search needs
 
 frame-start-requires : tie.Need-frame-start-requires
 frame-start-requires c κs =
-    let a = c .before .before .before .before .before .before .args in
+    let a = c .before .before .before .before .before .before .before .args in
+    let pre = c .before .before .before .before .before .before .before .pre in
     let own = c .before .own in
-    let most = found-most (frameBytes (now (a .cfg))) (a .event .0) (now (a .memory)) (c .before .before .before .before .frame-bytes .ensures)
-    (c .before .before .before .before .before .before .pre) (own .given .0 .0) (sym (c .before .before .before .place-of .ensures) ∙ own .given .1) in
+    let most = found-most (entryFrames (now (a .cfg))) (frameBytes (now (a .cfg))) (a .event .0) (now (a .memory))
+    (c .before .before .before .before .entry-frames .ensures) pre (own .given .0 .0)
+    (sym (c .before .before .before .place-of .ensures) ∙ own .given .1) in
     (most .0, omega arith)
 
 enum-told : tie.Need-enum-told
@@ -31,23 +35,25 @@ enum-told c = search needs
 
 returns : tie.Need-returns
 returns c =
-    let a = c .before .before .before .before .before .before .before .args in
+    let a = c .before .before .before .before .before .before .before .before .args in
     let own = c .before .before .own in
-    answers-at (frameBytes (now (a .cfg))) (a .event .0) (now (a .memory)) (c .before .before .before .before .before .frame-bytes .ensures)
-    (own .given .0 .0) (sym (c .before .before .before .before .place-of .ensures) ∙ own .given .1)
-    (c .frame-start .ensures)
+    answers-at (entryFrames (now (a .cfg))) (frameBytes (now (a .cfg))) (a .event .0) (now (a .memory))
+    (c .before .before .before .before .before .entry-frames .ensures) (own .given .0 .0)
+    (sym (c .before .before .before .before .place-of .ensures) ∙ own .given .1) (c .frame-start .ensures)
+    (c .before .before .before .before .before .before .frame-bytes .ensures)
 
 returns-2 : tie.Need-returns-2
 returns-2 c =
-    let a = c .before .before .before .before .before .args in
-    answers-nothing (frameBytes (now (a .cfg))) (a .event .0) (now (a .memory)) (c .before .before .before .frame-bytes .ensures)
-    (sym (c .before .before .place-of .ensures) ∙ c .enum-told .given .1)
+    let a = c .before .before .before .before .before .before .args in
+    answers-nothing (entryFrames (now (a .cfg))) (frameBytes (now (a .cfg))) (a .event .0) (now (a .memory))
+    (c .before .before .before .entry-frames .ensures) (sym (c .before .before .place-of .ensures) ∙ c .enum-told .given .1)
 
 pub frame-of-spec : {M : Type 1} → statement M
 frame-of-spec =
     tie.close
     (tie.spec
     frame-bytes-requires
+    entry-frames-requires
     place-of-requires
     enum-known-own
     frame-start-requires
