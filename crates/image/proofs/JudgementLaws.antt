@@ -13,7 +13,7 @@ use lib.Seq.{take-at, drop-at, drop-cons, length-take-le, getD-take}
 use borrow.Author.Tests.{eq-eqb, ne-eqb, lt-leb}
 use Rattle.history.proofs.WordsLaws.{and-true, and-assoc}
 use Rattle.manual.specs.Words.{equal}
-use Rattle.manual.specs.Configuration.{Configuration, events, places, frameBytes, cycleOf}
+use Rattle.manual.specs.Configuration.{Configuration, events, places, entryFrames, cycleOf}
 use Rattle.manual.specs.State.{State, lent, allStopped, recordWidth}
 use Rattle.manual.specs.WellFormed.{lengthsFit, DFits, DOk, wellFormed}
 use Rattle.manual.specs.Memory.{entryWidth, entryCount, bytesInUse, memoryLength}
@@ -80,7 +80,7 @@ module _ (cfg : Configuration) (head records used : List ℕ) (flag : ℕ) (fits
   M = places cfg
 
   abbrev F : ℕ
-  F = frameBytes cfg
+  F = entryFrames cfg
 
   abbrev behind : List ℕ
   behind = replicate (entryWidth F * (M - entryCount used)) 0
@@ -178,12 +178,12 @@ unfolding imageOf imageFrom
 own-length cfg s formed =
     let t = state-tells cfg s formed in
     let used = memoryBody cfg s in
-    let count : entryCount used ≡ entryCount (s .memory) = getD-take (bytesInUse (frameBytes cfg) (entryCount (s .memory))) (s .memory) 0 0 (omega arith) in
+    let count : entryCount used ≡ entryCount (s .memory) = getD-take (bytesInUse (entryFrames cfg) (entryCount (s .memory))) (s .memory) 0 0 (omega arith) in
     length-right cfg (header (length (s .records)) (length used) 1) (s .records) used (cond (s .board .overflow) 1 0)
     (record {
       header-long = refl;
       records-long = t .lengths .records;
-      used-long = used-length cfg s t ∙ ap (bytesInUse (frameBytes cfg)) (sym count);
+      used-long = used-length cfg s t ∙ ap (bytesInUse (entryFrames cfg)) (sym count);
       few = omega (arith, count, t .few);
     })
 

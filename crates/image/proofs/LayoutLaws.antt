@@ -10,7 +10,7 @@ use lib.ListN.{length, getD, take, drop, length-append, length-drop, take-append
 use lib.Seq.{take-all, take-at, drop-at, drop-drop, drop-cons, drop-length, length-take-le, getD-take}
 use borrow.Author.Tests.{eqb-true, eq-eqb, ne-eqb, leb-true, le-leb, lt-leb}
 use Rattle.history.proofs.WordsLaws.{and-left, and-right, both, and-false}
-use Rattle.manual.specs.Configuration.{Configuration, events, places, frameBytes, configOk}
+use Rattle.manual.specs.Configuration.{Configuration, events, places, entryFrames, configOk}
 use Rattle.manual.specs.State.{recordWidth}
 use Rattle.manual.specs.Memory.{entryWidth, entryCount, bytesInUse}
 use Rattle.manual.specs.Image.{headerLength, recordsOf, afterRecords, usedIn}
@@ -51,17 +51,17 @@ module _ (cfg : Configuration) (image : List ℕ) where
         few = omega (arith, q);
       }
 
-      module _ {used : ℕ} (u : used ≡ bytesInUse (frameBytes cfg) (entryCount (take (length image - start) (drop start image)))) where
+      module _ {used : ℕ} (u : used ≡ bytesInUse (entryFrames cfg) (entryCount (take (length image - start) (drop start image)))) where
         pub end-most : configOk cfg ≡ true → start + used ≤ 4309
         end-most ok =
             let t = config-tells cfg ok in
             let k = entryCount (take (length image - start) (drop start image)) in
-            omega (arith, e, t .n-most, u, used-most (frameBytes cfg) k (t .F-most) (omega (arith, q, t .M-most)))
+            omega (arith, e, t .n-most, u, used-most (entryFrames cfg) k (t .F-most) (omega (arith, q, t .M-most)))
 
         pub few-enough : eqb (length image) (start + used + 1) ≡ lengthOk cfg image
         unfolding lengthOk
         few-enough =
-            let is = u ∙ ap (λ (l : List ℕ). bytesInUse (frameBytes cfg) (entryCount l)) (rest-is e) in
+            let is = u ∙ ap (λ (l : List ℕ). bytesInUse (entryFrames cfg) (entryCount l)) (rest-is e) in
             (λ i. eqb (length image) (e i + is i + 1)) ∙ sym (rw (le-leb (entryCount (afterRecords cfg image)) (places cfg) (omega (arith, count-is))))
 
 -- ---- an image cut into its header and its bodies
@@ -72,7 +72,7 @@ joined header records used flag = header ++ (records ++ (used ++ (flag ∷ [])))
 pub record Fitting (cfg : Configuration) (header records used : List ℕ) : Type 0 where
   pub header-long : length header ≡ headerLength
   pub records-long : length records ≡ recordWidth * events cfg
-  pub used-long : length used ≡ bytesInUse (frameBytes cfg) (entryCount used)
+  pub used-long : length used ≡ bytesInUse (entryFrames cfg) (entryCount used)
   pub few : entryCount used ≤ places cfg
 
 -- what stands in such an image
@@ -96,7 +96,7 @@ module _ (cfg : Configuration) (header records used : List ℕ) (flag : ℕ) (fi
   count-in = ap entryCount rest-in ∙ List·getD-append used (flag ∷ []) 0 0 (omega (arith, fits .used-long))
 
   pub used-in : usedIn cfg image ≡ length used
-  used-in = ap (bytesInUse (frameBytes cfg)) count-in ∙ sym (fits .used-long)
+  used-in = ap (bytesInUse (entryFrames cfg)) count-in ∙ sym (fits .used-long)
 
   length-in : length image ≡ memoryAt cfg + usedIn cfg image + 1
   length-in =
@@ -138,7 +138,7 @@ module _ (cfg : Configuration) (image : List ℕ) (ok : lengthOk cfg image ≡ t
   parts-fit = record {
     header-long = length-take-le headerLength image (let l = length-is in omega arith);
     records-long = length-take-le (recordWidth * events cfg) (drop headerLength image) (let l = length-is in omega (arith, length-drop headerLength image));
-    used-long = used-is ∙ ap (bytesInUse (frameBytes cfg)) (sym same-count);
+    used-long = used-is ∙ ap (bytesInUse (entryFrames cfg)) (sym same-count);
     few = let e = same-count in let h = few-in in omega arith;
   }
 
@@ -160,7 +160,7 @@ module _ (cfg : Configuration) (image : List ℕ) (ok : lengthOk cfg image ≡ t
       let t = config-tells cfg accepted in
       let l = length-is in
       let h = few-in in
-      let u = used-most (frameBytes cfg) (entryCount (afterRecords cfg image)) (t .F-most) (omega (arith, t .M-most)) in
+      let u = used-most (entryFrames cfg) (entryCount (afterRecords cfg image)) (t .F-most) (omega (arith, t .M-most)) in
       omega (arith, t .n-most)
 
   pub parts-joined : joined headerPart (recordsOf cfg image) usedPart flagByte ≡ image

@@ -13,7 +13,7 @@ use borrow.Author.Tests.{not-false}
 use Rattle.manual.specs.declared.Board.{Board}
 use Rattle.manual.specs.declared.Refusal.{Refusal}
 use Rattle.manual.specs.declared.Refusal.the-variants.{BadImage}
-use Rattle.manual.specs.Configuration.{Configuration, places, frameBytes, configOk}
+use Rattle.manual.specs.Configuration.{Configuration, places, entryFrames, configOk}
 use Rattle.manual.specs.State.{State, lent, allStopped}
 use Rattle.manual.specs.WellFormed.{lengthsFit}
 use Rattle.manual.specs.Memory.{entryWidth, entryCount}
@@ -40,19 +40,19 @@ module _ (cfg : Configuration) (image records : List ℕ) (debounce : List ℤ) 
 
   module _ (go : firstThatApplies (beginsWithLengths cfg s true []) ≡ 0) where
     pub begun-accepted : configOk cfg ≡ true
-    begun-accepted = begun-with-lengths cfg s true true go .0
+    begun-accepted = begun-with-lengths cfg s true go .0
 
     pub judged-go : {ok : Bool} → ok ≡ acceptable cfg image → ok ≡ true → 0 ≡ firstThatApplies (restoreRules cfg image s)
     unfolding restoreRules firstThatApplies
-    judged-go p q = sym (after-lengths-go cfg s true true ((8 if not (acceptable cfg image)) ∷ []) go ∙ rw (← p, q))
+    judged-go p q = sym (after-lengths-go cfg s true ((8 if not (acceptable cfg image)) ∷ []) go ∙ rw (← p, q))
 
     pub judged-bad : {ok : Bool} → ok ≡ acceptable cfg image → ok ≡ false → numberOf BadImage ≡ firstThatApplies (restoreRules cfg image s)
     unfolding restoreRules firstThatApplies
-    judged-bad p q = sym (after-lengths-go cfg s true true ((8 if not (acceptable cfg image)) ∷ []) go ∙ rw (← p, q))
+    judged-bad p q = sym (after-lengths-go cfg s true ((8 if not (acceptable cfg image)) ∷ []) go ∙ rw (← p, q))
 
   pub judged-stop : (r : Refusal) → numberOf r ≡ firstThatApplies (beginsWithLengths cfg s true []) → numberOf r ≡ firstThatApplies (restoreRules cfg image s)
   unfolding restoreRules
-  judged-stop r e = sym (after-lengths-stop cfg s true true _ r e)
+  judged-stop r e = sym (after-lengths-stop cfg s true _ r e)
 
   -- ---- the call
 
@@ -111,12 +111,12 @@ module _ (cfg : Configuration) (records : List ℕ) (debounce : List ℤ) (memor
 
   pub used-fits : length (take (length image - 1 - start) (drop start image)) ≤ length memory
   used-fits =
-      let w = entryWidth (frameBytes cfg) in
+      let w = entryWidth (entryFrames cfg) in
       omega (arith, ap length (used-cut cfg image right-length at), fits .used-long, mul-le-mul-left w (fits .few), mul-comm (places cfg) w, r .memory-fits)
 
-  behind-long : length memory - length used ≡ entryWidth (frameBytes cfg) * (places cfg - entryCount used)
+  behind-long : length memory - length used ≡ entryWidth (entryFrames cfg) * (places cfg - entryCount used)
   behind-long =
-      let w = entryWidth (frameBytes cfg) in
+      let w = entryWidth (entryFrames cfg) in
       let a = mul-sub w (places cfg) (entryCount used) in
       let b = mul-comm (places cfg) w in
       omega (arith, r .memory-fits, fits .used-long, a, b)

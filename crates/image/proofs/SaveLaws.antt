@@ -12,7 +12,7 @@ use Rattle.history.specs.Words.{anyOf}
 use Rattle.manual.specs.declared.Board.{Board}
 use Rattle.manual.specs.declared.Refusal.{Refusal}
 use Rattle.manual.specs.declared.LengthAnswer.the-variants.{Written}
-use Rattle.manual.specs.Configuration.{Configuration, places, frameBytes, configOk}
+use Rattle.manual.specs.Configuration.{Configuration, places, entryFrames, configOk}
 use Rattle.manual.specs.State.{State, lent}
 use Rattle.manual.specs.WellFormed.{wellFormed}
 use Rattle.manual.specs.Memory.{entryCount, bytesInUse}
@@ -50,18 +50,18 @@ any-of-four (a ∷ b ∷ c ∷ d ∷ x ∷ l) e = absurd (omega arith)
 
 module _ (cfg : Configuration) (records memory : List ℕ) (r : Savable cfg records memory) where
   abbrev used : ℕ
-  used = bytesInUse (frameBytes cfg) (entryCount memory)
+  used = bytesInUse (entryFrames cfg) (entryCount memory)
 
   pub counted : Counted cfg memory
   counted = record { accepted = r .accepted; some = omega (arith, r .memory-fits); few = r .few }
 
   pub used-long : length (take used memory) ≡ used
-  used-long = end-length (places cfg) (frameBytes cfg) memory (r .memory-fits) (r .few)
+  used-long = end-length (places cfg) (entryFrames cfg) memory (r .memory-fits) (r .few)
 
   pub size-most : headerLength + length records + used ≤ 4309
   size-most =
       let t = config-tells cfg (r .accepted) in
-      omega (arith, r .records-fit, t .n-most, used-most (frameBytes cfg) (entryCount memory) (t .F-most) (omega (arith, r .few, t .M-most)))
+      omega (arith, r .records-fit, t .n-most, used-most (entryFrames cfg) (entryCount memory) (t .F-most) (omega (arith, r .few, t .M-most)))
 
   -- the bodies that are written are those of the state
   module _ {u : ℕ} (e : u ≡ used) where
@@ -87,16 +87,16 @@ module _ (cfg : Configuration) (room records : List ℕ) (debounce : List ℤ) (
 
   module _ (go : firstThatApplies (begins cfg s true []) ≡ 0) where
     pub begun-savable : Savable cfg records memory
-    begun-savable = let (c, w) = begun cfg s true true go in savable c w
+    begun-savable = let (c, w) = begun cfg s true go in savable c w
 
     pub judged-on : {running : Bool} {size : ℕ} → running ≡ anyRuns b → size ≡ length (imageOf cfg s)
         → firstThatApplies ((5 if running) ∷ (7 if ltb (length room) size) ∷ []) ≡ firstThatApplies (saveRules cfg (lentRoom room) s)
     unfolding saveRules
-    judged-on p q = (λ i. firstThatApplies ((5 if p i) ∷ (7 if ltb (length room) (q i)) ∷ [])) ∙ sym (after-go cfg s true true _ go)
+    judged-on p q = (λ i. firstThatApplies ((5 if p i) ∷ (7 if ltb (length room) (q i)) ∷ [])) ∙ sym (after-go cfg s true _ go)
 
   pub judged-stop : (r : Refusal) → numberOf r ≡ firstThatApplies (begins cfg s true []) → numberOf r ≡ firstThatApplies (saveRules cfg (lentRoom room) s)
   unfolding saveRules
-  judged-stop r e = sym (after-stop cfg s true true _ r e)
+  judged-stop r e = sym (after-stop cfg s true _ r e)
 
   -- ---- the call
 
@@ -105,7 +105,7 @@ module _ (cfg : Configuration) (room records : List ℕ) (debounce : List ℤ) (
     unfolding saveRules
     save-ready = let none = none-applies _ z refl in savable (not-false (configOk cfg) (none 0)) (not-false (wellFormed cfg s) (none 1))
 
-    pub save-room : headerLength + length records + bytesInUse (frameBytes cfg) (entryCount memory) + 1 ≤ length room
+    pub save-room : headerLength + length records + bytesInUse (entryFrames cfg) (entryCount memory) + 1 ≤ length room
     unfolding saveRules
     save-room =
         let fits = ltb-false (length room) (length (imageOf cfg s)) (none-applies _ z refl 3) in

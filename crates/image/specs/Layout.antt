@@ -6,7 +6,7 @@ use Prim.Native.Nat.{ℕ, _+_, _*_}
 use lib.Dec.{eqb, leb}
 use lib.ListN.{length}
 use Rattle.manual.specs.Words.{allBelow}
-use Rattle.manual.specs.Configuration.{Configuration, events, places, frameBytes}
+use Rattle.manual.specs.Configuration.{Configuration, events, places, entryFrames}
 use Rattle.manual.specs.State.{recordWidth, opened, storedAt}
 use Rattle.manual.specs.WellFormed.{recordOk}
 use Rattle.manual.specs.Memory.{entryCount}
@@ -24,4 +24,4 @@ module _ (cfg : Configuration) where
 
   -- bodies 1 and 2 are as a well-formed state has its records and its entries
   unfoldable pub bodiesOk : List ℕ → List ℕ → Bool
-  bodiesOk records used = allBelow (events cfg) (λ e. recordOk cfg e (opened (storedAt e records))) && usedOk (events cfg) (places cfg) (frameBytes cfg) records used
+  bodiesOk records used = allBelow (events cfg) (λ e. recordOk cfg e (opened (storedAt e records))) && usedOk (events cfg) (places cfg) (entryFrames cfg) records used

@@ -5,7 +5,7 @@ use mathlib.Core.List.{List}
 use Prim.Native.Nat.{ℕ, _*_, _≤_, _<_}
 use lib.IntN.{ℤ}
 use lib.ListN.{length}
-use Rattle.manual.specs.Configuration.{Configuration, events, places, frameBytes, configOk}
+use Rattle.manual.specs.Configuration.{Configuration, events, places, entryFrames, configOk}
 use Rattle.manual.specs.State.{recordWidth}
 use Rattle.manual.specs.Memory.{memoryLength, entryCount}
 use Rattle.manual.specs.Image.{acceptable}
@@ -20,7 +20,7 @@ pub record Counted (cfg : Configuration) (memory : List ℕ) : Type 0 where
 pub record Savable (cfg : Configuration) (records memory : List ℕ) : Type 0 where
   pub accepted : configOk cfg ≡ true
   pub records-fit : length records ≡ recordWidth * events cfg
-  pub memory-fits : length memory ≡ memoryLength (places cfg) (frameBytes cfg)
+  pub memory-fits : length memory ≡ memoryLength (places cfg) (entryFrames cfg)
   pub few : entryCount memory ≤ places cfg
 
 -- blocks that fit the configuration, and an image that is accepted
@@ -28,5 +28,5 @@ pub record Restorable (cfg : Configuration) (records : List ℕ) (debounce : Lis
   pub accepted : configOk cfg ≡ true
   pub records-fit : length records ≡ recordWidth * events cfg
   pub debounce-fits : length debounce ≡ events cfg
-  pub memory-fits : length memory ≡ memoryLength (places cfg) (frameBytes cfg)
+  pub memory-fits : length memory ≡ memoryLength (places cfg) (entryFrames cfg)
   pub image-accepted : acceptable cfg image ≡ true

@@ -13,7 +13,7 @@ ghost use lib.IntN.{ℤ};
 ghost use lib.ListN.{length, replicate};
 ghost use Rattle.manual.specs.declared.Board.{Board};
 ghost use Rattle.manual.specs.Words.{equal};
-ghost use Rattle.manual.specs.Configuration.{frameBytes, configOk};
+ghost use Rattle.manual.specs.Configuration.{entryFrames, configOk};
 ghost use Rattle.manual.specs.State.{lent};
 ghost use Rattle.manual.specs.Memory.{entryCount, bytesInUse};
 ghost use Rattle.manual.specs.Answers.{alone, lentRoom, _if_, firstThatApplies, ofAnswer, ofLength, leaves};
@@ -92,9 +92,9 @@ fn memory_at(cfg: &[i32]) -> usize
 // The length of body 2, which begins with the entry count: "the entry count and the entries in use".
 fn used_length(cfg: &[i32], memory: &[u8]) -> usize
     requires { ⌜ Counted (now cfg) (now memory) ⌝ }
-    ensures { λ r. ⌜ r ≡ bytesInUse (frameBytes (now (cfg .entry))) (entryCount (now (memory .entry))) ⌝ }
+    ensures { λ r. ⌜ r ≡ bytesInUse (entryFrames (now (cfg .entry))) (entryCount (now (memory .entry))) ⌝ }
 {
-    memory::bytes_in_use(memory, config::frame_bytes(cfg))
+    memory::bytes_in_use(memory, memory::entry_frames(cfg))
 }
 
 // ---- the judgement of an image
@@ -139,7 +139,7 @@ fn bodies_ok(cfg: &[i32], records: &[u8], used: &[u8]) -> bool
 {
     let n = config::events(cfg);
     let m = config::places(cfg);
-    let f = config::frame_bytes(cfg);
+    let f = memory::entry_frames(cfg);
     judgement::records_ok(cfg, records) & memory::entries_ok(n, m, f, used, records)
 }
 
@@ -228,7 +228,7 @@ fn write_image(records: &[u8], used: &[u8], overflow: bool, room: &mut [u8]) -> 
 // Writes the image of the state with these records, this memory and this overflow flag, and answers its length.
 fn accept_save(cfg: &[i32], records: &[u8], memory: &[u8], overflow: bool, room: &mut [u8]) -> usize
     requires { ⌜ (Savable (now cfg) (now records) (now memory))
-        × (headerLength + length (now records) + bytesInUse (frameBytes (now cfg)) (entryCount (now memory)) + 1 ≤ length (now room)) ⌝ }
+        × (headerLength + length (now records) + bytesInUse (entryFrames (now cfg)) (entryCount (now memory)) + 1 ≤ length (now room)) ⌝ }
     ensures { λ r. ⌜ ((d : List ℤ) (running : List Bool) → written r (now (room .exit))
         ≡ filled (imageOf (now (cfg .entry)) (lent (now (records .entry)) d (now (memory .entry)) (record { running = running; overflow = overflow }))) (now (room .entry))) ⌝ }
 {

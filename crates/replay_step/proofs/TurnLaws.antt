@@ -10,7 +10,7 @@ use lib.Dec.{leb}
 use lib.ListN.{length, take, drop, replicate, length-append}
 use borrow.Author.Tests.{leb-true, le-leb}
 use Rattle.manual.specs.declared.Board.{Board}
-use Rattle.manual.specs.Configuration.{Configuration, events, places, frameBytes}
+use Rattle.manual.specs.Configuration.{Configuration, events, places, entryFrames}
 use Rattle.manual.specs.State.{State, lent, recordWidth}
 use Rattle.manual.specs.Memory.{entryWidth, memoryLength}
 use Rattle.manual.specs.Answers.{alone, Outcome, Answered, leaves}
@@ -85,11 +85,11 @@ module _ (cfg : Configuration) {records : List ℕ} {debounce : List ℤ} {memor
     pub numbers-within : d ≤ length debounce
     pub memory-within : m ≤ length memory
 
-  pub blocks-within : {n m : ℕ} → n ≡ events cfg → m ≡ memoryLength (places cfg) (frameBytes cfg) → BlocksWithin (recordWidth * n) n m
+  pub blocks-within : {n m : ℕ} → n ≡ events cfg → m ≡ memoryLength (places cfg) (entryFrames cfg) → BlocksWithin (recordWidth * n) n m
   blocks-within {n} {m} e q =
       let t = config-tells cfg (b .accepted) in
       let few : events cfg ≤ 512 = t .n-most in
-      let most : m ≤ 2241 = rw q (memory-most (places cfg) (frameBytes cfg) (t .M-most) (t .F-most)) in
+      let most : m ≤ 2241 = rw q (memory-most (places cfg) (entryFrames cfg) (t .M-most) (t .F-most)) in
       record {
         records-within = omega (arith, e, few, b .for-records);
         numbers-within = omega (arith, e, few, b .for-numbers);

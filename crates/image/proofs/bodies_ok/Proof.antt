@@ -16,8 +16,8 @@ events-requires c κs = search needs
 places-requires : tie.Need-places-requires
 places-requires c κs = search needs
 
-frame-bytes-requires : tie.Need-frame-bytes-requires
-frame-bytes-requires c κs = search needs
+entry-frames-requires : tie.Need-entry-frames-requires
+entry-frames-requires c κs = search needs
 
 records-ok-requires : tie.Need-records-ok-requires
 records-ok-requires c κs = search needs
@@ -27,7 +27,7 @@ entries-ok-requires c κs = let t = config-tells _ (c .before .before .before .b
     record {
       events-most = omega (arith, c .before .before .before .events .ensures, t .n-most);
       places-most = omega (arith, c .before .before .places .ensures, t .M-most);
-      frame-most = omega (arith, c .before .frame-bytes .ensures, t .F-most);
+      frame-most = omega (arith, c .before .entry-frames .ensures, t .F-most);
     }
 
 returns : tie.Need-returns
@@ -36,7 +36,7 @@ returns c =
     let a = c .before .before .before .before .before .before .before .args in
     let n = c .before .before .before .before .events .ensures in
     let m = c .before .before .before .places .ensures in
-    let f = c .before .before .frame-bytes .ensures in
+    let f = c .before .before .entry-frames .ensures in
     let used = c .entries-ok .ensures ∙ (λ j. usedOk (n j) (m j) (f j) (now (a .records)) (now (a .used))) in
     λ i. c .before .records-ok .ensures i && used i
 
@@ -46,7 +46,7 @@ bodies-ok-spec =
     (tie.spec
     events-requires
     places-requires
-    frame-bytes-requires
+    entry-frames-requires
     records-ok-requires
     entries-ok-requires
     returns)

@@ -9,16 +9,16 @@ use borrow.Author.Needs.{needs}
 use Rattle.image.proofs.used_length.Statement.{statement}
 use Rattle.image.proofs.used_length.Tie as tie
 
-frame-bytes-requires : tie.Need-frame-bytes-requires
-frame-bytes-requires c κs = search needs
+entry-frames-requires : tie.Need-entry-frames-requires
+entry-frames-requires c κs = search needs
 
 bytes-in-use-requires : tie.Need-bytes-in-use-requires
 bytes-in-use-requires c κs =
     let t = config-tells _ (c .before .before .pre .accepted) in
-    (c .before .before .pre .some, (omega (arith, c .before .before .pre .few, t .M-most), omega (arith, c .frame-bytes .ensures, t .F-most)))
+    (c .before .before .pre .some, (omega (arith, c .before .before .pre .few, t .M-most), omega (arith, c .entry-frames .ensures, t .F-most)))
 
 returns : tie.Need-returns
-returns c = c .bytes-in-use .ensures ∙ ap (λ (k : ℕ). bytesInUse k (entryCount (now (c .before .before .before .args .memory)))) (c .before .frame-bytes .ensures)
+returns c = c .bytes-in-use .ensures ∙ ap (λ (k : ℕ). bytesInUse k (entryCount (now (c .before .before .before .args .memory)))) (c .before .entry-frames .ensures)
 
 pub used-length-spec : {M : Type 1} → statement M
-used-length-spec = tie.close (tie.spec frame-bytes-requires bytes-in-use-requires returns)
+used-length-spec = tie.close (tie.spec entry-frames-requires bytes-in-use-requires returns)
