@@ -38,7 +38,8 @@ pub more-read : (text : List ℕ) (at k : ℕ) {r : Read} → numbersRead k at t
 unfolding numbersRead
 more-read text at k e = ap (oneMore text) e
 
-pub stays-unread : (text : List ℕ) (at k n : ℕ) {zs : List ℤ} → k ≤ n → numbersRead k at text ≡ unread zs → numbersRead n at text ≡ unread zs
+pub stays-unread : (text : List ℕ) (at k n : ℕ) {zs : List ℤ} → k ≤ n
+    → numbersRead k at text ≡ unread zs → numbersRead n at text ≡ unread zs
 stays-unread text at k zero h u = ap (λ (j : ℕ). numbersRead j at text) (let e : 0 ≡ k = omega arith in e) ∙ u
 stays-unread text at k (suc n) {zs} h u = go (leb k n) refl (λ l. stays-unread text at k n l u)
   where
@@ -78,7 +79,9 @@ behind Numbers.Unreadable = 0
 -- a number stored behind the numbers so far
 pub laid-next : (l : List ℤ) (place : ℕ) (z : ℤ) → place < length l → set l place z ≡ laid (take place l ++ z ∷ []) l
 laid-next l place z h =
-    let n : length (take place l ++ z ∷ []) ≡ suc place = let e = length-append (take place l) (z ∷ []) in let t = length-take-le place l (omega arith) in omega (arith, e, t) in
+    let e = length-append (take place l) (z ∷ []) in
+    let t = length-take-le place l (omega arith) in
+    let n : length (take place l ++ z ∷ []) ≡ suc place = omega (arith, e, t) in
     set-split l place z h ∙ sym (append-snoc (take place l) z (drop (suc place) l))
     ∙ ap (λ (k : ℕ). (take place l ++ z ∷ []) ++ drop k l) (sym n)
 
@@ -106,22 +109,25 @@ module _ (text : List ℕ) (at place : ℕ) (m l : List ℤ) {p : ℕ} (within :
   rest-kept = let e : suc place ≡ place + 1 = omega arith in
       rw e (sym (drop-drop 1 place l) ∙ ap (drop 1) rest ∙ drop-drop 1 place m)
 
-  pub turn-read : {l′ : List ℤ} {next : Cursor} (w : Word) → nextRead p text ≡ w → leaving (Numbers.Read next) l′ ≡ numbersLeft (withNext (take place l) w) l
+  pub turn-read : {l′ : List ℤ} {next : Cursor} (w : Word) → nextRead p text ≡ w
+      → leaving (Numbers.Read next) l′ ≡ numbersLeft (withNext (take place l) w) l
       → (numbersRead (suc place) at text ≡ readTo (take (suc place) l′) (next .at)) × (drop (suc place) l′ ≡ drop (suc place) m)
   turn-read {l′} {next} (Number r) q e =
       let b : l′ ≡ laid (take place l ++ r .value ∷ []) l = ap (λ (x : Leaving Numbers). x .buffer) e in
       let t = ap (take (suc place)) b ∙ take-at (take place l ++ r .value ∷ []) _ (suc place) (longer (r .value)) in
       let d = ap (drop (suc place)) b ∙ drop-at (take place l ++ r .value ∷ []) _ (suc place) (longer (r .value)) in
       let a : r .next .at ≡ next .at = ap (λ (x : Leaving Numbers). behind (x .answer)) (sym e) in
-      let n : withNext (take place l) (nextRead p text) ≡ readTo (take place l ++ r .value ∷ []) (r .next .at) = ap (withNext (take place l)) q in
-      let f : readTo (take place l ++ r .value ∷ []) (r .next .at) ≡ readTo (take (suc place) l′) (next .at) = λ i. readTo (sym t i) (a i) in (
+      let zs = take place l ++ r .value ∷ [] in
+      let n : withNext (take place l) (nextRead p text) ≡ readTo zs (r .next .at) = ap (withNext (take place l)) q in
+      let f : readTo zs (r .next .at) ≡ readTo (take (suc place) l′) (next .at) = λ i. readTo (sym t i) (a i) in (
         more-read text at place so-far ∙ n ∙ f,
         d ∙ ap (λ (k : ℕ). drop k l) (longer (r .value)) ∙ rest-kept,
       )
   turn-read Word.Unreadable q e = clash true refl (ap (λ (x : Leaving Numbers). isRead (x .answer)) e)
   turn-read End q e = clash true refl (ap (λ (x : Leaving Numbers). isRead (x .answer)) e)
 
-  stopped : {l′ : List ℤ} (count : ℕ) → place < count → numbersRead (suc place) at text ≡ unread (take place l) → l′ ≡ laid (take place l) l
+  stopped : {l′ : List ℤ} (count : ℕ) → place < count
+      → numbersRead (suc place) at text ≡ unread (take place l) → l′ ≡ laid (take place l) l
       → leaving Numbers.Unreadable l′ ≡ numbersLeft (numbersRead count at text) m
   stopped count h u b =
       ap (leaving Numbers.Unreadable) (b ∙ laid-over (take place l) l m long rest)
@@ -146,7 +152,8 @@ all-read text at place m {l} {next} h e rest =
 
 -- ---- numbers that are read are judged
 
-judged-over : (zs : List ℤ) (at : ℕ) (l m : List ℤ) → laid zs l ≡ laid zs m → beginningLeft (judgedNumbers zs at) l ≡ beginningLeft (judgedNumbers zs at) m
+judged-over : (zs : List ℤ) (at : ℕ) (l m : List ℤ) → laid zs l ≡ laid zs m
+    → beginningLeft (judgedNumbers zs at) l ≡ beginningLeft (judgedNumbers zs at) m
 unfolding judgedNumbers
 judged-over zs at l m e = go (configOk zs)
   where
@@ -164,7 +171,8 @@ read-judged count (readTo zs at) {next} {b} {l} m n e j =
     j ∙ (λ i. beginningLeft (judgedNumbers (t i) (a i)) l) ∙ judged-over zs at l m (ap (laid zs) o ∙ laid-again zs m)
 read-judged count (unread zs) m n e j = clash true refl (ap (λ (x : Leaving Numbers). isRead (x .answer)) e)
 
-pub unread-begins : (r : Read) {l : List ℤ} (m : List ℤ) → leaving Numbers.Unreadable l ≡ numbersLeft r m → leaving Begun.Unreadable l ≡ beginningLeft (ofNumbers r) m
+pub unread-begins : (r : Read) {l : List ℤ} (m : List ℤ) → leaving Numbers.Unreadable l ≡ numbersLeft r m
+    → leaving Begun.Unreadable l ≡ beginningLeft (ofNumbers r) m
 unread-begins (readTo zs at) m e = clash true refl (ap (λ (x : Leaving Numbers). isRead (x .answer)) (sym e))
 unread-begins (unread zs) m e = ap (λ (x : Leaving Numbers). leaving Begun.Unreadable (x .buffer)) e
 
@@ -225,7 +233,8 @@ countOf (Ready count next) = count
 countOf Begun.Refused = 0
 countOf Begun.Unreadable = 0
 
-left-tells : (b : Beginning) {count : ℕ} {next : Cursor} {l : List ℤ} (m : List ℤ) → tells b ≡ true → leaving (Ready count next) l ≡ beginningLeft b m → (count ≤ 6659) × (configOk (take count l) ≡ true)
+left-tells : (b : Beginning) {count : ℕ} {next : Cursor} {l : List ℤ} (m : List ℤ) → tells b ≡ true
+    → leaving (Ready count next) l ≡ beginningLeft b m → (count ≤ 6659) × (configOk (take count l) ≡ true)
 left-tells (ready zs at) {count} {next} {l} m t e =
     let n : count ≡ length zs = ap (λ (x : Leaving Begun). countOf (x .answer)) e in
     let front : take count l ≡ zs = ap (take count) (ap (λ (x : Leaving Begun). x .buffer) e) ∙ take-at zs _ count (sym n) in
@@ -234,6 +243,6 @@ left-tells (ready zs at) {count} {next} {l} m t e =
 left-tells (refused zs) m t e = clash true refl (ap (λ (x : Leaving Begun). isReady (x .answer)) e)
 left-tells (unreadable zs) m t e = clash true refl (ap (λ (x : Leaving Begun). isReady (x .answer)) e)
 
-pub ready-tells : (longer : Bool) (text : List ℕ) (m : List ℤ) {count : ℕ} {next : Cursor} {l : List ℤ} → leaving (Ready count next) l ≡ beginningLeft (beginning longer text) m
-    → (count ≤ 6659) × (configOk (take count l) ≡ true)
+pub ready-tells : (longer : Bool) (text : List ℕ) (m : List ℤ) {count : ℕ} {next : Cursor} {l : List ℤ}
+    → leaving (Ready count next) l ≡ beginningLeft (beginning longer text) m → (count ≤ 6659) × (configOk (take count l) ≡ true)
 ready-tells longer text m e = left-tells (beginning longer text) m (beginning-tells longer text) e
