@@ -11,7 +11,7 @@ ghost use mathlib.Core.Bool.{true};
 ghost use mathlib.Core.List.{List, [], _∷_};
 ghost use Prim.Native.Nat.{ℕ, _<_};
 ghost use lib.IntN.{ℤ};
-ghost use Rattle.manual.specs.Configuration.{Configuration, configOk};
+ghost use Rattle.manual.specs.Configuration.{Configuration, mostEvents, configOk};
 ghost use Rattle.manual.specs.State.{lent};
 ghost use Rattle.manual.specs.WellFormed.{wellFormed};
 ghost use Rattle.manual.specs.Answers.{alone, _if_, firstThatApplies, ofAnswer, leaves};
@@ -41,7 +41,7 @@ pub fn is_unknown(cfg: &[i32], code: u32) -> bool
 
 // "Clear, by one trouble code or FFFFFFh for all"
 fn covers(cfg: &[i32], code: u32, event: EventNumber) -> bool
-    requires { ⌜ event .0 < 512 ⌝ }
+    requires { ⌜ event .0 < mostEvents ⌝ }
     ensures { λ r. ⌜ r ≡ covers (now (cfg .entry)) code (event .0) ⌝ }
 {
     (code == FOR_ALL) | (config::code_of(cfg, event) == code as usize)

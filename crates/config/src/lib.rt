@@ -5,7 +5,7 @@ ghost use mathlib.Core.Bool.{true, cond};
 ghost use Prim.Native.Nat.{_<_, _≤_};
 ghost use lib.IntN.{pos};
 ghost use Rattle.manual.specs.Words.{allBelow, between, eqZ, natOf};
-ghost use Rattle.manual.specs.Configuration.{numberAt, events, places, frameBytes, column, codeOf, priorityOf, cycleOf, kindOf, lowOf, highOf, upOf, downOf, jumpsOf, limitsOf, rowOk, configOk};
+ghost use Rattle.manual.specs.Configuration.{mostEvents, numberAt, events, places, frameBytes, column, codeOf, priorityOf, cycleOf, kindOf, lowOf, highOf, upOf, downOf, jumpsOf, limitsOf, rowOk, configOk};
 ghost use Rattle.config.specs.Rows.{InRow, limitsIs, risesHere, rowFits};
 ghost use Rattle.config.specs.Search.{hasCode, firstWithCode, searchIs};
 
@@ -118,7 +118,7 @@ fn count_in_row(cfg: &[i32], event: EventNumber, k: usize) -> usize
 
 // "1 | trouble code"
 pub fn code_of(cfg: &[i32], event: EventNumber) -> usize
-    requires { ⌜ event .0 < 512 ⌝ }
+    requires { ⌜ event .0 < mostEvents ⌝ }
     ensures { λ r. ⌜ r ≡ codeOf (now (cfg .entry)) (event .0) ⌝ }
 {
     count_in_row(cfg, event, TROUBLE_CODE)
@@ -126,7 +126,7 @@ pub fn code_of(cfg: &[i32], event: EventNumber) -> usize
 
 // "2 | priority | … 1 the most important"
 pub fn priority_of(cfg: &[i32], event: EventNumber) -> usize
-    requires { ⌜ event .0 < 512 ⌝ }
+    requires { ⌜ event .0 < mostEvents ⌝ }
     ensures { λ r. ⌜ r ≡ priorityOf (now (cfg .entry)) (event .0) ⌝ }
 {
     count_in_row(cfg, event, PRIORITY)
@@ -134,7 +134,7 @@ pub fn priority_of(cfg: &[i32], event: EventNumber) -> usize
 
 // "3 | cycle"
 pub fn cycle_of(cfg: &[i32], event: EventNumber) -> usize
-    requires { ⌜ event .0 < 512 ⌝ }
+    requires { ⌜ event .0 < mostEvents ⌝ }
     ensures { λ r. ⌜ r ≡ cycleOf (now (cfg .entry)) (event .0) ⌝ }
 {
     count_in_row(cfg, event, CYCLE)
@@ -142,7 +142,7 @@ pub fn cycle_of(cfg: &[i32], event: EventNumber) -> usize
 
 // "4 | debounce kind": INTERNAL, COUNTER or TIME
 pub fn kind_of(cfg: &[i32], event: EventNumber) -> usize
-    requires { ⌜ event .0 < 512 ⌝ }
+    requires { ⌜ event .0 < mostEvents ⌝ }
     ensures { λ r. ⌜ r ≡ kindOf (now (cfg .entry)) (event .0) ⌝ }
 {
     count_in_row(cfg, event, KIND)
@@ -150,7 +150,7 @@ pub fn kind_of(cfg: &[i32], event: EventNumber) -> usize
 
 // "5, 6 | P, Q": P
 pub fn low_of(cfg: &[i32], event: EventNumber) -> i32
-    requires { ⌜ event .0 < 512 ⌝ }
+    requires { ⌜ event .0 < mostEvents ⌝ }
     ensures { λ r. ⌜ r ≡ lowOf (now (cfg .entry)) (event .0) ⌝ }
 {
     number_in_row(cfg, event, P)
@@ -158,7 +158,7 @@ pub fn low_of(cfg: &[i32], event: EventNumber) -> i32
 
 // "5, 6 | P, Q": Q
 pub fn high_of(cfg: &[i32], event: EventNumber) -> i32
-    requires { ⌜ event .0 < 512 ⌝ }
+    requires { ⌜ event .0 < mostEvents ⌝ }
     ensures { λ r. ⌜ r ≡ highOf (now (cfg .entry)) (event .0) ⌝ }
 {
     number_in_row(cfg, event, Q)
@@ -166,7 +166,7 @@ pub fn high_of(cfg: &[i32], event: EventNumber) -> i32
 
 // "7, 8 | up, down": up
 pub fn up_of(cfg: &[i32], event: EventNumber) -> i32
-    requires { ⌜ event .0 < 512 ⌝ }
+    requires { ⌜ event .0 < mostEvents ⌝ }
     ensures { λ r. ⌜ r ≡ upOf (now (cfg .entry)) (event .0) ⌝ }
 {
     number_in_row(cfg, event, UP)
@@ -174,7 +174,7 @@ pub fn up_of(cfg: &[i32], event: EventNumber) -> i32
 
 // "7, 8 | up, down": down
 pub fn down_of(cfg: &[i32], event: EventNumber) -> i32
-    requires { ⌜ event .0 < 512 ⌝ }
+    requires { ⌜ event .0 < mostEvents ⌝ }
     ensures { λ r. ⌜ r ≡ downOf (now (cfg .entry)) (event .0) ⌝ }
 {
     number_in_row(cfg, event, DOWN)
@@ -182,7 +182,7 @@ pub fn down_of(cfg: &[i32], event: EventNumber) -> i32
 
 // "9 | jumps | … 1 = jump up, 2 = jump down, 3 = both"
 pub fn jumps_of(cfg: &[i32], event: EventNumber) -> usize
-    requires { ⌜ event .0 < 512 ⌝ }
+    requires { ⌜ event .0 < mostEvents ⌝ }
     ensures { λ r. ⌜ r ≡ jumpsOf (now (cfg .entry)) (event .0) ⌝ }
 {
     count_in_row(cfg, event, JUMPS)
@@ -198,7 +198,7 @@ pub struct Limits {
 
 // "10, 11, 12 | C confirm, H heal, A age", and whether "13 | indicator" is 1
 pub fn limits_of(cfg: &[i32], event: EventNumber) -> Limits
-    requires { ⌜ event .0 < 512 ⌝ }
+    requires { ⌜ event .0 < mostEvents ⌝ }
     ensures { λ r. ⌜ limitsIs r ≡ limitsOf (now (cfg .entry)) (event .0) ⌝ }
 {
     Limits {
@@ -251,7 +251,7 @@ fn in_range_if(test: bool, cfg: &[i32], event: EventNumber, k: usize, lo: i32, h
 
 // The table's column "allowed", a line for each number of the row.
 fn row_ok(cfg: &[i32], event: EventNumber) -> bool
-    requires { ⌜ event .0 < 512 ⌝ }
+    requires { ⌜ event .0 < mostEvents ⌝ }
     ensures { λ r. ⌜ r ≡ rowOk (now (cfg .entry)) (event .0) ⌝ }
 {
     let kind = kind_of(cfg, event);
@@ -274,7 +274,7 @@ fn row_ok(cfg: &[i32], event: EventNumber) -> bool
 
 // "strictly rising from event to event": the event's trouble code is above that of the event before.
 fn code_rises(cfg: &[i32], event: EventNumber) -> bool
-    requires { ⌜ event .0 < 512 ⌝ }
+    requires { ⌜ event .0 < mostEvents ⌝ }
     ensures { λ r. ⌜ r ≡ risesHere (now (cfg .entry)) (event .0) ⌝ }
 {
     if event.0 == 0 {
@@ -285,14 +285,14 @@ fn code_rises(cfg: &[i32], event: EventNumber) -> bool
 }
 
 fn row_fits(cfg: &[i32], event: EventNumber) -> bool
-    requires { ⌜ event .0 < 512 ⌝ }
+    requires { ⌜ event .0 < mostEvents ⌝ }
     ensures { λ r. ⌜ r ≡ rowFits (now (cfg .entry)) (event .0) ⌝ }
 {
     row_ok(cfg, event) & code_rises(cfg, event)
 }
 
 fn rows_fit(cfg: &[i32], n: usize) -> bool
-    requires { ⌜ n ≤ 512 ⌝ }
+    requires { ⌜ n ≤ mostEvents ⌝ }
     ensures { λ r. ⌜ r ≡ allBelow n (rowFits (now (cfg .entry))) ⌝ }
 {
     let mut fit = true;
@@ -327,7 +327,7 @@ pub enum CodeSearch {
 }
 
 fn has_code(cfg: &[i32], event: EventNumber, code: u32) -> bool
-    requires { ⌜ event .0 < 512 ⌝ }
+    requires { ⌜ event .0 < mostEvents ⌝ }
     ensures { λ r. ⌜ r ≡ hasCode (now (cfg .entry)) code (event .0) ⌝ }
 {
     code_of(cfg, event) == code as usize

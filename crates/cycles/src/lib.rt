@@ -13,6 +13,7 @@ ghost use lib.Dec.{ltb};
 ghost use lib.IntN.{ℤ};
 ghost use lib.ListN.{length};
 ghost use Rattle.history.specs.History.{start};
+ghost use Rattle.manual.specs.Configuration.{mostEvents};
 ghost use Rattle.manual.specs.declared.Board.{Board};
 ghost use Rattle.manual.specs.State.{recordWidth, lent, withCycle};
 ghost use Rattle.manual.specs.OneEvent.{happens, stops, forThose};
@@ -83,7 +84,7 @@ fn done(board: Board) -> Returned
 
 // Whether the event is one of the cycle.
 fn of_cycle(cfg: &[i32], cycle: usize, event: EventNumber) -> bool
-    requires { ⌜ event .0 < 512 ⌝ }
+    requires { ⌜ event .0 < mostEvents ⌝ }
     ensures { λ r. ⌜ r ≡ ofCycle (now (cfg .entry)) cycle (event .0) ⌝ }
 {
     config::cycle_of(cfg, event) == cycle
@@ -106,7 +107,7 @@ fn turned(board: Board, cycle: usize, on: bool) -> Board
 
 // The event, where it is one of the cycle.
 fn start_event(cfg: &[i32], records: &mut [u8], cycle: usize, event: EventNumber)
-    requires { ⌜ (event .0 < 512) × (recordWidth * event .0 + recordWidth ≤ length (now records)) ⌝ }
+    requires { ⌜ (event .0 < mostEvents) × (recordWidth * event .0 + recordWidth ≤ length (now records)) ⌝ }
     ensures { λ _. ⌜ ((d : List ℤ) (m : List ℕ) (b : Board) → lent (now (records .exit)) d m b ≡ cond (ofCycle (now (cfg .entry)) cycle (event .0)) (happens (now (cfg .entry)) start (event .0) (lent (now (records .entry)) d m b)) (lent (now (records .entry)) d m b)) ⌝ }
 {
     if of_cycle(cfg, cycle, event) {

@@ -4,6 +4,7 @@ ghost use mathlib.Core.Bool.{cond};
 ghost use mathlib.Core.List.{[]};
 ghost use Prim.Native.Nat.{_+_, _≤_, _<_};
 ghost use lib.IntN.{pos, natAbs, _+ℤ_, _-ℤ_};
+ghost use Rattle.manual.specs.Configuration.{mostEvents};
 ghost use Rattle.manual.specs.Words.{smaller, larger};
 ghost use Rattle.manual.specs.Debouncing.{top, bottom, verdictAt, leavesAt, internalReport, counterUp, counterDown, counterReport, timeReport};
 ghost use Rattle.debounce.specs.Rows.{RowOf, alone, answered, reportedBy, tickedBy, SmallRow, SmallReport, SmallTick};
@@ -24,7 +25,7 @@ pub struct Row {
 
 // What debouncing reads of the event's row.
 pub fn row_of(cfg: &[i32], event: EventNumber) -> Row
-    requires { ⌜ event .0 < 512 ⌝ }
+    requires { ⌜ event .0 < mostEvents ⌝ }
     ensures { λ r. ⌜ RowOf (now (cfg .entry)) (event .0) r ⌝ }
 {
     Row {

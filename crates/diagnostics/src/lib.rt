@@ -11,7 +11,7 @@ ghost use Prim.Native.Nat.{_+_, _%_, _<_, _≤_};
 ghost use lib.ListN.{length, getD};
 ghost use lib.Dec.{eqb, ltb};
 ghost use Rattle.manual.specs.Words.{countBelow, threeAt};
-ghost use Rattle.manual.specs.Configuration.{Configuration, events, configOk};
+ghost use Rattle.manual.specs.Configuration.{Configuration, mostEvents, events, configOk};
 ghost use Rattle.manual.specs.State.{State, lent};
 ghost use Rattle.manual.specs.WellFormed.{wellFormed};
 ghost use Rattle.manual.specs.Answers.{lentRoom, _if_, firstThatApplies, ofLength, leaves};
@@ -111,7 +111,7 @@ fn is_asked(records: &[u8], debounce: &[i32], event: EventNumber, asked: Asked) 
 
 // A number that rises by one where a test holds.
 fn one_more_if(test: bool, number: usize) -> usize
-    requires { ⌜ number < 512 ⌝ }
+    requires { ⌜ number < mostEvents ⌝ }
     ensures { λ r. ⌜ r ≡ cond test (number + 1) number ⌝ }
 {
     if test { number + 1 } else { number }

@@ -3,7 +3,6 @@ use mathlib.Core.Path.{_≡_, sym, ap, _∙_}
 use mathlib.Core.Bool.{Bool, true, false, _&&_}
 use mathlib.Core.List.{List, [], _∷_, _++_}
 use Prim.Native.Nat.{ℕ, suc, _+_, _-_, _*_, _≤_, _<_}
-use native.Mathlib.Nat.{mul-le-mul}
 use native.Mathlib.Omega.{arith}
 use lib.Dec.{eqb, leb}
 use lib.ListN.{length, getD, take, drop, length-append, length-drop, take-append-drop, List·getD-append}
@@ -12,16 +11,12 @@ use borrow.Author.Tests.{eqb-true, eq-eqb, ne-eqb, leb-true, le-leb, lt-leb}
 use Rattle.history.proofs.WordsLaws.{and-left, and-right, both, and-false}
 use Rattle.manual.specs.Configuration.{Configuration, events, places, entryFrames, configOk}
 use Rattle.manual.specs.State.{recordWidth}
-use Rattle.manual.specs.Memory.{entryWidth, entryCount, bytesInUse}
+use Rattle.manual.specs.Memory.{entryCount, bytesInUse}
 use Rattle.manual.specs.Image.{headerLength, recordsOf, afterRecords, usedIn}
 use Rattle.manual.proofs.ConfigurationLaws.{config-tells}
+use Rattle.manual.proofs.MemoryLaws.{used-most}
 use Rattle.image.specs.Layout.{memoryAt, lengthOk}
 use Rattle.image.specs.Ready.{Counted}
-
--- ---- sizes
-
-pub used-most : (F k : ℕ) → F ≤ 32 → k ≤ 64 → bytesInUse F k ≤ 2241
-used-most F k h q = let w : entryWidth F ≤ 35 = omega arith in let m : entryWidth F * k ≤ 35 * 64 = mul-le-mul w q in omega arith
 
 -- ---- the tests of an image's length, in the code's order
 
@@ -56,7 +51,7 @@ module _ (cfg : Configuration) (image : List ℕ) where
         end-most ok =
             let t = config-tells cfg ok in
             let k = entryCount (take (length image - start) (drop start image)) in
-            omega (arith, e, t .n-most, u, used-most (entryFrames cfg) k (t .F-most) (omega (arith, q, t .M-most)))
+            omega (arith, e, t .n-most, u, used-most (entryFrames cfg) k (t .payload-most) (omega (arith, q, t .M-most)))
 
         pub few-enough : eqb (length image) (start + used + 1) ≡ lengthOk cfg image
         unfolding lengthOk
@@ -160,7 +155,7 @@ module _ (cfg : Configuration) (image : List ℕ) (ok : lengthOk cfg image ≡ t
       let t = config-tells cfg accepted in
       let l = length-is in
       let h = few-in in
-      let u = used-most (entryFrames cfg) (entryCount (afterRecords cfg image)) (t .F-most) (omega (arith, t .M-most)) in
+      let u = used-most (entryFrames cfg) (entryCount (afterRecords cfg image)) (t .payload-most) (omega (arith, t .M-most)) in
       omega (arith, t .n-most)
 
   pub parts-joined : joined headerPart (recordsOf cfg image) usedPart flagByte ≡ image

@@ -21,6 +21,7 @@ use Rattle.manual.specs.Calls.{begins}
 use Rattle.manual.specs.Image.{headerLength, header, imageFrom, imageOf, anyRuns, saveRules, saved, save}
 use Rattle.manual.proofs.AnswersLaws.{none-applies, goes-through}
 use Rattle.manual.proofs.ConfigurationLaws.{config-tells}
+use Rattle.manual.proofs.MemoryLaws.{used-most}
 use Rattle.manual.proofs.WellFormedLaws.{state-tells}
 use Rattle.memory.proofs.JudgementLaws.{end-length}
 use Rattle.judgement.proofs.BeginLaws.{begun, after-go, after-stop}
@@ -28,7 +29,6 @@ use Rattle.writing.specs.Writing as writing
 use Rattle.writing.specs.Writing.{written, append, filled}
 use Rattle.writing.proofs.WritingLaws.{append-then, append-filled}
 use Rattle.image.specs.Ready.{Counted, Savable}
-use Rattle.image.proofs.LayoutLaws.{used-most}
 
 -- ---- the judge
 
@@ -61,7 +61,7 @@ module _ (cfg : Configuration) (records memory : List ℕ) (r : Savable cfg reco
   pub size-most : headerLength + length records + used ≤ 4309
   size-most =
       let t = config-tells cfg (r .accepted) in
-      omega (arith, r .records-fit, t .n-most, used-most (entryFrames cfg) (entryCount memory) (t .F-most) (omega (arith, r .few, t .M-most)))
+      omega (arith, r .records-fit, t .n-most, used-most (entryFrames cfg) (entryCount memory) (t .payload-most) (omega (arith, r .few, t .M-most)))
 
   -- the bodies that are written are those of the state
   module _ {u : ℕ} (e : u ≡ used) where

@@ -10,7 +10,7 @@ ghost use lib.ListN.{length, getD};
 ghost use Prim.Native.Nat.{_+_, _*_, _≤_, _<_};
 ghost use Rattle.manual.specs.declared.Board.{Board};
 ghost use Rattle.manual.specs.Words.{allBelow};
-ghost use Rattle.manual.specs.Configuration.{events, configOk};
+ghost use Rattle.manual.specs.Configuration.{mostEvents, events, configOk};
 ghost use Rattle.manual.specs.State.{recordWidth, runs, opened, storedAt, lent};
 ghost use Rattle.manual.specs.WellFormed.{lengthsFit, recordOk, DOk, wellFormed};
 ghost use Rattle.manual.specs.Answers.{firstThatApplies};
@@ -50,7 +50,7 @@ pub fn lengths_fit(cfg: &[i32], records: &[u8], debounce: &[i32], memory: &[u8])
 
 // The event's record, by the clauses from "bit 4 set means …" to "… g = 0 when bit 3 is clear".
 fn record_ok(cfg: &[i32], records: &[u8], event: EventNumber) -> bool
-    requires { ⌜ (event .0 < 512) × (recordWidth * event .0 + recordWidth ≤ length (now records)) ⌝ }
+    requires { ⌜ (event .0 < mostEvents) × (recordWidth * event .0 + recordWidth ≤ length (now records)) ⌝ }
     ensures { λ r. ⌜ r ≡ recordOk (now (cfg .entry)) (event .0) (opened (storedAt (event .0) (now (records .entry)))) ⌝ }
 {
     let limits = config::limits_of(cfg, event);

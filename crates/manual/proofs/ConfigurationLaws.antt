@@ -12,7 +12,7 @@ use borrow.Author.Tests.{leb-true, ltb-true}
 use Rattle.history.specs.History.{Allowed}
 use Rattle.history.proofs.WordsLaws.{part}
 use Rattle.manual.specs.Words.{between, eqZ, natOf}
-use Rattle.manual.specs.Configuration.{Configuration, mostEvents, mostPlaces, mostFrame, events, places, frameBytes, column, numberAt, codeOf, cycleOf, kindOf, isInternal, isCounter, isTime, lowOf, highOf, upOf, downOf, limitsOf, rowOk, rises, configOk}
+use Rattle.manual.specs.Configuration.{Configuration, mostEvents, mostPlaces, mostFrame, mostPayload, events, places, frameBytes, entryFrames, column, numberAt, codeOf, cycleOf, kindOf, isInternal, isCounter, isTime, lowOf, highOf, upOf, downOf, limitsOf, rowOk, rises, configOk}
 use Rattle.manual.proofs.WordsLaws.{clash, all-below-at, eqZ-true, between-from, between-to}
 use Rattle.manual.proofs.SignedLaws.{signed}
 
@@ -40,6 +40,7 @@ pub record ConfigTells (cfg : Configuration) : Type 0 where
   pub M-least : 1 ≤ places cfg
   pub M-most : places cfg ≤ mostPlaces
   pub F-most : frameBytes cfg ≤ mostFrame
+  pub payload-most : entryFrames cfg ≤ mostPayload
   pub row : (e : ℕ) → e < events cfg → RowTells cfg e
 
 -- a number between two counts, as a count
@@ -94,6 +95,7 @@ module _ (cfg : Configuration) where
     M-least = counted 1 mostPlaces (numberAt cfg 1) (part _ t 2) .0;
     M-most = counted 1 mostPlaces (numberAt cfg 1) (part _ t 2) .1;
     F-most = counted 0 mostFrame (numberAt cfg 2) (part _ t 3) .1;
+    payload-most = counted 0 mostFrame (numberAt cfg 2) (part _ t 3) .1;
     row = λ e h. row-tells e (all-below-at (events cfg) (rowOk cfg) (part _ t 5) e h);
   }
 

@@ -6,7 +6,7 @@ use mathlib.Core.Bool.{Bool, true, false, not, cond}
 use mathlib.Core.List.{List, [], _∷_, _++_, append-assoc}
 use mathlib.Core.Option.{Option, none, some}
 use Prim.Native.Nat.{ℕ, zero, suc, _+_, _-_, _*_, _≤_, _<_, min}
-use native.Mathlib.Nat.{mul-suc, mul-zero, mul-add, mul-comm, add-comm, le-refl}
+use native.Mathlib.Nat.{mul-suc, mul-zero, mul-add, mul-comm, mul-le-mul, add-comm, le-refl}
 use native.Mathlib.Numerals.{one-add}
 use native.Mathlib.Omega.{arith}
 use lib.Dec.{ltb}
@@ -18,8 +18,8 @@ use Rattle.history.proofs.WordsLaws.{and-left, and-right}
 use Rattle.manual.specs.declared.StoreAnswer.{StoreAnswer}
 use Rattle.manual.specs.declared.StoreAnswer.the-variants.{Renewed, Added, NotStored}
 use Rattle.manual.specs.Words.{All, firstOf, orElse, those}
-use Rattle.manual.specs.Configuration.{Configuration, frameBytes, entryFrames}
-use Rattle.manual.specs.Memory.{Entry, eventOf, entryOf, payloadOf, renewedPayload, entryWidth, entryBytes, entryAt, memoryLength, entryCount, bytesInUse, entriesFrom, entriesOf, entriesBytes, memoryOf, isOf, without, noTwice, Kept, kept, displacing, outranked, resting, victim, pushedOut, admitted, renewed, store}
+use Rattle.manual.specs.Configuration.{Configuration, mostPlaces, mostPayload, frameBytes, entryFrames}
+use Rattle.manual.specs.Memory.{Entry, eventOf, entryOf, payloadOf, renewedPayload, entryWidth, entryBytes, entryAt, memoryLength, mostMemory, entryCount, bytesInUse, entriesFrom, entriesOf, entriesBytes, memoryOf, isOf, without, noTwice, Kept, kept, displacing, outranked, resting, victim, pushedOut, admitted, renewed, store}
 use Rattle.manual.proofs.WordsLaws.{by, neither, all-map, all-append, none-at, anyOf-append, First, first-is, first-none, all-those, those-le, those-all, anyOf-those, as-long}
 
 -- ---- an entry
@@ -40,6 +40,17 @@ entry-bytes F (x ∷ y ∷ z ∷ m) h = rw (width-is F)
 -- its payload has F bytes
 abbrev pub Framed : ℕ → Entry → Type 0
 Framed F x = length (x .payload) ≡ F
+
+-- ---- the longest block
+
+pub used-most : (F k : ℕ) → F ≤ mostPayload → k ≤ mostPlaces → bytesInUse F k ≤ mostMemory
+used-most F k h q =
+    let w : entryWidth F ≤ entryWidth mostPayload = omega arith in
+    let m : entryWidth F * k ≤ entryWidth mostPayload * mostPlaces = mul-le-mul w q in
+    omega arith
+
+pub memory-most : (M F : ℕ) → M ≤ mostPlaces → F ≤ mostPayload → memoryLength M F ≤ mostMemory
+memory-most M F h k = omega (arith, mul-comm M (entryWidth F), used-most F M k h)
 
 -- ---- the entries of some bytes
 

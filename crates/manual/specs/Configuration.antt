@@ -43,6 +43,9 @@ frameBytes cfg = natOf (numberAt cfg 2)
 abbrev pub entryFrames : Configuration → ℕ
 entryFrames cfg = frameBytes cfg
 
+abbrev pub mostPayload : ℕ
+mostPayload = mostFrame
+
 -- "Then 13 per event, event 0 first"
 abbrev pub rowWidth : ℕ
 rowWidth = 13

@@ -9,7 +9,7 @@ use Rattle.history.specs.Words.{anyOf, allOf}
 use Rattle.manual.specs.declared.StoreAnswer.{StoreAnswer}
 use Rattle.manual.specs.declared.StoreAnswer.the-variants.{Untold, Renewed, Added, Displaced, NotStored}
 use Rattle.manual.specs.Words.{firstOf, orElse, those}
-use Rattle.manual.specs.Configuration.{mostPlaces, mostFrame}
+use Rattle.manual.specs.Configuration.{mostPlaces, mostPayload}
 
 -- "event number (2 bytes, high first), occurrence count (1 to 255), F frame bytes": the payload is what it holds of its frame
 pub record Entry : Type 0 where
@@ -50,7 +50,7 @@ memoryLength M F = 1 + M * entryWidth F
 
 -- the length of the longest block
 abbrev pub mostMemory : ℕ
-mostMemory = memoryLength mostPlaces mostFrame
+mostMemory = memoryLength mostPlaces mostPayload
 
 abbrev pub entryCount : List ℕ → ℕ
 entryCount m = getD m 0 0

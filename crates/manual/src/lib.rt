@@ -25,10 +25,13 @@ pub const MOST_NUMBERS: usize = 3 + 13 * MOST_EVENTS;
 // "Records: 4n lent bytes; per event status, K (failed cycles), h (healing count), g (ageing count)."
 pub const RECORD_WIDTH: usize = 4;
 
-// The lengths of the longest blocks: "Records: 4n lent bytes", "Memory: 1 + M(3 + F) lent bytes".
+// The longest block of records.
 pub const MOST_RECORDS: usize = RECORD_WIDTH * MOST_EVENTS;
 
-pub const MOST_MEMORY: usize = 1 + MOST_PLACES * (3 + MOST_FRAME);
+// "Memory: 1 + M(3 + F) lent bytes": the longest payload of an entry, and the longest block.
+pub const MOST_PAYLOAD: usize = MOST_FRAME;
+
+pub const MOST_MEMORY: usize = 1 + MOST_PLACES * (3 + MOST_PAYLOAD);
 
 // "which of the four cycles run"
 pub const CYCLES: usize = 4;

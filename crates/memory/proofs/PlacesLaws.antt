@@ -4,7 +4,7 @@ use mathlib.Core.Bool.{Bool, true, false, cond}
 use mathlib.Core.List.{List, [], _∷_}
 use mathlib.Core.Option.{none, some}
 use Prim.Native.Nat.{ℕ, zero, suc, _+_, _*_, _≤_, _<_, zero-le, suc-le-suc}
-use native.Mathlib.Nat.{mul-suc, mul-zero, mul-le-mul, mul-le-mul-left, add-comm, add-zero, not-suc-le-zero, le-of-suc-le-suc}
+use native.Mathlib.Nat.{mul-suc, mul-zero, mul-le-mul-left, add-comm, add-zero, not-suc-le-zero, le-of-suc-le-suc}
 use native.Mathlib.Numerals.{add-one}
 use native.Mathlib.Omega.{arith}
 use lib.Dec.{ltb}
@@ -23,10 +23,6 @@ use Rattle.memory.specs.Places.{blank, atPlace, firstPlaceFrom, firstPla
 use Rattle.memory.specs.Fits.{PlaceFits, EventsFit}
 
 -- ---- the bytes of the entry at a place
-
--- the block of a memory is short
-pub start-small : (F p : ℕ) → F ≤ 32 → p ≤ 64 → entryWidth F * p ≤ 2240
-start-small F p f h = let k : entryWidth F ≤ 35 = omega arith in mul-le-mul k h
 
 -- the entry at place p ends where that at place p + 1 begins
 pub next-start : (F p : ℕ) → bytesInUse F (suc p) ≡ bytesInUse F p + entryWidth F

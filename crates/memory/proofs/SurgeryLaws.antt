@@ -123,7 +123,7 @@ gap-length F p m f = closed-length (bytesInUse F p) (entryWidth F) m (entry-with
 
 pub room-in-use : (F p e q : ℕ) (m : List ℕ) → PlaceFits F m p → e < 65536 → q < entryCount m → RoomAt F (gapClosed F p m) q e
 room-in-use F p e q m f h l = record {
-  frame-most = f .entries .frame-most;
+  payload-most = f .entries .payload-most;
   event-most = h;
   place-most = omega (arith, f .entries .count-most);
   within = omega (arith, gap-length F p m f, entry-within F q m (record { entries = f .entries; below = l }));
@@ -139,11 +139,11 @@ module _ (n M F : ℕ) (m : List ℕ) (o : InOrder n M F m) where
   entries-within = omega (arith, starts-rise F (entryCount m) M (o .few), mul-comm M (entryWidth F), o .sized)
 
   pub entries-fit : EntriesFit F m
-  entries-fit = record { frame-most = o .frame-most; count-most = omega (arith, o .few, o .places-most); within = entries-within }
+  entries-fit = record { payload-most = o .payload-most; count-most = omega (arith, o .few, o .places-most); within = entries-within }
 
   pub room-at-end : (e : ℕ) → e < 65536 → entryCount m < M → RoomAt F m (entryCount m) e
   room-at-end e h k = record {
-    frame-most = o .frame-most;
+    payload-most = o .payload-most;
     event-most = h;
     place-most = omega (arith, o .places-most);
     within = omega (arith, next-start F (entryCount m), starts-rise F (suc (entryCount m)) M k, mul-comm M (entryWidth F), o .sized);

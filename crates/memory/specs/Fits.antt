@@ -6,12 +6,13 @@ use Prim.Native.Nat.{ℕ, _+_, _≤_, _<_}
 use lib.ListN.{length}
 use lib.Dec.{ltb}
 use Rattle.history.specs.Words.{allOf}
+use Rattle.manual.specs.Configuration.{mostEvents, mostPlaces, mostPayload}
 use Rattle.manual.specs.Memory.{eventOf, entryWidth, entryCount, bytesInUse, entriesOf}
 
--- the entries lie within the block; F is at most 32 and M at most 64
+-- the entries lie within the block, and are no more and no longer than any configuration allows
 pub record EntriesFit (F : ℕ) (m : List ℕ) : Type 0 where
-  pub frame-most : F ≤ 32
-  pub count-most : entryCount m ≤ 64
+  pub payload-most : F ≤ mostPayload
+  pub count-most : entryCount m ≤ mostPlaces
   pub within : bytesInUse F (entryCount m) ≤ length m
 
 -- an entry stands at place p
@@ -21,12 +22,12 @@ pub record PlaceFits (F : ℕ) (m : List ℕ) (p : ℕ) : Type 0 where
 
 -- an entry of event e may be written at place p: there is room for it, and the event number has two bytes
 pub record RoomAt (F : ℕ) (m : List ℕ) (p e : ℕ) : Type 0 where
-  pub frame-most : F ≤ 32
+  pub payload-most : F ≤ mostPayload
   pub event-most : e < 65536
-  pub place-most : p ≤ 64
+  pub place-most : p ≤ mostPlaces
   pub within : bytesInUse F p + entryWidth F ≤ length m
 
--- the entries lie within the block, and their event numbers are below 512
+-- the entries lie within the block, and their event numbers are those of events
 pub record EventsFit (F : ℕ) (m : List ℕ) : Type 0 where
   pub entries : EntriesFit F m
-  pub below : allOf (λ x. ltb (eventOf x) 512) (entriesOf F m) ≡ true
+  pub below : allOf (λ x. ltb (eventOf x) mostEvents) (entriesOf F m) ≡ true

@@ -6,13 +6,14 @@ use Prim.Native.Nat.{ℕ, _≤_}
 use lib.ListN.{length}
 use lib.Dec.{ltb}
 use Rattle.history.specs.Words.{allOf}
+use Rattle.manual.specs.Configuration.{mostEvents, mostPlaces, mostPayload}
 use Rattle.manual.specs.Memory.{eventOf, memoryLength, entryCount, entriesOf, memoryOf, noTwice}
 
 -- n events, M places, F frame bytes
 pub record InOrder (n M F : ℕ) (m : List ℕ) : Type 0 where
-  pub events-most : n ≤ 512
-  pub places-most : M ≤ 64
-  pub frame-most : F ≤ 32
+  pub events-most : n ≤ mostEvents
+  pub places-most : M ≤ mostPlaces
+  pub payload-most : F ≤ mostPayload
   pub sized : length m ≡ memoryLength M F
   pub few : entryCount m ≤ M
   pub block : m ≡ memoryOf M F (entriesOf F m)

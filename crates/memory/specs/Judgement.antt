@@ -6,14 +6,15 @@ use lib.Dec.{eqb, leb, ltb}
 use lib.ListN.{length, getD, drop}
 use Rattle.history.specs.Words.{holds, allOf}
 use Rattle.history.specs.StatusByte.{statusOf, testFailedSinceLastClear}
+use Rattle.manual.specs.Configuration.{mostEvents, mostPlaces, mostPayload}
 use Rattle.manual.specs.State.{recordWidth}
 use Rattle.manual.specs.Memory.{Entry, eventOf, memoryLength, entryCount, bytesInUse, entriesOf, noTwice}
 
 -- n events, M places, F frame bytes, as an accepted configuration has them
 pub record Small (n M F : ℕ) : Type 0 where
-  pub events-most : n ≤ 512
-  pub places-most : M ≤ 64
-  pub frame-most : F ≤ 32
+  pub events-most : n ≤ mostEvents
+  pub places-most : M ≤ mostPlaces
+  pub payload-most : F ≤ mostPayload
 
 -- whether an event has bit 5 set, by the records
 abbrev pub failedIn : List ℕ → ℕ → Bool

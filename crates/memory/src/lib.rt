@@ -12,7 +12,7 @@ ghost use lib.Dec.{eqb};
 ghost use Prim.Native.Nat.{suc, min, _≤_, _<_};
 ghost use lib.ListN.{length, drop};
 ghost use Rattle.history.specs.Words.{anyOf, allOf};
-ghost use Rattle.manual.specs.Configuration.{events, places, entryFrames, priorityOf};
+ghost use Rattle.manual.specs.Configuration.{mostEvents, mostPlaces, mostPayload, events, places, entryFrames, priorityOf};
 ghost use Rattle.manual.specs.Memory.{eventOf, payloadOf, renewedPayload, displacing, memoryLength, entryCount, bytesInUse, entriesOf, memoryOf, isOf, without, noTwice};
 ghost use Rattle.memory.specs.Places.{frameAt, atPlace, firstPlace, placeOf, outranks, rests, victimPlace};
 ghost use Rattle.memory.specs.Fits.{EntriesFit, PlaceFits, RoomAt, EventsFit};
@@ -47,7 +47,7 @@ pub fn entry_count(memory: &[u8]) -> usize
 
 // The first byte of the entry at a place, or of what follows the entries before it.
 fn start_of(payload_bytes: usize, place: Place) -> usize
-    requires { ⌜ («payload_bytes» ≤ 32) × (place .0 ≤ 64) ⌝ }
+    requires { ⌜ («payload_bytes» ≤ mostPayload) × (place .0 ≤ mostPlaces) ⌝ }
     ensures { λ r. ⌜ r ≡ bytesInUse «payload_bytes» (place .0) ⌝ }
 {
     1 + (BEFORE_PAYLOAD + payload_bytes) * place.0
@@ -55,7 +55,7 @@ fn start_of(payload_bytes: usize, place: Place) -> usize
 
 // The length of a memory block.
 pub fn memory_length(places: usize, payload_bytes: usize) -> usize
-    requires { ⌜ (places ≤ 64) × («payload_bytes» ≤ 32) ⌝ }
+    requires { ⌜ (places ≤ mostPlaces) × («payload_bytes» ≤ mostPayload) ⌝ }
     ensures { λ r. ⌜ r ≡ memoryLength places «payload_bytes» ⌝ }
 {
     1 + places * (BEFORE_PAYLOAD + payload_bytes)
@@ -63,7 +63,7 @@ pub fn memory_length(places: usize, payload_bytes: usize) -> usize
 
 // The bytes of the number of entries and of the entries.
 pub fn bytes_in_use(memory: &[u8], payload_bytes: usize) -> usize
-    requires { ⌜ (0 < length (now memory)) × ((entryCount (now memory) ≤ 64) × («payload_bytes» ≤ 32)) ⌝ }
+    requires { ⌜ (0 < length (now memory)) × ((entryCount (now memory) ≤ mostPlaces) × («payload_bytes» ≤ mostPayload)) ⌝ }
     ensures { λ r. ⌜ r ≡ bytesInUse «payload_bytes» (entryCount (now (memory .entry))) ⌝ }
 {
     start_of(payload_bytes, Place(entry_count(memory)))
@@ -89,7 +89,7 @@ pub fn count_at(memory: &[u8], payload_bytes: usize, place: Place) -> u8
 
 // Where the frame of the entry at a place starts.
 pub fn frame_start(payload_bytes: usize, place: Place) -> usize
-    requires { ⌜ («payload_bytes» ≤ 32) × (place .0 ≤ 64) ⌝ }
+    requires { ⌜ («payload_bytes» ≤ mostPayload) × (place .0 ≤ mostPlaces) ⌝ }
     ensures { λ r. ⌜ r ≡ frameAt «payload_bytes» place ⌝ }
 {
     start_of(payload_bytes, place) + BEFORE_PAYLOAD
@@ -192,7 +192,7 @@ pub fn forget(cfg: &[i32], memory: &mut [u8], event: EventNumber)
 
 // "among entries whose priority number is greater than e's, the greatest, and the oldest among equals"
 fn place_of_greatest(cfg: &[i32], memory: &[u8], payload_bytes: usize, event: EventNumber) -> Find
-    requires { ⌜ (EventsFit «payload_bytes» (now memory)) × (event .0 < 512) ⌝ }
+    requires { ⌜ (EventsFit «payload_bytes» (now memory)) × (event .0 < mostEvents) ⌝ }
     ensures { λ r. ⌜ r ≡ firstPlace (outranks (priorityOf (now (cfg .entry))) (event .0) (entriesOf «payload_bytes» (now (memory .entry)))) (entriesOf «payload_bytes» (now (memory .entry))) ⌝ }
 {
     let entries = entry_count(memory);
@@ -212,7 +212,7 @@ fn place_of_greatest(cfg: &[i32], memory: &[u8], payload_bytes: usize, event: Ev
 
 // "equal priority number whose event has bit 0 clear": the other event's, compared with that of an event of priority number p.
 fn gives_way(cfg: &[i32], records: &[u8], other: EventNumber, p: usize) -> bool
-    requires { ⌜ other .0 < 512 ⌝ }
+    requires { ⌜ other .0 < mostEvents ⌝ }
     ensures { λ r. ⌜ r ≡ eqb (priorityOf (now (cfg .entry)) (other .0)) p && quietIn (now (records .entry)) (other .0) ⌝ }
 {
     let equal = config::priority_of(cfg, other) == p;
@@ -227,7 +227,7 @@ fn place_of_resting(
     payload_bytes: usize,
     event: EventNumber,
 ) -> Find
-    requires { ⌜ (EventsFit «payload_bytes» (now memory)) × (event .0 < 512) ⌝ }
+    requires { ⌜ (EventsFit «payload_bytes» (now memory)) × (event .0 < mostEvents) ⌝ }
     ensures { λ r. ⌜ r ≡ firstPlace (rests (priorityOf (now (cfg .entry))) (quietIn (now (records .entry))) (event .0)) (entriesOf «payload_bytes» (now (memory .entry))) ⌝ }
 {
     let entries = entry_count(memory);
@@ -250,7 +250,7 @@ fn victim(
     payload_bytes: usize,
     event: EventNumber,
 ) -> Find
-    requires { ⌜ (EventsFit «payload_bytes» (now memory)) × (event .0 < 512) ⌝ }
+    requires { ⌜ (EventsFit «payload_bytes» (now memory)) × (event .0 < mostEvents) ⌝ }
     ensures { λ r. ⌜ r ≡ victimPlace (priorityOf (now (cfg .entry))) (quietIn (now (records .entry))) (event .0) (entriesOf «payload_bytes» (now (memory .entry))) ⌝ }
 {
     let greatest = place_of_greatest(cfg, memory, payload_bytes, event);
@@ -339,7 +339,7 @@ pub fn store(
 
 // "event numbers below n", "occurrence ≥ 1", "each entry's event has bit 5 set"
 fn entry_ok(events: usize, records: &[u8], event: EventNumber, count: u8) -> bool
-    requires { ⌜ events ≤ 512 ⌝ }
+    requires { ⌜ events ≤ mostEvents ⌝ }
     ensures { λ r. ⌜ r ≡ soundNumbers events (now (records .entry)) (event .0) count ⌝ }
 {
     if event.0 < events {
@@ -351,7 +351,7 @@ fn entry_ok(events: usize, records: &[u8], event: EventNumber, count: u8) -> boo
 
 // Whether each entry is so.
 fn each_ok(events: usize, payload_bytes: usize, memory: &[u8], records: &[u8]) -> bool
-    requires { ⌜ (events ≤ 512) × EntriesFit «payload_bytes» (now memory) ⌝ }
+    requires { ⌜ (events ≤ mostEvents) × EntriesFit «payload_bytes» (now memory) ⌝ }
     ensures { λ r. ⌜ r ≡ allOf (soundEntry events (now (records .entry))) (entriesOf «payload_bytes» (now (memory .entry))) ⌝ }
 {
     let entries = entry_count(memory);

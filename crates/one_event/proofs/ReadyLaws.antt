@@ -24,7 +24,7 @@ module _ (cfg : Configuration) (s : State) (ok : configOk cfg ≡ true) where
   in-order m = record {
     events-most = config-tells cfg ok .n-most;
     places-most = config-tells cfg ok .M-most;
-    frame-most = config-tells cfg ok .F-most;
+    payload-most = config-tells cfg ok .payload-most;
     sized = ap length (m .block) ∙ memory-length (places cfg) (entryFrames cfg) (entries cfg s) framed (m .good .few);
     few = omega (arith, count, m .good .few);
     block = m .block;

@@ -14,7 +14,7 @@ use Rattle.manual.specs.declared.Place.{Place}
 use Rattle.manual.specs.declared.Refusal.{Refusal}
 use Rattle.manual.specs.declared.Refusal.the-variants.{NoEntry}
 use Rattle.manual.specs.declared.Verdict.the-variants.{None}
-use Rattle.manual.specs.Configuration.{Configuration, frameBytes, entryFrames, configOk}
+use Rattle.manual.specs.Configuration.{Configuration, mostPlaces, mostPayload, frameBytes, entryFrames, configOk}
 use Rattle.manual.specs.State.{State, statusByte}
 use Rattle.manual.specs.Memory.{entriesOf, isOf, entryFor}
 use Rattle.manual.specs.WellFormed.{entries, wellFormed}
@@ -46,11 +46,11 @@ module _ (start size : ℕ) (m : List ℕ) where
 -- ---- the answer of a search
 
 module _ (W F e : ℕ) (m : List ℕ) {W′ : ℕ} (w : W′ ≡ W) where
-  pub found-most : EntriesFit W m → (p : Place) → placeOf e (entriesOf W′ m) ≡ Find.At p → (W′ ≤ 32) × (p .0 ≤ 64)
+  pub found-most : EntriesFit W m → (p : Place) → placeOf e (entriesOf W′ m) ≡ Find.At p → (W′ ≤ mostPayload) × (p .0 ≤ mostPlaces)
   found-most fits p q =
       let inside = found (isOf e) (entriesOf W′ m) p q .inside in
       let most = fits .count-most in
-      (rw w (fits .frame-most), omega (arith, entries-are-count W′ m))
+      (rw w (fits .payload-most), omega (arith, entries-are-count W′ m))
 
   same-answer : entryAnswer W′ F (placeOf e (entriesOf W′ m)) ≡ entryAnswer W F (placeOf e (entriesOf W m))
   same-answer = λ i. entryAnswer (w i) F (placeOf e (entriesOf (w i) m))
@@ -88,7 +88,7 @@ module _ (cfg : Configuration) (s : State) (e : ℕ) (z : firstThatApplies (begi
       let t = config-tells cfg (not-false (configOk cfg) (none-applies _ z refl 0)) in
       let most = t .M-most in
       let few = tells .few in
-      record { frame-most = t .F-most; count-most = omega arith; within = used-fits cfg s tells }
+      record { payload-most = t .payload-most; count-most = omega arith; within = used-fits cfg s tells }
 
   pub status-is : {byte : ℕ} → byte ≡ statusByte s e → leaves (answered 0 None byte) [] alone s ≡ readStatus cfg e alone s
   unfolding readStatus readStatusRules

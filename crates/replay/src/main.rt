@@ -140,10 +140,10 @@ fn story(
 fn main() {
     let mut input = [0; 32768];
     let mut beyond = [0; 1];
-    let mut cfg = [0; 6659];
-    let mut records = [0; 2048];
-    let mut debounce = [0; 512];
-    let mut memory = [0; 2241];
+    let mut cfg = [0; manual::MOST_NUMBERS];
+    let mut records = [0; manual::MOST_RECORDS];
+    let mut debounce = [0; manual::MOST_EVENTS];
+    let mut memory = [0; manual::MOST_MEMORY];
     let length = io::read_full(0, &mut input);
     let longer = 0 < io::read_full(0, &mut beyond);
     let text = &input[..length];

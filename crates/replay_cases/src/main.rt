@@ -205,10 +205,10 @@ fn story(
 
 // What the replay program would print of the text, held to what is expected.
 fn would_print(text: &[u8], longer: bool, expected: &[u8]) -> Printed {
-    let mut cfg = [0; 6659];
-    let mut records = [0; 2048];
-    let mut debounce = [0; 512];
-    let mut memory = [0; 2241];
+    let mut cfg = [0; manual::MOST_NUMBERS];
+    let mut records = [0; manual::MOST_RECORDS];
+    let mut debounce = [0; manual::MOST_EVENTS];
+    let mut memory = [0; manual::MOST_MEMORY];
     match replay_step::begin(text, longer, &mut cfg) {
         Begun::Ready(count, next) => story(
             &cfg[..count],

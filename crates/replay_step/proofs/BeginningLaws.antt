@@ -17,7 +17,7 @@ use borrow.Author.Tests.{leb-true, leb-false, le-leb}
 use Rattle.history.proofs.WordsLaws.{and-left, and-right}
 use Rattle.manual.specs.Words.{between, natOf}
 use Rattle.manual.proofs.WordsLaws.{clash}
-use Rattle.manual.specs.Configuration.{configOk}
+use Rattle.manual.specs.Configuration.{mostNumbers, configOk}
 use Rattle.transcript.specs.declared.Cursor.{Cursor}
 use Rattle.transcript.specs.declared.Word.{Word}
 use Rattle.transcript.specs.declared.Word.the-variants.{Number, End}
@@ -177,9 +177,9 @@ unread-begins (readTo zs at) m e = clash true refl (ap (λ (x : Leaving Numbers)
 unread-begins (unread zs) m e = ap (λ (x : Leaving Numbers). leaving Begun.Unreadable (x .buffer)) e
 
 -- an allowed count is one that the buffer has room for
-pub count-small : (z : ℤ) → between (pos 0) (pos 6659) z ≡ true → natOf z ≤ 6659
+pub count-small : (z : ℤ) → between (pos 0) (pos mostNumbers) z ≡ true → natOf z ≤ mostNumbers
 unfolding between
-count-small (pos n) t = leb-true n 6659 (and-right (leZ (pos 0) (pos n)) (leZ (pos n) (pos 6659)) t)
+count-small (pos n) t = leb-true n mostNumbers (and-right (leZ (pos 0) (pos n)) (leZ (pos n) (pos mostNumbers)) t)
 count-small (negsuc n) t = omega arith
 
 pub length-of-front : {A : Type 0} (n : ℕ) (l : List A) → n ≤ length l → n ≡ length (take n l)
@@ -189,27 +189,27 @@ length-of-front n l h = let e = length-take n l in omega arith
 
 -- the configuration is accepted, and its numbers are no more than the buffer has room for
 abbrev pub tells : Beginning → Bool
-tells (ready numbers at) = leb (length numbers) 6659 && configOk numbers
+tells (ready numbers at) = leb (length numbers) mostNumbers && configOk numbers
 tells (refused numbers) = true
 tells (unreadable numbers) = true
 
-judged-tells : (numbers : List ℤ) (at : ℕ) → length numbers ≤ 6659 → tells (judgedNumbers numbers at) ≡ true
+judged-tells : (numbers : List ℤ) (at : ℕ) → length numbers ≤ mostNumbers → tells (judgedNumbers numbers at) ≡ true
 unfolding judgedNumbers
 judged-tells numbers at h = go (configOk numbers) refl
   where
     go : (b : Bool) → configOk numbers ≡ b → tells (cond b (ready numbers at) (refused numbers)) ≡ true
-    go true q = rw (le-leb (length numbers) 6659 h, q)
+    go true q = rw (le-leb (length numbers) mostNumbers h, q)
     go false q = refl
 
-numbers-tell : (count : ℕ) (r : Read) → Counts count r → count ≤ 6659 → tells (ofNumbers r) ≡ true
+numbers-tell : (count : ℕ) (r : Read) → Counts count r → count ≤ mostNumbers → tells (ofNumbers r) ≡ true
 numbers-tell count (readTo numbers at) n h = judged-tells numbers at (omega (arith, n, h))
 numbers-tell count (unread numbers) n h = refl
 
 count-tells : (z : ℤ) (at : ℕ) (text : List ℕ) → tells (withCount z at text) ≡ true
 unfolding withCount
-count-tells z at text = go (between (pos 0) (pos 6659) z) refl
+count-tells z at text = go (between (pos 0) (pos mostNumbers) z) refl
   where
-    go : (b : Bool) → between (pos 0) (pos 6659) z ≡ b → tells (cond b (ofNumbers (numbersRead (natOf z) at text)) (unreadable [])) ≡ true
+    go : (b : Bool) → between (pos 0) (pos mostNumbers) z ≡ b → tells (cond b (ofNumbers (numbersRead (natOf z) at text)) (unreadable [])) ≡ true
     go true q = numbers-tell (natOf z) (numbersRead (natOf z) at text) (counts text at (natOf z)) (count-small z q)
     go false q = refl
 
@@ -234,15 +234,15 @@ countOf Begun.Refused = 0
 countOf Begun.Unreadable = 0
 
 left-tells : (b : Beginning) {count : ℕ} {next : Cursor} {l : List ℤ} (m : List ℤ) → tells b ≡ true
-    → leaving (Ready count next) l ≡ beginningLeft b m → (count ≤ 6659) × (configOk (take count l) ≡ true)
+    → leaving (Ready count next) l ≡ beginningLeft b m → (count ≤ mostNumbers) × (configOk (take count l) ≡ true)
 left-tells (ready zs at) {count} {next} {l} m t e =
     let n : count ≡ length zs = ap (λ (x : Leaving Begun). countOf (x .answer)) e in
     let front : take count l ≡ zs = ap (take count) (ap (λ (x : Leaving Begun). x .buffer) e) ∙ take-at zs _ count (sym n) in
-    let small = leb-true (length zs) 6659 (and-left (leb (length zs) 6659) (configOk zs) t) in
-    (omega (arith, n, small), ap configOk front ∙ and-right (leb (length zs) 6659) (configOk zs) t)
+    let small = leb-true (length zs) mostNumbers (and-left (leb (length zs) mostNumbers) (configOk zs) t) in
+    (omega (arith, n, small), ap configOk front ∙ and-right (leb (length zs) mostNumbers) (configOk zs) t)
 left-tells (refused zs) m t e = clash true refl (ap (λ (x : Leaving Begun). isReady (x .answer)) e)
 left-tells (unreadable zs) m t e = clash true refl (ap (λ (x : Leaving Begun). isReady (x .answer)) e)
 
 pub ready-tells : (longer : Bool) (text : List ℕ) (m : List ℤ) {count : ℕ} {next : Cursor} {l : List ℤ}
-    → leaving (Ready count next) l ≡ beginningLeft (beginning longer text) m → (count ≤ 6659) × (configOk (take count l) ≡ true)
+    → leaving (Ready count next) l ≡ beginningLeft (beginning longer text) m → (count ≤ mostNumbers) × (configOk (take count l) ≡ true)
 ready-tells longer text m e = left-tells (beginning longer text) m (beginning-tells longer text) e

@@ -3,7 +3,6 @@ use mathlib.Core.Path.{_≡_, refl, ap, _∙_}
 use mathlib.Core.Bool.{Bool, true}
 use mathlib.Core.List.{List, [], _∷_, _++_}
 use Prim.Native.Nat.{ℕ, zero, suc, _*_, _≤_}
-use native.Mathlib.Nat.{mul-le-mul}
 use native.Mathlib.Omega.{arith}
 use lib.IntN.{ℤ}
 use lib.Dec.{leb}
@@ -12,10 +11,11 @@ use borrow.Author.Tests.{leb-true, le-leb}
 use Rattle.manual.specs.declared.Board.{Board}
 use Rattle.manual.specs.Configuration.{Configuration, events, places, entryFrames}
 use Rattle.manual.specs.State.{State, lent, recordWidth}
-use Rattle.manual.specs.Memory.{entryWidth, memoryLength}
+use Rattle.manual.specs.Memory.{memoryLength, mostMemory}
 use Rattle.manual.specs.Answers.{alone, Outcome, Answered, leaves}
 use Rattle.manual.specs.Sequences.{outcome}
 use Rattle.manual.proofs.ConfigurationLaws.{config-tells}
+use Rattle.manual.proofs.MemoryLaws.{memory-most}
 use Rattle.writing.specs.Writing.{Written, written, filled}
 use Rattle.transcript.specs.declared.Cursor.{Cursor}
 use Rattle.transcript.specs.Line.{statusBytes, line}
@@ -88,13 +88,10 @@ module _ (cfg : Configuration) {records : List ℕ} {debounce : List ℤ} {memor
   pub blocks-within : {n m : ℕ} → n ≡ events cfg → m ≡ memoryLength (places cfg) (entryFrames cfg) → BlocksWithin (recordWidth * n) n m
   blocks-within {n} {m} e q =
       let t = config-tells cfg (b .accepted) in
-      let few : events cfg ≤ 512 = t .n-most in
-      let most : m ≤ 2241 = rw q (memory-most (places cfg) (entryFrames cfg) (t .M-most) (t .F-most)) in
+      let few = t .n-most in
+      let most : m ≤ mostMemory = rw q (memory-most (places cfg) (entryFrames cfg) (t .M-most) (t .payload-most)) in
       record {
         records-within = omega (arith, e, few, b .for-records);
         numbers-within = omega (arith, e, few, b .for-numbers);
         memory-within = omega (arith, most, b .for-memory);
       }
-    where
-      memory-most : (M F : ℕ) → M ≤ 64 → F ≤ 32 → memoryLength M F ≤ 2241
-      memory-most M F h k = let w : entryWidth F ≤ 35 = omega arith in let m : M * entryWidth F ≤ 64 * 35 = mul-le-mul h w in omega arith

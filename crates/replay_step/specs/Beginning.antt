@@ -5,7 +5,7 @@ use Prim.Native.Nat.{ℕ, zero, suc}
 use lib.IntN.{ℤ, pos}
 use lib.ListN.{length, drop}
 use Rattle.manual.specs.Words.{between, natOf}
-use Rattle.manual.specs.Configuration.{configOk}
+use Rattle.manual.specs.Configuration.{mostNumbers, configOk}
 use Rattle.transcript.specs.declared.Cursor.{Cursor}
 use Rattle.transcript.specs.declared.Word.{Word}
 use Rattle.transcript.specs.declared.Word.the-variants.{Number, End}
@@ -53,7 +53,7 @@ ofNumbers (unread numbers) = unreadable numbers
 
 -- "a count outside 0 to 6,659: only the line `bad input`"
 unfoldable pub withCount : ℤ → ℕ → List ℕ → Beginning
-withCount count at text = cond (between (pos 0) (pos 6659) count) (ofNumbers (numbersRead (natOf count) at text)) (unreadable [])
+withCount count at text = cond (between (pos 0) (pos mostNumbers) count) (ofNumbers (numbersRead (natOf count) at text)) (unreadable [])
 
 abbrev pub ofCount : List ℕ → Word → Beginning
 ofCount text (Number r) = withCount (r .value) (r .next .at) text

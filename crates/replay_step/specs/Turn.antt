@@ -5,8 +5,9 @@ use mathlib.Core.Bool.{true}
 use Prim.Native.Nat.{ℕ, _+_, _*_, _≤_}
 use lib.IntN.{ℤ}
 use lib.ListN.{length, replicate}
-use Rattle.manual.specs.Configuration.{Configuration, events, frameBytes, configOk}
+use Rattle.manual.specs.Configuration.{Configuration, mostEvents, events, frameBytes, configOk}
 use Rattle.manual.specs.State.{State, recordWidth}
+use Rattle.manual.specs.Memory.{mostMemory}
 use Rattle.manual.specs.Answers.{alone, Outcome}
 use Rattle.manual.specs.Sequences as sequences
 use Rattle.manual.specs.Sequences.{outcome}
@@ -83,6 +84,6 @@ module _ (cfg : Configuration) where
   -- the program's buffers, of which the blocks are the front parts: an accepted configuration, and room for the largest
   pub record Buffers (records : List ℕ) (debounce : List ℤ) (memory : List ℕ) : Type 0 where
     pub accepted : configOk cfg ≡ true
-    pub for-records : 2048 ≤ length records
-    pub for-numbers : 512 ≤ length debounce
-    pub for-memory : 2241 ≤ length memory
+    pub for-records : recordWidth * mostEvents ≤ length records
+    pub for-numbers : mostEvents ≤ length debounce
+    pub for-memory : mostMemory ≤ length memory

@@ -11,6 +11,7 @@ ghost use Prim.Native.Nat.{_≤_, _<_};
 ghost use lib.IntN.{pos};
 ghost use lib.ListN.{length, take};
 ghost use Rattle.manual.specs.Words.{between, natOf};
+ghost use Rattle.manual.specs.Configuration.{mostNumbers};
 ghost use Rattle.manual.specs.State.{lent};
 ghost use Rattle.manual.specs.Answers.{alone, ofAnswer, ofReport};
 ghost use Rattle.manual.specs.Sequences.{outcome};
@@ -175,8 +176,8 @@ pub enum Begun {
     Unreadable,
 }
 
-// "6,659": the numbers of a configuration of 512 events.
-const MOST_NUMBERS: i32 = 6659;
+// "6,659": the numbers of the longest configuration.
+const MOST_NUMBERS: i32 = manual::MOST_NUMBERS as i32;
 
 // The numbers in front of cfg as a configuration: "Refused configuration: one line `2`."
 fn judged(cfg: &[i32], count: usize, next: Cursor) -> Begun
@@ -202,14 +203,14 @@ fn read_configuration(text: &[u8], from: Cursor, cfg: &mut [i32], count: usize) 
 
 // "a count outside 0 to 6,659"
 fn count_allowed(count: i32) -> bool
-    ensures { λ r. ⌜ r ≡ between (pos 0) (pos 6659) count ⌝ }
+    ensures { λ r. ⌜ r ≡ between (pos 0) (pos mostNumbers) count ⌝ }
 {
     (0 <= count) & (count <= MOST_NUMBERS)
 }
 
 // The configuration of so many numbers, if so many are allowed.
 fn counted(text: &[u8], count: i32, from: Cursor, cfg: &mut [i32]) -> Begun
-    requires { ⌜ 6659 ≤ length (now cfg) ⌝ }
+    requires { ⌜ mostNumbers ≤ length (now cfg) ⌝ }
     ensures { λ r. ⌜ leaving r (now (cfg .exit)) ≡ beginningLeft (withCount count (from .at) (now (text .entry))) (now (cfg .entry)) ⌝ }
 {
     if !count_allowed(count) {
@@ -221,7 +222,7 @@ fn counted(text: &[u8], count: i32, from: Cursor, cfg: &mut [i32]) -> Begun
 // "Longer input, or a count outside 0 to 6,659: only the line `bad input`."
 // The numbers that were read are left in front of cfg, which has room for the most, and the rest of it as it was.
 pub fn begin(text: &[u8], longer: bool, cfg: &mut [i32]) -> Begun
-    requires { ⌜ 6659 ≤ length (now cfg) ⌝ }
+    requires { ⌜ mostNumbers ≤ length (now cfg) ⌝ }
     ensures { λ r. ⌜ leaving r (now (cfg .exit)) ≡ beginningLeft (beginning longer (now (text .entry))) (now (cfg .entry)) ⌝ }
 {
     if longer {
@@ -341,7 +342,7 @@ fn play(
         ≡ turnBy (now (cfg .entry)) (now (buffer .entry)) (lent (now (records .entry)) (now (debounce .entry)) (now (memory .entry)) board) (Makes call next)
         ⌝ }
 {
-    let zeros = [0; 32];
+    let zeros = [0; manual::MOST_FRAME];
     let frame = &zeros[..config::frame_bytes(cfg)];
     let made = make(cfg, records, debounce, memory, board, call, frame);
     let after = made.board;

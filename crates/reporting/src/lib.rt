@@ -14,7 +14,7 @@ ghost use Prim.Native.Nat.{ℕ, _≤_, _<_};
 ghost use lib.Dec.{ltb};
 ghost use lib.IntN.{ℤ};
 ghost use lib.ListN.{length};
-ghost use Rattle.manual.specs.Configuration.{frameBytes, isInternal, configOk};
+ghost use Rattle.manual.specs.Configuration.{mostEvents, frameBytes, isInternal, configOk};
 ghost use Rattle.manual.specs.State.{lent};
 ghost use Rattle.manual.specs.Answers.{alone, refused, firstThatApplies, numberOf, ofAnswer, ofReport, leaves};
 ghost use Rattle.manual.specs.OneEvent.{forThose};
@@ -36,7 +36,7 @@ fn wrong_frame(cfg: &[i32], frame: &[u8]) -> bool
 
 // Whether the event's cycle runs.
 fn cycle_runs(cfg: &[i32], board: Board, event: EventNumber) -> bool
-    requires { ⌜ event .0 < 512 ⌝ }
+    requires { ⌜ event .0 < mostEvents ⌝ }
     ensures { λ r. ⌜ r ≡ cycleRuns (now (cfg .entry)) board (event .0) ⌝ }
 {
     judgement::runs(board, config::cycle_of(cfg, event))
@@ -46,7 +46,7 @@ fn cycle_runs(cfg: &[i32], board: Board, event: EventNumber) -> bool
 
 // "6 | pre-result reported to an event of kind 0"
 fn no_pre_result(cfg: &[i32], event: EventNumber, code: u32) -> bool
-    requires { ⌜ event .0 < 512 ⌝ }
+    requires { ⌜ event .0 < mostEvents ⌝ }
     ensures { λ r. ⌜ r ≡ isInternal (now (cfg .entry)) (event .0) && ltb 1 code ⌝ }
 {
     (config::kind_of(cfg, event) == config::INTERNAL) & (debounce::FAILED < code)
@@ -54,7 +54,7 @@ fn no_pre_result(cfg: &[i32], event: EventNumber, code: u32) -> bool
 
 // "report …, 6, 9, 5", of an event that has a row.
 fn row_tests(cfg: &[i32], board: Board, event: EventNumber, code: u32, frame: &[u8]) -> Check
-    requires { ⌜ event .0 < 512 ⌝ }
+    requires { ⌜ event .0 < mostEvents ⌝ }
     ensures { λ r. ⌜ checkNumber r ≡ firstThatApplies (rowTests (now (cfg .entry)) board (event .0) code (now (frame .entry))) ⌝ }
 {
     let pre_refused = no_pre_result(cfg, event, code);
@@ -195,7 +195,7 @@ fn judge_tick(
 
 // "only kind 2 with its cycle running"
 fn time_runs(cfg: &[i32], board: Board, event: EventNumber) -> bool
-    requires { ⌜ event .0 < 512 ⌝ }
+    requires { ⌜ event .0 < mostEvents ⌝ }
     ensures { λ r. ⌜ r ≡ timeRuns (now (cfg .entry)) board (event .0) ⌝ }
 {
     (config::kind_of(cfg, event) == config::TIME) & cycle_runs(cfg, board, event)

@@ -27,7 +27,7 @@ entries-ok-requires c κs = let t = config-tells _ (c .before .before .before .b
     record {
       events-most = omega (arith, c .before .before .before .events .ensures, t .n-most);
       places-most = omega (arith, c .before .before .places .ensures, t .M-most);
-      frame-most = omega (arith, c .before .entry-frames .ensures, t .F-most);
+      payload-most = omega (arith, c .before .entry-frames .ensures, t .payload-most);
     }
 
 returns : tie.Need-returns

@@ -17,7 +17,7 @@ entry-frames-requires : tie.Need-entry-frames-requires
 entry-frames-requires c κs = search needs
 
 memory-length-requires : tie.Need-memory-length-requires
-memory-length-requires c κs = let t = config-tells _ (c .before .before .before .before .before .pre) in (rw (c .before .places .ensures) (t .M-most), rw (c .entry-frames .ensures) (t .F-most))
+memory-length-requires c κs = let t = config-tells _ (c .before .before .before .before .before .pre) in (rw (c .before .places .ensures) (t .M-most), rw (c .entry-frames .ensures) (t .payload-most))
 
 mul-result : tie.Need-mul-result
 mul-result c = let t = config-tells _ (c .before .before .before .before .before .before .pre) in let h : c .before .before .before .events .result ≤ 512 = rw (c .before .before .before .events .ensures) (t .n-most) in record { fits = omega arith }

@@ -43,7 +43,7 @@ memory-ok-requires c κs =
     record {
       events-most = rw (c .before .before .before .before .events .ensures) (t .n-most);
       places-most = rw (c .before .before .before .places .ensures) (t .M-most);
-      frame-most = rw (c .before .before .entry-frames .ensures) (t .F-most);
+      payload-most = rw (c .before .before .entry-frames .ensures) (t .payload-most);
     }
 
 returns-2 : tie.Need-returns-2

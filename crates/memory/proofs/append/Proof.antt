@@ -26,7 +26,7 @@ enter-requires c κs =
     let pre = c .before .before .before .before .before .before .pre in
     let entry-count = c .before .before .entry-count in (
       record {
-        frame-most = pre .0 .frame-most;
+        payload-most = pre .0 .payload-most;
         event-most = pre .0 .event-most;
         place-most = omega (arith, entry-count .ensures, pre .0 .place-most);
         within = simp length-set (rw (entry-count .ensures) (pre .0 .within));

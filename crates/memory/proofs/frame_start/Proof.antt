@@ -1,5 +1,5 @@
 use native.Mathlib.Omega.{arith}
-use Rattle.memory.proofs.PlacesLaws.{start-small}
+use Rattle.manual.proofs.MemoryLaws.{used-most}
 use borrow.Author.Needs.{needs}
 use Rattle.memory.proofs.frame_start.Statement.{statement}
 use Rattle.memory.proofs.frame_start.Tie as tie
@@ -8,7 +8,7 @@ start-of-requires : tie.Need-start-of-requires
 start-of-requires c κs = search needs
 
 add-result : tie.Need-add-result
-add-result c = omega (arith, c .start-of .ensures, start-small (c .before .args .payload-bytes) (c .before .args .place .0) (c .before .pre .0) (c .before .pre .1))
+add-result c = omega (arith, c .start-of .ensures, used-most (c .before .args .payload-bytes) (c .before .args .place .0) (c .before .pre .0) (c .before .pre .1))
 
 returns : tie.Need-returns
 returns c = search needs

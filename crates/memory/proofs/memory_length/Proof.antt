@@ -1,7 +1,7 @@
 use native.Mathlib.Nat.{mul-comm}
 use native.Mathlib.Omega.{arith}
 use Rattle.manual.specs.Memory.{entryWidth}
-use Rattle.memory.proofs.PlacesLaws.{start-small}
+use Rattle.manual.proofs.MemoryLaws.{used-most}
 use borrow.Author.Needs.{needs}
 use Rattle.memory.proofs.memory_length.Statement.{statement}
 use Rattle.memory.proofs.memory_length.Tie as tie
@@ -10,10 +10,10 @@ add-result : tie.Need-add-result
 add-result c = search needs
 
 mul-result : tie.Need-mul-result
-mul-result c = omega (arith, mul-comm (c .args .places) (entryWidth (c .args .payload-bytes)), start-small (c .args .payload-bytes) (c .args .places) (c .pre .1) (c .pre .0))
+mul-result c = omega (arith, mul-comm (c .args .places) (entryWidth (c .args .payload-bytes)), used-most (c .args .payload-bytes) (c .args .places) (c .pre .1) (c .pre .0))
 
 add-result-2 : tie.Need-add-result-2
-add-result-2 c = omega (arith, mul-comm (c .args .places) (entryWidth (c .args .payload-bytes)), start-small (c .args .payload-bytes) (c .args .places) (c .pre .1) (c .pre .0))
+add-result-2 c = omega (arith, mul-comm (c .args .places) (entryWidth (c .args .payload-bytes)), used-most (c .args .payload-bytes) (c .args .places) (c .pre .1) (c .pre .0))
 
 returns : tie.Need-returns
 returns c = search needs

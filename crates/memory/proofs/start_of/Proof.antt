@@ -1,5 +1,5 @@
 use native.Mathlib.Omega.{arith}
-use Rattle.memory.proofs.PlacesLaws.{start-small}
+use Rattle.manual.proofs.MemoryLaws.{used-most}
 use borrow.Author.Needs.{needs}
 use Rattle.memory.proofs.start_of.Statement.{statement}
 use Rattle.memory.proofs.start_of.Tie as tie
@@ -8,10 +8,10 @@ add-result : tie.Need-add-result
 add-result c = search needs
 
 mul-result : tie.Need-mul-result
-mul-result c = omega (arith, start-small (c .before .args .payload-bytes) (c .before .args .place .0) (c .before .pre .0) (c .before .pre .1))
+mul-result c = omega (arith, used-most (c .before .args .payload-bytes) (c .before .args .place .0) (c .before .pre .0) (c .before .pre .1))
 
 add-result-2 : tie.Need-add-result-2
-add-result-2 c = omega (arith, start-small (c .before .args .payload-bytes) (c .before .args .place .0) (c .before .pre .0) (c .before .pre .1))
+add-result-2 c = omega (arith, used-most (c .before .args .payload-bytes) (c .before .args .place .0) (c .before .pre .0) (c .before .pre .1))
 
 returns : tie.Need-returns
 returns c = search needs

@@ -20,7 +20,7 @@ entry-frames-requires : tie.Need-entry-frames-requires
 entry-frames-requires c κs = search needs
 
 memory-length-requires : tie.Need-memory-length-requires
-memory-length-requires c κs = let t = config-tells (now (c .before .before .before .before .before .before .before .args .cfg)) (c .before .before .before .before .before .before .before .pre .accepted) in (rw (c .before .places .ensures) (t .M-most), rw (c .entry-frames .ensures) (t .F-most))
+memory-length-requires c κs = let t = config-tells (now (c .before .before .before .before .before .before .before .args .cfg)) (c .before .before .before .before .before .before .before .pre .accepted) in (rw (c .before .places .ensures) (t .M-most), rw (c .entry-frames .ensures) (t .payload-most))
 
 mul-records : tie.Need-mul-records
 mul-records c = let t = config-tells (now (c .before .before .before .before .before .before .before .before .args .cfg)) (c .before .before .before .before .before .before .before .before .pre .accepted) in omega (arith, c .before .before .before .events .ensures, t .n-most)
