@@ -642,11 +642,12 @@ fn run_on(
 
 // The lengths that the line that begins with config asks for, with so many numbers in it.
 fn lengths(line: &[u8], config: usize) -> Lent {
-    let events = length_at(line, 1, 512);
-    let whole = memory::memory_length(length_at(line, 2, 64), length_at(line, 3, 32));
+    let events = length_at(line, 1, manual::MOST_EVENTS);
+    let places = length_at(line, 2, manual::MOST_PLACES);
+    let whole = memory::memory_length(places, length_at(line, 3, manual::MOST_PAYLOAD));
     Lent {
         config,
-        records: 4 * events,
+        records: manual::RECORD_WIDTH * events,
         debounce: events,
         memory: whole,
         board: stopped(),

@@ -28,7 +28,9 @@ same-length-4 : tie.Need-same-length-4
 same-length-4 c = search needs
 
 returns : tie.Need-returns
-returns c = replied-is _ _ (c .before .before .before .before .before .before .before .before .before .before .before .before .before .before .args .room .now) _ _ (c .before .size .given .1) (c .before .before .before .before .before .serve .ensures _)
+returns c =
+    let c8 = c .before .before .before .before .before .before .before .before in
+    replied-is _ _ (c8 .before .before .before .before .before .before .args .room .now) _ _ (c .before .size .given .1) (c .before .before .before .before .before .serve .ensures _)
 
 same-length-5 : tie.Need-same-length-5
 same-length-5 c = search needs
@@ -43,7 +45,10 @@ same-length-8 : tie.Need-same-length-8
 same-length-8 c = search needs
 
 returns-2 : tie.Need-returns-2
-returns-2 c = cleared-is _ _ (c .before .before .before .before .before .before .before .before .before .before .before .before .before .before .before .before .before .before .before .before .before .before .before .args .room .now) _ _ (c .before .before .before .before .before .before .before .before .before .before .code .given .1) (c .before .before .before .before .before .clear-covered .ensures) (c .before .before .before .before .before .before .before .before .before .before .before .before .before .before .serve .ensures _)
+returns-2 c =
+    let c8 = c .before .before .before .before .before .before .before .before in
+    let c16 = c8 .before .before .before .before .before .before .before .before in
+    cleared-is _ _ (c16 .before .before .before .before .before .before .before .args .room .now) _ _ (c8 .before .before .code .given .1) (c .before .before .before .before .before .clear-covered .ensures) (c8 .before .before .before .before .before .before .serve .ensures _)
 
 pub accept-spec : {M : Type 1} → statement M
 accept-spec =

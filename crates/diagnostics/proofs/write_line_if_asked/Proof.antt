@@ -16,7 +16,9 @@ same-length : tie.Need-same-length
 same-length c = search needs
 
 returns : tie.Need-returns
-returns c = rw (← c .before .before .before .before .before .is-asked .ensures (c .before .before .before .before .before .before .before .before .args .cfg .now), c .before .before .before .before .if1 .taken) (c .before .before .write-line .ensures)
+returns c =
+    let c8 = c .before .before .before .before .before .before .before .before in
+    rw (← c .before .before .before .before .before .is-asked .ensures (c8 .args .cfg .now), c .before .before .before .before .if1 .taken) (c .before .before .write-line .ensures)
 
 returns-2 : tie.Need-returns-2
 returns-2 c = rw (← c .before .is-asked .ensures (c .before .before .before .before .args .cfg .now), c .if1 .left) (sym (append-none _))

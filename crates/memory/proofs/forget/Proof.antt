@@ -16,7 +16,9 @@ enum-known-own : tie.Need-enum-known-own
 enum-known-own c = search needs
 
 remove-requires : tie.Need-remove-requires
-remove-requires c κs = may-remove (events (now (c .before .before .before .before .before .before .before .before .args .cfg))) (places (now (c .before .before .before .before .before .before .before .before .args .cfg))) (entryFrames (now (c .before .before .before .before .before .before .before .before .args .cfg))) (c .before .before .before .before .before .before .entry-frames .result) (now (c .before .before .before .before .before .before .before .before .args .memory)) (c .before .before .before .before .before .before .before .before .pre) (c .before .before .before .before .before .before .entry-frames .ensures) (c .before .before .before .before .before .before .before .before .args .event .0) _ (sym (c .before .before .before .before .place-of .ensures) ∙ c .before .before .own .given .1)
+remove-requires c κs =
+    let c8 = c .before .before .before .before .before .before .before .before in
+    may-remove (events (now (c8 .args .cfg))) (places (now (c8 .args .cfg))) (entryFrames (now (c8 .args .cfg))) (c .before .before .before .before .before .before .entry-frames .result) (now (c8 .args .memory)) (c8 .pre) (c .before .before .before .before .before .before .entry-frames .ensures) (c8 .args .event .0) _ (sym (c .before .before .before .before .place-of .ensures) ∙ c .before .before .own .given .1)
 
 enum-told : tie.Need-enum-told
 enum-told c = search needs

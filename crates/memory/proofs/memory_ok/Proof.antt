@@ -26,16 +26,22 @@ bytes-in-use-requires : tie.Need-bytes-in-use-requires
 bytes-in-use-requires c κs = search needs
 
 slice-aggregate-entries-ok : tie.Need-slice-aggregate-entries-ok
-slice-aggregate-entries-ok c = rw (c .before .bytes-in-use .ensures) (sym (end-length (c .before .before .before .before .before .before .before .before .args .places) (c .before .before .before .before .before .before .before .before .args .payload-bytes) (now (c .before .before .before .before .before .before .before .before .args .memory)) (c .before .before .before .before .if1 .left ∙ c .before .before .before .before .before .memory-length .ensures) (omega (arith, c .before .before .before .entry-count .ensures, c .before .before .if2 .left))))
+slice-aggregate-entries-ok c =
+    let c8 = c .before .before .before .before .before .before .before .before in
+    rw (c .before .bytes-in-use .ensures) (sym (end-length (c8 .args .places) (c8 .args .payload-bytes) (now (c8 .args .memory)) (c .before .before .before .before .if1 .left ∙ c .before .before .before .before .before .memory-length .ensures) (omega (arith, c .before .before .before .entry-count .ensures, c .before .before .if2 .left))))
 
 entries-ok-requires : tie.Need-entries-ok-requires
 entries-ok-requires c κs = search needs
 
 sub-all-zero : tie.Need-sub-all-zero
-sub-all-zero c = rw (c .before .before .bytes-in-use .ensures) (end-within (c .before .before .before .before .before .before .before .before .before .args .places) (c .before .before .before .before .before .before .before .before .before .args .payload-bytes) (now (c .before .before .before .before .before .before .before .before .before .args .memory)) (c .before .before .before .before .before .if1 .left ∙ c .before .before .before .before .before .before .memory-length .ensures) (omega (arith, c .before .before .before .before .entry-count .ensures, c .before .before .before .if2 .left)))
+sub-all-zero c =
+    let c8 = c .before .before .before .before .before .before .before .before in
+    rw (c .before .before .bytes-in-use .ensures) (end-within (c8 .before .args .places) (c8 .before .args .payload-bytes) (now (c8 .before .args .memory)) (c .before .before .before .before .before .if1 .left ∙ c .before .before .before .before .before .before .memory-length .ensures) (omega (arith, c .before .before .before .before .entry-count .ensures, c .before .before .before .if2 .left)))
 
 part-all-zero-start : tie.Need-part-all-zero-start
-part-all-zero-start c = rw (c .before .before .bytes-in-use .ensures) (end-within (c .before .before .before .before .before .before .before .before .before .args .places) (c .before .before .before .before .before .before .before .before .before .args .payload-bytes) (now (c .before .before .before .before .before .before .before .before .before .args .memory)) (c .before .before .before .before .before .if1 .left ∙ c .before .before .before .before .before .before .memory-length .ensures) (omega (arith, c .before .before .before .before .entry-count .ensures, c .before .before .before .if2 .left)))
+part-all-zero-start c =
+    let c8 = c .before .before .before .before .before .before .before .before in
+    rw (c .before .before .bytes-in-use .ensures) (end-within (c8 .before .args .places) (c8 .before .args .payload-bytes) (now (c8 .before .args .memory)) (c .before .before .before .before .before .if1 .left ∙ c .before .before .before .before .before .before .memory-length .ensures) (omega (arith, c .before .before .before .before .entry-count .ensures, c .before .before .before .if2 .left)))
 
 part-all-zero-end : tie.Need-part-all-zero-end
 part-all-zero-end c = search needs

@@ -39,7 +39,9 @@ loop-less : tie.Need-loop-less Inv-loop μ-loop
 loop-less c = omega arith
 
 loop-again : tie.Need-loop-again Inv-loop μ-loop
-loop-again c = let f = priorityAt (priorityOf (now (c .before .before .before .before .before .before .before .before .args .cfg))) (entriesOf (c .before .before .before .before .before .before .before .before .args .payload-bytes) (now (c .before .before .before .before .before .before .before .before .args .memory))) in
+loop-again c =
+    let c8 = c .before .before .before .before .before .before .before .before in
+    let f = priorityAt (priorityOf (now (c8 .args .cfg))) (entriesOf (c8 .args .payload-bytes) (now (c8 .args .memory))) in
     let i = c .before .before .before .before .loop .i in
     let e : c .before .priority-of2 .result ≡ f i = c .before .priority-of2 .ensures ∙ ap (priorityOf (now (c .before .before .before .before .before .before .before .before .args .cfg))) (c .before .before .event-at .ensures) in (
       omega (arith, c .before .before .before .loop-test .taken),

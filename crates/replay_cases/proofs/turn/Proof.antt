@@ -14,10 +14,20 @@ enum-known-stepped : tie.Need-enum-known-stepped
 enum-known-stepped c = search needs
 
 slice-reshare-prefix-print : tie.Need-slice-reshare-prefix-print
-slice-reshare-prefix-print c = let a = c .before .before .before .before .before .before .before .before .before .before .before .before .before .before .before .before .before .before .before .before .before .before .before .before .args in line-within (now (a .cfg)) (now (a .buffer)) (lent (now (a .records)) (now (a .debounce)) (now (a .memory)) (a .played .board)) (a .played .next .at) (now (a .text)) (rw (c .before .stepped .given .1) at (c .before .before .before .before .before .before .before .before .before .before .before .step .ensures))
+slice-reshare-prefix-print c =
+    let c8 = c .before .before .before .before .before .before .before .before in
+    let c16 = c8 .before .before .before .before .before .before .before .before in
+    let c24 = c16 .before .before .before .before .before .before .before .before in
+    let a = c24 .args in
+    line-within (now (a .cfg)) (now (a .buffer)) (lent (now (a .records)) (now (a .debounce)) (now (a .memory)) (a .played .board)) (a .played .next .at) (now (a .text)) (rw (c .before .stepped .given .1) at (c8 .before .before .before .step .ensures))
 
 slice-aggregate-print : tie.Need-slice-aggregate-print
-slice-aggregate-print c = let a = c .before .before .before .before .before .before .before .before .before .before .before .before .before .before .before .before .before .before .before .before .before .before .before .before .before .args in length-of-front _ _ (line-within (now (a .cfg)) (now (a .buffer)) (lent (now (a .records)) (now (a .debounce)) (now (a .memory)) (a .played .board)) (a .played .next .at) (now (a .text)) (rw (c .before .before .stepped .given .1) at (c .before .before .before .before .before .before .before .before .before .before .before .before .step .ensures)))
+slice-aggregate-print c =
+    let c8 = c .before .before .before .before .before .before .before .before in
+    let c16 = c8 .before .before .before .before .before .before .before .before in
+    let c24 = c16 .before .before .before .before .before .before .before .before in
+    let a = c24 .before .args in
+    length-of-front _ _ (line-within (now (a .cfg)) (now (a .buffer)) (lent (now (a .records)) (now (a .debounce)) (now (a .memory)) (a .played .board)) (a .played .next .at) (now (a .text)) (rw (c .before .before .stepped .given .1) at (c8 .before .before .before .before .step .ensures)))
 
 print-requires : tie.Need-print-requires
 print-requires c κs = search needs

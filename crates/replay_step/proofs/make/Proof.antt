@@ -59,7 +59,9 @@ same-length-3 : tie.Need-same-length-3
 same-length-3 c = search needs
 
 returns : tie.Need-returns
-returns c = rw (c .before .before .before .before .before .before .before .before .before .before .before .call .given .1) (made-by (ofReport (c .before .before .before .before .before .before .report .result .answer)) (c .made-of-report .ensures .0) (c .made-of-report .ensures .1) (c .before .before .before .before .before .before .report .ensures))
+returns c =
+    let c8 = c .before .before .before .before .before .before .before .before in
+    rw (c8 .before .before .before .call .given .1) (made-by (ofReport (c .before .before .before .before .before .before .report .result .answer)) (c .made-of-report .ensures .0) (c .made-of-report .ensures .1) (c .before .before .before .before .before .before .report .ensures))
 
 same-length-4 : tie.Need-same-length-4
 same-length-4 c = search needs
@@ -71,7 +73,9 @@ same-length-6 : tie.Need-same-length-6
 same-length-6 c = search needs
 
 returns-2 : tie.Need-returns-2
-returns-2 c = rw (c .before .before .before .before .before .before .before .before .call2 .given .1) (made-by (ofAnswer (c .before .before .before .start .result .answer)) (c .made-of .ensures .0) (c .made-of .ensures .1) (c .before .before .before .start .ensures))
+returns-2 c =
+    let c8 = c .before .before .before .before .before .before .before .before in
+    rw (c8 .call2 .given .1) (made-by (ofAnswer (c .before .before .before .start .result .answer)) (c .made-of .ensures .0) (c .made-of .ensures .1) (c .before .before .before .start .ensures))
 
 same-length-7 : tie.Need-same-length-7
 same-length-7 c = search needs
@@ -83,7 +87,9 @@ same-length-9 : tie.Need-same-length-9
 same-length-9 c = search needs
 
 returns-3 : tie.Need-returns-3
-returns-3 c = rw (c .before .before .before .before .before .before .before .before .before .before .before .call3 .given .1) (made-by (ofAnswer (c .before .before .before .before .before .before .stop .result .answer)) (c .made-of2 .ensures .0) (c .made-of2 .ensures .1) (c .before .before .before .before .before .before .stop .ensures))
+returns-3 c =
+    let c8 = c .before .before .before .before .before .before .before .before in
+    rw (c8 .before .before .before .call3 .given .1) (made-by (ofAnswer (c .before .before .before .before .before .before .stop .result .answer)) (c .made-of2 .ensures .0) (c .made-of2 .ensures .1) (c .before .before .before .before .before .before .stop .ensures))
 
 same-length-10 : tie.Need-same-length-10
 same-length-10 c = search needs
@@ -95,7 +101,9 @@ same-length-12 : tie.Need-same-length-12
 same-length-12 c = search needs
 
 returns-4 : tie.Need-returns-4
-returns-4 c = rw (c .before .before .before .before .before .before .before .before .before .before .before .call4 .given .1) (made-by (ofAnswer (c .before .before .before .before .before .before .tick .result .answer)) (c .made-of3 .ensures .0) (c .made-of3 .ensures .1) (c .before .before .before .before .before .before .tick .ensures))
+returns-4 c =
+    let c8 = c .before .before .before .before .before .before .before .before in
+    rw (c8 .before .before .before .call4 .given .1) (made-by (ofAnswer (c .before .before .before .before .before .before .tick .result .answer)) (c .made-of3 .ensures .0) (c .made-of3 .ensures .1) (c .before .before .before .before .before .before .tick .ensures))
 
 same-length-13 : tie.Need-same-length-13
 same-length-13 c = search needs
@@ -107,7 +115,9 @@ same-length-15 : tie.Need-same-length-15
 same-length-15 c = search needs
 
 returns-5 : tie.Need-returns-5
-returns-5 c = rw (c .before .before .before .before .before .before .before .before .before .before .before .call5 .given .1) (made-by (ofAnswer (c .before .before .before .before .before .before .clear .result .answer)) (c .made-of4 .ensures .0) (c .made-of4 .ensures .1) (c .before .before .before .before .before .before .clear .ensures))
+returns-5 c =
+    let c8 = c .before .before .before .before .before .before .before .before in
+    rw (c8 .before .before .before .call5 .given .1) (made-by (ofAnswer (c .before .before .before .before .before .before .clear .result .answer)) (c .made-of4 .ensures .0) (c .made-of4 .ensures .1) (c .before .before .before .before .before .before .clear .ensures))
 
 pub make-spec : {M : Type 1} → statement M
 make-spec =

@@ -38,7 +38,11 @@ same-length-4 : tie.Need-same-length-4
 same-length-4 c = search needs
 
 returns : tie.Need-returns
-returns c = let a = c .before .before .before .before .before .before .before .before .before .before .before .before .before .before .before .before .before .before .before .before .before .args in line-made (now (a .cfg)) (a .call) (a .next) (now (a .buffer)) (lent (now (a .records)) (now (a .debounce)) (now (a .memory)) (a .board)) (zeros-front 32 _ (c .before .before .before .before .before .before .before .before .before .before .before .before .before .before .before .before .before .frame-bytes .ensures) (config-tells (now (a .cfg)) (c .before .before .before .before .before .before .before .before .before .before .before .before .before .before .before .before .before .before .before .before .before .pre .accepted) .F-most)) (c .before .before .before .events .ensures) (c .before .before .before .before .before .before .before .before .before .before .before .before .make .ensures) (c .before .before .fill-line .ensures)
+returns c =
+    let c8 = c .before .before .before .before .before .before .before .before in
+    let c16 = c8 .before .before .before .before .before .before .before .before in
+    let a = c16 .before .before .before .before .before .args in
+    line-made (now (a .cfg)) (a .call) (a .next) (now (a .buffer)) (lent (now (a .records)) (now (a .debounce)) (now (a .memory)) (a .board)) (zeros-front 32 _ (c16 .before .frame-bytes .ensures) (config-tells (now (a .cfg)) (c16 .before .before .before .before .before .pre .accepted) .F-most)) (c .before .before .before .events .ensures) (c8 .before .before .before .before .make .ensures) (c .before .before .fill-line .ensures)
 
 pub play-spec : {M : Type 1} → statement M
 play-spec =

@@ -33,7 +33,9 @@ same-length : tie.Need-same-length Inv-loop μ-loop
 same-length c = search needs
 
 returns : tie.Need-returns Inv-loop μ-loop
-returns c = turn-unread (now (c .before .before .before .before .before .before .before .before .args .text)) (c .before .before .before .before .before .before .before .before .args .from .at) (c .before .before .before .before .before .before .loop .place) _ _ (omega (arith, c .before .before .before .before .before .before .loop .inv .1, c .before .before .before .before .before .loop-test .taken, c .before .before .before .before .before .before .before .before .pre)) (c .before .before .before .before .before .before .loop .inv .2) (c .before .before .before .before .before .before .loop .inv .3) (c .before .before .before .before .before .before .before .before .args .count) (c .before .before .before .before .before .loop-test .taken) _ refl (rw (c .enum-told .given .1) at (c .before .before .before .read-into .ensures))
+returns c =
+    let c8 = c .before .before .before .before .before .before .before .before in
+    turn-unread (now (c8 .args .text)) (c8 .args .from .at) (c .before .before .before .before .before .before .loop .place) _ _ (omega (arith, c .before .before .before .before .before .before .loop .inv .1, c .before .before .before .before .before .loop-test .taken, c8 .pre)) (c .before .before .before .before .before .before .loop .inv .2) (c .before .before .before .before .before .before .loop .inv .3) (c8 .args .count) (c .before .before .before .before .before .loop-test .taken) _ refl (rw (c .enum-told .given .1) at (c .before .before .before .read-into .ensures))
 
 add-place : tie.Need-add-place Inv-loop μ-loop
 add-place c = omega (arith, c .before .before .before .before .before .before .loop-test .taken, c .before .before .before .before .before .before .before .before .before .fits .count)
