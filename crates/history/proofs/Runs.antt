@@ -101,7 +101,7 @@ legal-before stop l = both-right (running l) (legal l)
 legal-before clear l = λ t. t
 
 -- a failed result of a legal history lies in a run
-failed-in-run : (l : History) → T (legal (failed ∷ l)) → running l ≡ true
+pub failed-in-run : (l : History) → T (legal (failed ∷ l)) → running l ≡ true
 failed-in-run l t = yes-so (running l) (both-left (running l) (legal l) t)
 
 -- K is their number, at most 255

@@ -117,6 +117,19 @@ module _ (cfg : Configuration) where
       (λ a. a-request bytes a (request-clears bytes b s z a))
       (λ n. a-reading (Request bytes) (ap not n)))
 
+  -- "Refused calls and other events' reports count for nothing."
+  pub refused-gives-nothing : (c : Call) (b : Beside) (s : State) (e : ℕ) → outcome cfg c b s .answer ≢ 0 → tokensAt cfg c b s e ≡ []
+  unfolding tokens
+  refused-gives-nothing c b s e h = rw (ne-eqb (outcome cfg c b s .answer) 0 h)
+
+  pub other-reports-give-nothing : (k code : ℕ) (frame : List ℕ) (b : Beside) (s : State) (e : ℕ) → e ≢ k → tokensAt cfg (Report k code frame) b s e ≡ []
+  unfolding tokens
+  other-reports-give-nothing k code frame b s e h = rw (ne-eqb e k h) (nothing (eqb (outcome cfg (Report k code frame) b s .answer) 0))
+    where
+      nothing : (t : Bool) → onlyIf t [] ≡ []
+      nothing true = refl
+      nothing false = refl
+
   -- a call that only reads leaves the state as it was, accepted or refused
   pub query-leaves : (q : Query) (b : Beside) (s : State) → answerTo cfg q b s .state ≡ s
   unfolding readStatus readFrame save

@@ -1,10 +1,10 @@
--- The three conditions that the customer accepts the manager by, each under its sentence. What is said here is said of the outcome of
+-- The three conditions that the customer accepts the manager by, each under its words. What is said here is said of the outcome of
 -- each call as document 01 defines it (specs/); that each call in code has exactly that outcome is the statement of the call itself.
 -- The theorems are proved in the files that the `use` lines name.
 use mathlib.Core.Path.{_≡_}
 use mathlib.Core.Logic.{_≢_, _⊎_, _↔_}
-use mathlib.Core.Bool.{true}
-use mathlib.Core.List.{List, _++_, List·Memᴰ}
+use mathlib.Core.Bool.{Bool, true}
+use mathlib.Core.List.{List, [], _++_, List·Memᴰ}
 use Prim.Native.Nat.{ℕ, _*_, _≤_, _<_}
 use lib.ListN.{length, getD}
 use Rattle.history.specs.StatusByte.{Bit, statusOf}
@@ -12,17 +12,20 @@ use Rattle.history.specs.History.{reading}
 use Rattle.manual.specs.Configuration.{Configuration, events, limitsOf}
 use Rattle.manual.specs.State.{State, recordWidth}
 use Rattle.manual.specs.WellFormed.{lengthsFit, entries, wellFormed}
-use Rattle.manual.specs.Memory.{Entry, noTwice}
+use Rattle.manual.specs.Memory.{Entry, noTwice, store}
+use Rattle.manual.specs.Displacement.{Ruled}
 use Rattle.manual.specs.Answers.{Beside, Outcome, Given, refused, done}
 use Rattle.manual.specs.Image.{imageOf, acceptable, Still, save, saved, restore}
 use Rattle.manual.specs.Diagnostics.{requestReply}
 use Rattle.manual.specs.Replies.{Replies}
-use Rattle.manual.specs.Sequences.{Query, Call, answerTo, outcome, rulesOf, tokensAt, goesOn, savedImage, Reached}
+use Rattle.manual.specs.Sequences.{Query, Call, Report, answerTo, outcome, rulesOf, tokensAt, goesOn, savedImage, Reached, restored}
 use Rattle.manual.specs.EntriesInACall.{Fate, Origin}
+use Rattle.manual.specs.MarkedExamples.{replayed, table}
 use Rattle.manual.proofs.SequencesLaws.{Histories}
 use Rattle.manual.proofs.SequencesLaws as SequencesLaws
 use Rattle.manual.proofs.AnswerIsFirstThatApplies as AnswerIsFirstThatApplies
 use Rattle.manual.proofs.StaysWellFormed as StaysWellFormed
+use Rattle.manual.proofs.OnlyTheNamedEntryLeaves as OnlyTheNamedEntryLeaves
 use Rattle.manual.proofs.OnlyTheNamedEntryLeavesInEveryCall as OnlyTheNamedEntryLeavesInEveryCall
 use Rattle.manual.proofs.RepliesFollowTheSentences as RepliesFollowTheSentences
 use Rattle.manual.proofs.AcceptedImages as AcceptedImages
@@ -31,10 +34,13 @@ use Rattle.manual.proofs.SaveAfterRestore as SaveAfterRestore
 use Rattle.manual.proofs.WellFormedInEverySequence as WellFormedInEverySequence
 use Rattle.manual.proofs.ByteIsReadingInEverySequence as ByteIsReadingInEverySequence
 use Rattle.manual.proofs.NoCallLeftOut as NoCallLeftOut
+use Rattle.manual.proofs.Examples as Examples
 
 -- any configuration whatever
 module _ (cfg : Configuration) where
   -- ---- 1. Total: any call with any arguments, any blocks and board, and anything lent beside them
+  -- "Every public call takes any configuration, blocks, frame or request whatever. It ends, refuses by the numbers of document 01 exactly
+  -- when 01 says, and a refused call leaves every lent block and the board as found." That it ends is proved with its code.
 
   module _ (c : Call) (b : Beside) (s : State) where
     -- "refuses by the numbers of document 01 exactly when 01 says": it answers k exactly when k is the first of its list that applies
@@ -50,6 +56,13 @@ module _ (cfg : Configuration) where
   reading-leaves-all = SequencesLaws.query-leaves cfg
 
   -- ---- 2. Exact
+  -- "Debouncing, the ISO 14229 status bits, confirmation, healing, ageing, fault memory with displacement, diagnostic replies and saved
+  -- image are exactly 01's." What each call does is 01's definition, and these tie the definitions to 01's sentences once more.
+
+  -- "fault memory with displacement": what a store leaves, and what it did, is by one of the rules 1 to 4
+  pub store-is-ruled : (M : ℕ) (priority : ℕ → ℕ) (quiet : ℕ → Bool) (e : ℕ) (frame : List ℕ) (xs : List Entry) → noTwice xs ≡ true
+      → Ruled M priority quiet e frame xs (store M priority quiet e frame xs)
+  store-is-ruled = OnlyTheNamedEntryLeaves.store-is-ruled
 
   -- "diagnostic replies … are exactly 01's": an accepted request has this outcome exactly where a sentence of document 01 gives it
   pub replies-exactly : (request : List ℕ) (b : Beside) (s : State) → requestReply cfg request b s .answer ≡ 0 → (o : Outcome)
@@ -95,8 +108,25 @@ module _ (cfg : Configuration) where
     pub no-event-twice : noTwice (entries cfg s) ≡ true
     no-event-twice = WellFormedInEverySequence.no-event-twice cfg reached
 
-    -- "any sequence of calls": every call leads on, with the tokens that it gives; an accepted fresh begins anew, and an accepted restore
-    -- leads on where its image was saved on the way
+    -- "any sequence of calls": every call leads on, with the tokens that it gives, but for an accepted fresh or restore
     pub no-call-left-out : (c : Call) (b : Beside)
         → Reached cfg (outcome cfg c b s .state) (λ e. tokensAt cfg c b s e ++ H e) ⊎ NoCallLeftOut.Anew cfg b s c
     no-call-left-out = NoCallLeftOut.no-call-left-out cfg reached
+
+    -- "Refused calls and other events' reports count for nothing."
+    pub refused-gives-nothing : (c : Call) (b : Beside) (e : ℕ) → outcome cfg c b s .answer ≢ 0 → tokensAt cfg c b s e ≡ []
+    refused-gives-nothing c b = SequencesLaws.refused-gives-nothing cfg c b s
+
+    pub other-reports-give-nothing : (k code : ℕ) (frame : List ℕ) (b : Beside) (e : ℕ) → e ≢ k
+        → tokensAt cfg (Report k code frame) b s e ≡ []
+    other-reports-give-nothing k code frame b = SequencesLaws.other-reports-give-nothing cfg k code frame b s
+
+    -- "After restoring an image saved in that sequence, the history is the one up to that save, then what follows."
+    pub restored-leads-on : (b : Beside) → save cfg b s .answer ≡ 0
+        → (b′ : Beside) (s′ : State) → restore cfg (savedImage (save cfg b s)) b′ s′ .answer ≡ 0
+        → Reached cfg (restore cfg (savedImage (save cfg b s)) b′ s′ .state) H
+    restored-leads-on = restored reached
+
+-- the definitions make the examples of document 01, E1 to E12: answer, verdict, status, D, g and memory
+pub e1-to-e12 : replayed table ≡ table
+e1-to-e12 = Examples.e1-to-e12
