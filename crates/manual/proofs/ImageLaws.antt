@@ -5,7 +5,7 @@ use mathlib.Core.List.{List, [], _∷_, _++_, append-assoc, append-nil}
 use Prim.Native.Nat.{ℕ, zero, suc, _-_, _*_, _<_}
 use native.Mathlib.Omega.{arith}
 use lib.Dec.{eqb}
-use lib.ListN.{length, getD, take, drop, replicate, length-replicate, getD-replicate, List·getD-append}
+use lib.ListN.{getD, take, drop, replicate, length-replicate, getD-replicate, List·getD-append}
 use lib.Seq.{take-at, drop-at, drop-drop, ext-getD, getD-take}
 use lib.IntN.{pos}
 use Rattle.history.specs.Words.{anyOf}
@@ -14,7 +14,7 @@ use Rattle.manual.specs.Configuration.{Configuration, events, places, en
 use Rattle.manual.specs.State.{State, allStopped, recordWidth, D}
 use Rattle.manual.specs.Memory.{entryWidth, entryCount, bytesInUse}
 use Rattle.manual.specs.WellFormed.{wellFormed}
-use Rattle.manual.specs.Image.{Still, headerLength, imageFrom, memoryBody, overflowBody, imageOf, recordsOf, afterRecords, stateOf, acceptable, anyRuns}
+use Rattle.manual.specs.Image.{Still, headerLength, imageFrom, memoryBody, overflowBody, imageOf, recordsOf, afterRecords, stateOf, acceptable}
 use Rattle.history.proofs.WordsLaws.{both}
 use Rattle.manual.proofs.WordsLaws.{clash, equal-refl}
 use Rattle.manual.proofs.DebouncingLaws.{stopped-zero}

@@ -2,7 +2,7 @@
 -- Memory.antt compute; this is the same as a relation, for a reader who wants to see who leaves. Assumes nothing.
 use mathlib.Core.Path.{_≡_}
 use mathlib.Core.Logic.{_≢_}
-use mathlib.Core.Bool.{Bool, true, false}
+use mathlib.Core.Bool.{Bool, true}
 use mathlib.Core.List.{List, [], _∷_, _++_}
 use Prim.Native.Nat.{ℕ, suc, _≤_, _<_, min}
 use lib.ListN.{length}

@@ -1,8 +1,8 @@
 -- What a step of the code leaves in the lent blocks is what the manual says of the state that they are.
-use mathlib.Core.Path.{_≡_, refl, sym, ap, subst, _∙_}
+use mathlib.Core.Path.{_≡_, sym, ap, subst, _∙_}
 use mathlib.Core.Bool.{Bool, true, false, _||_, cond}
 use mathlib.Core.List.{List}
-use Prim.Native.Nat.{ℕ, _+_, _*_, _≤_, _<_}
+use Prim.Native.Nat.{ℕ, _+_, _*_, _≤_}
 use native.Mathlib.Omega.{arith}
 use lib.IntN.{ℤ, pos}
 use lib.ListN.{length, set}
@@ -13,11 +13,11 @@ use Rattle.manual.specs.declared.Board.{Board}
 use Rattle.manual.specs.declared.StoreAnswer.{StoreAnswer}
 use Rattle.manual.specs.declared.StoreAnswer.the-variants.{Untold}
 use Rattle.manual.specs.declared.Verdict.{Verdict}
-use Rattle.manual.specs.Configuration.{Configuration, events, places, entryFrames, priorityOf, limitsOf}
+use Rattle.manual.specs.Configuration.{Configuration, places, entryFrames, priorityOf, limitsOf}
 use Rattle.manual.specs.State.{State, recordWidth, Stored, opened, stored, storedAt, withStored, D, withD, lent}
-use Rattle.manual.specs.Memory.{entriesOf, memoryOf, without, isLost, store}
+use Rattle.manual.specs.Memory.{entriesOf, memoryOf, without, isLost}
 use Rattle.manual.specs.OneEvent.{happens, entryLeaves, keeps, storedFor, memoryTold, fails, failsDid, stops, clears}
-use Rattle.manual.specs.Debouncing.{Debounced, reported, ticked}
+use Rattle.manual.specs.Debouncing.{Debounced, reported}
 use Rattle.manual.specs.Calls.{applied, appliedDid}
 use Rattle.manual.proofs.ConfigurationLaws.{config-tells}
 use Rattle.config.specs.declared.Limits.{Limits}
@@ -30,7 +30,7 @@ use Rattle.status.specs.declared.AfterFailed.{AfterFailed}
 use Rattle.status.specs.declared.AfterStop.{AfterStop}
 use Rattle.status.specs.Records.{storedIs, recordIs, limits, FailedIs, RoomToRise, StoppedIs}
 use Rattle.status.proofs.RecordsLaws.{step-written, has-room}
-use Rattle.memory.specs.Store.{MayStore, quietIn, Left, leftWith, stores}
+use Rattle.memory.specs.Store.{quietIn, Left, leftWith, stores}
 use Rattle.one_event.specs.Ready.{accepts, BlocksFit, EventFits, Ready}
 use Rattle.one_event.specs.Steps.{Stepped, stepped, tellsMemory, failing, qualifying, applying, reporting, ticking}
 

@@ -3,10 +3,8 @@ use manual::Board;
 use replay_step::Begun;
 use replay_step::Stepped;
 use transcript::Cursor;
-ghost use mathlib.Core.Path.{_≡_};
 ghost use mathlib.Core.Bool.{true};
 ghost use lib.ListN.{length};
-ghost use Rattle.manual.specs.Configuration.{configOk};
 ghost use Rattle.replay_step.specs.Turn.{Playable, Buffers};
 
 fn say(line: &[u8]) {

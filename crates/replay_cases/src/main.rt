@@ -4,8 +4,6 @@ use manual::Board;
 use replay_step::Begun;
 use replay_step::Stepped;
 use transcript::Cursor;
-ghost use mathlib.Core.Path.{_≡_};
-ghost use Prim.Native.Nat.{_≤_};
 ghost use lib.ListN.{length};
 ghost use Rattle.replay_step.specs.Turn.{Playable, Buffers};
 

@@ -12,7 +12,6 @@ use Rattle.transcript.specs.declared.Word.the-variants.{Number, End}
 use Rattle.transcript.specs.Text.{nextRead}
 use Rattle.replay_step.specs.declared.Argument.{Argument}
 use Rattle.replay_step.specs.declared.Argument.the-variants.{Is}
-use Rattle.replay_step.specs.declared.Call.{Call}
 use Rattle.replay_step.specs.declared.Call.the-variants.{Report, Start, Stop, Tick, Clear}
 use Rattle.replay_step.specs.declared.Asked.{Asked}
 use Rattle.replay_step.specs.declared.Asked.the-variants.{Makes, Nothing}

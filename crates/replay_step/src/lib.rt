@@ -6,7 +6,6 @@ use manual::Returned;
 use transcript::Cursor;
 use transcript::Word;
 ghost use mathlib.Core.Path.{_≡_};
-ghost use mathlib.Core.List.{[]};
 ghost use Prim.Native.Nat.{_≤_, _<_};
 ghost use lib.IntN.{pos};
 ghost use lib.ListN.{length, take};
