@@ -28,21 +28,19 @@ loop-holds c = let a = c .before .before .before .args in
     (omega arith, no-turn (covers (now (a .cfg)) (a .code)) (clears (now (a .cfg))) _, refl, refl, refl)
 
 clear-if-covered-requires : tie.Need-clear-if-covered-requires Inv-loop μ-loop
-clear-if-covered-requires c κs = let loop = c .before .before .before .before .loop in
-    let pre = c .before .before .before .before .before .before .before .before .pre in
-    let h : loop .event < events (now (c .before .before .before .before .before .before .before .before .args .cfg)) = omega (arith, c .before .before .before .before .before .events .ensures) in
-    fits-at _ (c .before .before .before .before .before .before .before .before .args .code) _ (pre .0) (pre .1) _ h (loop .inv .1)
-
-add-event : tie.Need-add-event Inv-loop μ-loop
-add-event c = omega arith
-
-loop-less : tie.Need-loop-less Inv-loop μ-loop
-loop-less c = omega arith
+clear-if-covered-requires c κs =
+    let c8 = c .before .before .before .before .before .before .before .before in
+    let loop = c .before .before .before .before .loop in
+    let pre = c8 .pre in
+    let h : loop .event < events (now (c8 .args .cfg)) = omega (arith, c .before .before .before .before .before .events .ensures) in
+    fits-at _ (c8 .args .code) _ (pre .0) (pre .1) _ h (loop .inv .1)
 
 loop-again : tie.Need-loop-again Inv-loop μ-loop
-loop-again c = let loop = c .before .before .before .before .before .before .before .before .before .before .loop in
+loop-again c =
+    let c8 = c .before .before .before .before .before .before .before .before in
+    let loop = c8 .before .before .loop in
     let step = c .before .before .before .before .before .clear-if-covered in
-    let a = c .before .before .before .before .before .before .before .before .before .before .before .before .before .before .args in
+    let a = c8 .before .before .before .before .before .before .args in
     (omega arith, next-turn (covers (now (a .cfg)) (a .code)) (clears (now (a .cfg))) (loop .event) _ (loop .inv .1) (step .ensures _), step .kept .1 .0 ∙ loop .inv .2, step .kept .1 .1 .0 ∙ loop .inv .3, step .kept .1 .1 .1 .0 ∙ loop .inv .4)
 
 overflow-cleared-requires : tie.Need-overflow-cleared-requires Inv-loop μ-loop
@@ -71,8 +69,7 @@ clear-covered-spec =
     events-requires
     loop-holds
     clear-if-covered-requires
-    add-event
-    loop-less
+    (λ c. omega arith) (λ c. omega arith)
     loop-again
     overflow-cleared-requires
     same-length

@@ -3,24 +3,11 @@ use borrow.Author.Needs.{needs}
 use Rattle.clearing.proofs.clear_if_covered.Statement.{statement}
 use Rattle.clearing.proofs.clear_if_covered.Tie as tie
 
-covers-requires : tie.Need-covers-requires
-covers-requires c κs = search needs
-
-clears-requires : tie.Need-clears-requires
-clears-requires c κs = search needs
-
-same-length : tie.Need-same-length
-same-length c = search needs
-
-same-length-2 : tie.Need-same-length-2
-same-length-2 c = search needs
-
-same-length-3 : tie.Need-same-length-3
-same-length-3 c = search needs
-
 returns : tie.Need-returns
-returns c = λ b.
-    let covered = sym (c .before .before .before .before .before .before .before .before .before .before .covers .ensures) ∙ c .before .before .before .before .before .before .before .before .before .if1 .taken in
+returns c =
+    let c8 = c .before .before .before .before .before .before .before .before in
+    λ b.
+    let covered = sym (c8 .before .before .covers .ensures) ∙ c8 .before .if1 .taken in
     rw covered (c .before .before .before .before .before .clears .ensures b)
 
 returns-2 : tie.Need-returns-2
@@ -30,10 +17,6 @@ pub clear-if-covered-spec : {M : Type 1} → statement M
 clear-if-covered-spec =
     tie.close
     (tie.spec
-    covers-requires
-    clears-requires
-    same-length
-    same-length-2
-    same-length-3
+    (λ c κs. search needs) (λ c κs. search needs) (λ c. search needs) (λ c. search needs) (λ c. search needs)
     returns
     returns-2)

@@ -9,15 +9,6 @@ use Rattle.clearing.proofs.is_unknown.Tie as tie
 returns : tie.Need-returns
 returns c = sym (known-where-all _ (c .before .pre) _ (eq-eqb _ _ (c .if1 .taken)))
 
-find-code-requires : tie.Need-find-code-requires
-find-code-requires c κs = search needs
-
-enum-told : tie.Need-enum-told
-enum-told c = search needs
-
-enum-told-2 : tie.Need-enum-told-2
-enum-told-2 c = search needs
-
 returns-2 : tie.Need-returns-2
 returns-2 c = sym (known-where-found _ _ _ (sym (c .before .before .find-code .ensures) ∙ ap searchIs (c .enum-told .given .1)))
 
@@ -26,4 +17,5 @@ returns-3 c = sym (unknown-where-nothing _ _ (ne-eqb _ _ (c .before .before .bef
 
 pub is-unknown-spec : {M : Type 1} → statement M
 is-unknown-spec =
-    tie.close (tie.spec returns find-code-requires enum-told enum-told-2 returns-2 returns-3)
+    tie.close
+    (tie.spec returns (λ c κs. search needs) (λ c. search needs) (λ c. search needs) returns-2 returns-3)

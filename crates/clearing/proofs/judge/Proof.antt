@@ -5,17 +5,8 @@ use borrow.Author.Needs.{needs}
 use Rattle.clearing.proofs.judge.Statement.{statement}
 use Rattle.clearing.proofs.judge.Tie as tie
 
-begin-requires : tie.Need-begin-requires
-begin-requires c κs = search needs
-
-enum-told : tie.Need-enum-told
-enum-told c = search needs
-
 judge-code-requires : tie.Need-judge-code-requires
 judge-code-requires c κs = begun-by _ _ true (c .before .before .begin .ensures) (c .enum-told .given .1)
-
-enum-known-refusal : tie.Need-enum-known-refusal
-enum-known-refusal c = search needs
 
 returns : tie.Need-returns
 unfolding clearRules
@@ -28,4 +19,9 @@ returns-2 c = stopped-by _ _ true (c .before .before .before .begin .ensures) _ 
 pub judge-spec : {M : Type 1} → statement M
 judge-spec =
     tie.close
-    (tie.spec begin-requires enum-told judge-code-requires enum-known-refusal returns returns-2)
+    (tie.spec
+    (λ c κs. search needs) (λ c. search needs)
+    judge-code-requires
+    (λ c. search needs)
+    returns
+    returns-2)

@@ -3,9 +3,6 @@ use borrow.Author.Needs.{needs}
 use Rattle.clearing.proofs.judge_code.Statement.{statement}
 use Rattle.clearing.proofs.judge_code.Tie as tie
 
-is-unknown-requires : tie.Need-is-unknown-requires
-is-unknown-requires c κs = search needs
-
 returns : tie.Need-returns
 unfolding firstThatApplies
 returns c = rw (← c .before .is-unknown .ensures, c .if1 .taken)
@@ -15,4 +12,5 @@ unfolding firstThatApplies
 returns-2 c = rw (← c .before .is-unknown .ensures, c .if1 .left)
 
 pub judge-code-spec : {M : Type 1} → statement M
-judge-code-spec = tie.close (tie.spec is-unknown-requires returns returns-2)
+judge-code-spec = tie.close
+    (tie.spec (λ c κs. search needs) returns returns-2)

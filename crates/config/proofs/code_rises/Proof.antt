@@ -4,18 +4,6 @@ use Rattle.config.proofs.RowsLaws.{rises-after}
 use Rattle.config.proofs.code_rises.Statement.{statement}
 use Rattle.config.proofs.code_rises.Tie as tie
 
-returns : tie.Need-returns
-returns c = search needs
-
-sub-t5 : tie.Need-sub-t5
-sub-t5 c = search needs
-
-number-in-row-requires : tie.Need-number-in-row-requires
-number-in-row-requires c κs = search needs
-
-number-in-row-requires-2 : tie.Need-number-in-row-requires-2
-number-in-row-requires-2 c κs = search needs
-
 returns-2 : tie.Need-returns-2
 returns-2 c =
     rw (
@@ -28,4 +16,5 @@ returns-2 c =
 
 pub code-rises-spec : {M : Type 1} → statement M
 code-rises-spec =
-    tie.close (tie.spec returns sub-t5 number-in-row-requires number-in-row-requires-2 returns-2)
+    tie.close
+    (tie.spec (λ c. search needs) (λ c. search needs) (λ c κs. search needs) (λ c κs. search needs) returns-2)

@@ -35,20 +35,8 @@ fits c = sym (front-is (c .before)) ∙ not-false _ (c .if1 .left)
 at-most : (c : tie.After-events) → c .events .result ≤ 512
 at-most c = rw (c .events .ensures) (n-most _ (fits (c .before)))
 
-front-in-range-requires : tie.Need-front-in-range-requires
-front-in-range-requires c κs = search needs
-
-front-in-range-requires-2 : tie.Need-front-in-range-requires-2
-front-in-range-requires-2 c κs = search needs
-
-front-in-range-requires-3 : tie.Need-front-in-range-requires-3
-front-in-range-requires-3 c κs = search needs
-
 returns : tie.Need-returns
 returns c = rw (judged-in-one-pass, sym (front-is (c .before)) ∙ not-true _ (c .if1 .taken))
-
-events-requires : tie.Need-events-requires
-events-requires c κs = search needs
 
 mul-if2 : tie.Need-mul-if2
 mul-if2 c = let h = at-most c in omega arith
@@ -69,11 +57,9 @@ pub config-ok-spec : {M : Type 1} → statement M
 config-ok-spec =
     tie.close
     (tie.spec
-    front-in-range-requires
-    front-in-range-requires-2
-    front-in-range-requires-3
+    (λ c κs. search needs) (λ c κs. search needs) (λ c κs. search needs)
     returns
-    events-requires
+    (λ c κs. search needs)
     mul-if2
     add-if2
     rows-fit-requires

@@ -5,14 +5,9 @@ use Rattle.config.proofs.SignedInCode.{back}
 use Rattle.config.proofs.count_in_row.Statement.{statement}
 use Rattle.config.proofs.count_in_row.Tie as tie
 
-number-in-row-requires : tie.Need-number-in-row-requires
-number-in-row-requires c κs = search needs
-
-count-of-requires : tie.Need-count-of-requires
-count-of-requires c κs = search needs
-
 returns : tie.Need-returns
 returns c = c .count-of .ensures ∙ ap natOf (back (c .before .number-in-row .result) (c .before .number-in-row .ok) ∙ c .before .number-in-row .ensures)
 
 pub count-in-row-spec : {M : Type 1} → statement M
-count-in-row-spec = tie.close (tie.spec number-in-row-requires count-of-requires returns)
+count-in-row-spec = tie.close
+    (tie.spec (λ c κs. search needs) (λ c κs. search needs) returns)

@@ -3,12 +3,10 @@ use Rattle.manual.specs.Configuration.{events}
 use Rattle.config.proofs.events.Statement.{statement}
 use Rattle.config.proofs.events.Tie as tie
 
-count-at-requires : tie.Need-count-at-requires
-count-at-requires c κs = search needs
-
 returns : tie.Need-returns
 unfolding events
 returns c = c .count-at .ensures
 
 pub events-spec : {M : Type 1} → statement M
-events-spec = tie.close (tie.spec count-at-requires returns)
+events-spec = tie.close
+    (tie.spec (λ c κs. search needs) returns)

@@ -38,12 +38,6 @@ returns c =
       first = c .before .before .before .loop .inv;
     }))
 
-add-event : tie.Need-add-event Inv-loop μ-loop
-add-event c = omega arith
-
-loop-less : tie.Need-loop-less Inv-loop μ-loop
-loop-less c = omega arith
-
 loop-again : tie.Need-loop-again Inv-loop μ-loop
 loop-again c = below-more _ _ (c .before .before .before .loop .inv) (eqb-false _ _ (sym (c .before .has-code .ensures) ∙ c .if1 .left))
 
@@ -60,7 +54,6 @@ find-code-spec =
     loop-holds
     has-code-requires
     returns
-    add-event
-    loop-less
+    (λ c. omega arith) (λ c. omega arith)
     loop-again
     returns-2)

@@ -5,11 +5,9 @@ use borrow.Author.Needs.{needs}
 use Rattle.config.proofs.has_code.Statement.{statement}
 use Rattle.config.proofs.has_code.Tie as tie
 
-code-of-requires : tie.Need-code-of-requires
-code-of-requires c κs = search needs
-
 returns : tie.Need-returns
 returns c = ap (λ (own : ℕ). eqb own (c .before .args .code)) (c .code-of .ensures)
 
 pub has-code-spec : {M : Type 1} → statement M
-has-code-spec = tie.close (tie.spec code-of-requires returns)
+has-code-spec = tie.close
+    (tie.spec (λ c κs. search needs) returns)

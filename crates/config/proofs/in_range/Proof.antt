@@ -3,14 +3,9 @@ use Rattle.config.proofs.SignedInCode.{between-back}
 use Rattle.config.proofs.in_range.Statement.{statement}
 use Rattle.config.proofs.in_range.Tie as tie
 
-number-in-row-requires : tie.Need-number-in-row-requires
-number-in-row-requires c κs = search needs
-
-between-requires : tie.Need-between-requires
-between-requires c κs = search needs
-
 returns : tie.Need-returns
 returns c = between-back (c .before .before .fits .lo) (c .before .before .fits .hi) (c .before .number-in-row .result) (c .before .number-in-row .ok) (c .between .ensures) (c .before .number-in-row .ensures)
 
 pub in-range-spec : {M : Type 1} → statement M
-in-range-spec = tie.close (tie.spec number-in-row-requires between-requires returns)
+in-range-spec = tie.close
+    (tie.spec (λ c κs. search needs) (λ c κs. search needs) returns)

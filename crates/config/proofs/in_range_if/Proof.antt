@@ -3,12 +3,6 @@ use Rattle.config.proofs.SignedInCode.{between-back, zero-is}
 use Rattle.config.proofs.in_range_if.Statement.{statement}
 use Rattle.config.proofs.in_range_if.Tie as tie
 
-number-in-row-requires : tie.Need-number-in-row-requires
-number-in-row-requires c κs = search needs
-
-between-requires : tie.Need-between-requires
-between-requires c κs = search needs
-
 returns : tie.Need-returns
 returns c = rw (c .before .if1 .taken) (between-back (c .before .before .before .fits .lo) (c .before .before .before .fits .hi) (c .before .before .number-in-row .result) (c .before .before .number-in-row .ok) (c .between .ensures) (c .before .before .number-in-row .ensures))
 
@@ -16,4 +10,5 @@ returns-2 : tie.Need-returns-2
 returns-2 c = rw (c .if1 .left, ← c .before .number-in-row .ensures) (zero-is (c .before .number-in-row .result) (c .before .number-in-row .ok))
 
 pub in-range-if-spec : {M : Type 1} → statement M
-in-range-if-spec = tie.close (tie.spec number-in-row-requires between-requires returns returns-2)
+in-range-if-spec = tie.close
+    (tie.spec (λ c κs. search needs) (λ c κs. search needs) returns returns-2)

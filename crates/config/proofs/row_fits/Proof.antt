@@ -3,14 +3,9 @@ use borrow.Author.Needs.{needs}
 use Rattle.config.proofs.row_fits.Statement.{statement}
 use Rattle.config.proofs.row_fits.Tie as tie
 
-row-ok-requires : tie.Need-row-ok-requires
-row-ok-requires c κs = search needs
-
-code-rises-requires : tie.Need-code-rises-requires
-code-rises-requires c κs = search needs
-
 returns : tie.Need-returns
 returns c = λ i. c .before .row-ok .ensures i && c .code-rises .ensures i
 
 pub row-fits-spec : {M : Type 1} → statement M
-row-fits-spec = tie.close (tie.spec row-ok-requires code-rises-requires returns)
+row-fits-spec = tie.close
+    (tie.spec (λ c κs. search needs) (λ c κs. search needs) returns)

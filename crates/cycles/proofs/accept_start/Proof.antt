@@ -28,9 +28,6 @@ Inv-loop cfg records₀ board cycle event₀ event-end records event =
 abbrev μ-loop : tie.MeasureT-loop
 μ-loop cfg records₀ board cycle event₀ event-end records event = event-end - event
 
-events-requires : tie.Need-events-requires Inv-loop μ-loop
-events-requires c κs = search needs
-
 loop-holds : tie.Need-loop-holds Inv-loop μ-loop
 loop-holds c =
     let a = c .before .before .args in
@@ -43,12 +40,6 @@ start-event-requires c κs =
     let below : loop .event < events (now (a .cfg)) = rw (← c .before .before .before .events .ensures) (c .before .loop-test .taken) in
     record-within (now (a .cfg)) (now (a .records)) (loop .records) (loop .event) (c .before .before .before .before .before .pre .0) (loop .inv .1 .1) below
 
-add-event : tie.Need-add-event Inv-loop μ-loop
-add-event c = search needs
-
-loop-less : tie.Need-loop-less Inv-loop μ-loop
-loop-less c = search needs
-
 loop-again : tie.Need-loop-again Inv-loop μ-loop
 loop-again c =
     let a = c .before .before .before .before .before .before .before .before .args in
@@ -60,12 +51,6 @@ loop-again c =
         search needs,
       ),
     )
-
-turned-requires : tie.Need-turned-requires Inv-loop μ-loop
-turned-requires c κs = search needs
-
-same-length : tie.Need-same-length Inv-loop μ-loop
-same-length c = search needs
 
 returns : tie.Need-returns Inv-loop μ-loop
 returns c =
@@ -82,12 +67,10 @@ accept-start-spec =
     (tie.spec
     Inv-loop
     μ-loop
-    events-requires
+    (λ c κs. search needs)
     loop-holds
     start-event-requires
-    add-event
-    loop-less
+    (λ c. search needs) (λ c. search needs)
     loop-again
-    turned-requires
-    same-length
+    (λ c κs. search needs) (λ c. search needs)
     returns)

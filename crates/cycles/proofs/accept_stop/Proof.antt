@@ -25,9 +25,6 @@ Inv-loop cfg records₀ debounce₀ memory₀ board cycle event₀ event-end rec
 abbrev μ-loop : tie.MeasureT-loop
 μ-loop cfg records₀ debounce₀ memory₀ board cycle event₀ event-end records debounce memory event = event-end - event
 
-events-requires : tie.Need-events-requires Inv-loop μ-loop
-events-requires c κs = search needs
-
 loop-holds : tie.Need-loop-holds Inv-loop μ-loop
 loop-holds c =
     let a = c .before .before .before .args in
@@ -36,17 +33,12 @@ loop-holds c =
 
 stop-event-requires : tie.Need-stop-event-requires Inv-loop μ-loop
 stop-event-requires c κs =
-    let a = c .before .before .before .before .before .before .before .before .args in
+    let c8 = c .before .before .before .before .before .before .before .before in
+    let a = c8 .args in
     let s = lent (now (a .records)) (now (a .debounce)) (now (a .memory)) (a .board) in
     let loop = c .before .before .before .before .loop in
     let below : loop .event < events (now (a .cfg)) = rw (← c .before .before .before .before .before .events .ensures) (c .before .before .before .loop-test .taken) in
-    stop-fits (now (a .cfg)) s (a .cycle) (c .before .before .before .before .before .before .before .before .pre) (loop .event) below (loop .inv .1 .0)
-
-add-event : tie.Need-add-event Inv-loop μ-loop
-add-event c = search needs
-
-loop-less : tie.Need-loop-less Inv-loop μ-loop
-loop-less c = search needs
+    stop-fits (now (a .cfg)) s (a .cycle) (c8 .pre) (loop .event) below (loop .inv .1 .0)
 
 loop-again : tie.Need-loop-again Inv-loop μ-loop
 loop-again c =
@@ -59,18 +51,6 @@ loop-again c =
         (search needs, (search needs, search needs)),
       ),
     )
-
-turned-requires : tie.Need-turned-requires Inv-loop μ-loop
-turned-requires c κs = search needs
-
-same-length : tie.Need-same-length Inv-loop μ-loop
-same-length c = search needs
-
-same-length-2 : tie.Need-same-length-2 Inv-loop μ-loop
-same-length-2 c = search needs
-
-same-length-3 : tie.Need-same-length-3 Inv-loop μ-loop
-same-length-3 c = search needs
 
 returns : tie.Need-returns Inv-loop μ-loop
 returns c =
@@ -87,14 +67,10 @@ accept-stop-spec =
     (tie.spec
     Inv-loop
     μ-loop
-    events-requires
+    (λ c κs. search needs)
     loop-holds
     stop-event-requires
-    add-event
-    loop-less
+    (λ c. search needs) (λ c. search needs)
     loop-again
-    turned-requires
-    same-length
-    same-length-2
-    same-length-3
+    (λ c κs. search needs) (λ c. search needs) (λ c. search needs) (λ c. search needs)
     returns)

@@ -5,18 +5,6 @@ use borrow.Author.Needs.{needs}
 use Rattle.cycles.proofs.judge.Statement.{statement}
 use Rattle.cycles.proofs.judge.Tie as tie
 
-begin-requires : tie.Need-begin-requires
-begin-requires c κs = search needs
-
-enum-told : tie.Need-enum-told
-enum-told c = search needs
-
-four-five-requires : tie.Need-four-five-requires
-four-five-requires c κs = search needs
-
-enum-known-refusal : tie.Need-enum-known-refusal
-enum-known-refusal c = search needs
-
 returns : tie.Need-returns
 returns c = judged-by _ _ true (c .before .before .before .begin .ensures) _ (c .before .enum-told .given .1) (c .four-five .ensures)
 
@@ -26,4 +14,7 @@ returns-2 c = stopped-by _ _ true (c .before .before .before .begin .ensures) _ 
 pub judge-spec : {M : Type 1} → statement M
 judge-spec =
     tie.close
-    (tie.spec begin-requires enum-told four-five-requires enum-known-refusal returns returns-2)
+    (tie.spec
+    (λ c κs. search needs) (λ c. search needs) (λ c κs. search needs) (λ c. search needs)
+    returns
+    returns-2)

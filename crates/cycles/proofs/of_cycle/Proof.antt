@@ -6,11 +6,9 @@ use borrow.Author.Needs.{needs}
 use Rattle.cycles.proofs.of_cycle.Statement.{statement}
 use Rattle.cycles.proofs.of_cycle.Tie as tie
 
-cycle-of-requires : tie.Need-cycle-of-requires
-cycle-of-requires c κs = search needs
-
 returns : tie.Need-returns
 returns c = ap (λ (own : ℕ). eqb own (c .before .args .cycle)) (c .cycle-of .ensures)
 
 pub of-cycle-spec : {M : Type 1} → statement M
-of-cycle-spec = tie.close (tie.spec cycle-of-requires returns)
+of-cycle-spec = tie.close
+    (tie.spec (λ c κs. search needs) returns)

@@ -5,15 +5,6 @@ use borrow.Author.Needs.{needs}
 use Rattle.cycles.proofs.start_event.Statement.{statement}
 use Rattle.cycles.proofs.start_event.Tie as tie
 
-of-cycle-requires : tie.Need-of-cycle-requires
-of-cycle-requires c κs = search needs
-
-starts-requires : tie.Need-starts-requires
-starts-requires c κs = search needs
-
-same-length : tie.Need-same-length
-same-length c = search needs
-
 returns : tie.Need-returns
 returns c =
     λ d m b. rw (sym (c .before .before .before .before .before .of-cycle .ensures) ∙ c .before .before .before .before .if1 .taken)
@@ -24,4 +15,5 @@ returns-2 c = λ d m b. rw (sym (c .before .of-cycle .ensures) ∙ c .if1 .left)
 
 pub start-event-spec : {M : Type 1} → statement M
 start-event-spec =
-    tie.close (tie.spec of-cycle-requires starts-requires same-length returns returns-2)
+    tie.close
+    (tie.spec (λ c κs. search needs) (λ c κs. search needs) (λ c. search needs) returns returns-2)

@@ -12,9 +12,6 @@ use Rattle.debounce.proofs.counter_down.Tie as tie
 lowered-requires : tie.Need-lowered-requires
 lowered-requires c κs = rw (toZ-ofZ (c .before .before .before .fits .d), down-back (c .before .before .before .pre .of-row)) (omega arith)
 
-larger-requires : tie.Need-larger-requires
-larger-requires c κs = search needs
-
 returns : tie.Need-returns
 unfolding counterDown alone column
 returns c =
@@ -27,4 +24,5 @@ returns c =
     )
 
 pub counter-down-spec : {M : Type 1} → statement M
-counter-down-spec = tie.close (tie.spec lowered-requires larger-requires returns)
+counter-down-spec = tie.close
+    (tie.spec lowered-requires (λ c κs. search needs) returns)

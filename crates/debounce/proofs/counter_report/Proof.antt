@@ -9,12 +9,6 @@ use Rattle.debounce.proofs.RowsLaws.{low-back, high-back}
 use Rattle.debounce.proofs.counter_report.Statement.{statement}
 use Rattle.debounce.proofs.counter_report.Tie as tie
 
-counter-up-requires : tie.Need-counter-up-requires
-counter-up-requires c κs = search needs
-
-counter-down-requires : tie.Need-counter-down-requires
-counter-down-requires c κs = search needs
-
 returns : tie.Need-returns
 unfolding counterReport alone column
 returns c = simp (c .before .match .keys1, high-back (c .before .before .pre .of-row))
@@ -47,4 +41,4 @@ returns-4 c =
 pub counter-report-spec : {M : Type 1} → statement M
 counter-report-spec =
     tie.close
-    (tie.spec counter-up-requires counter-down-requires returns returns-2 returns-3 returns-4)
+    (tie.spec (λ c κs. search needs) (λ c κs. search needs) returns returns-2 returns-3 returns-4)

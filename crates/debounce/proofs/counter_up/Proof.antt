@@ -12,9 +12,6 @@ use Rattle.debounce.proofs.counter_up.Tie as tie
 raised-requires : tie.Need-raised-requires
 raised-requires c κs = rw (toZ-ofZ (c .before .before .before .fits .d), up-back (c .before .before .before .pre .of-row)) (omega arith)
 
-smaller-requires : tie.Need-smaller-requires
-smaller-requires c κs = search needs
-
 returns : tie.Need-returns
 unfolding counterUp alone column
 returns c =
@@ -27,4 +24,5 @@ returns c =
     )
 
 pub counter-up-spec : {M : Type 1} → statement M
-counter-up-spec = tie.close (tie.spec raised-requires smaller-requires returns)
+counter-up-spec = tie.close
+    (tie.spec raised-requires (λ c κs. search needs) returns)

@@ -6,14 +6,8 @@ use Rattle.debounce.proofs.SmallNumbersLaws.{back, held}
 use Rattle.debounce.proofs.goes_on.Statement.{statement}
 use Rattle.debounce.proofs.goes_on.Tie as tie
 
-cast-plus : tie.Need-cast-plus
-cast-plus c = search needs
-
 plus-requires : tie.Need-plus-requires
 plus-requires c κs = rw (toZ-ofZ (c .fits .waited), back (pos (c .args .ms)) (omega arith)) (omega arith)
-
-smaller-requires : tie.Need-smaller-requires
-smaller-requires c κs = search needs
 
 returns : tie.Need-returns
 returns c =
@@ -27,4 +21,5 @@ returns c =
     )
 
 pub goes-on-spec : {M : Type 1} → statement M
-goes-on-spec = tie.close (tie.spec cast-plus plus-requires smaller-requires returns)
+goes-on-spec = tie.close
+    (tie.spec (λ c. search needs) plus-requires (λ c κs. search needs) returns)

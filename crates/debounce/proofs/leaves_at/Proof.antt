@@ -4,12 +4,10 @@ use Rattle.manual.specs.Debouncing.{leavesAt}
 use Rattle.debounce.proofs.leaves_at.Statement.{statement}
 use Rattle.debounce.proofs.leaves_at.Tie as tie
 
-verdict-at-requires : tie.Need-verdict-at-requires
-verdict-at-requires c κs = search needs
-
 returns : tie.Need-returns
 unfolding leavesAt
 returns c = simp (toZ-ofZ (c .before .fits .d), c .verdict-at .ensures)
 
 pub leaves-at-spec : {M : Type 1} → statement M
-leaves-at-spec = tie.close (tie.spec verdict-at-requires returns)
+leaves-at-spec = tie.close
+    (tie.spec (λ c κs. search needs) returns)

@@ -5,9 +5,6 @@ use Rattle.debounce.proofs.SmallNumbersLaws.{abs-start, held}
 use Rattle.debounce.proofs.lowered.Statement.{statement}
 use Rattle.debounce.proofs.lowered.Tie as tie
 
-start-requires : tie.Need-start-requires
-start-requires c κs = search needs
-
 minus-requires : tie.Need-minus-requires
 minus-requires c κs =
     let a = c .before .args in
@@ -28,4 +25,5 @@ returns c =
     )
 
 pub lowered-spec : {M : Type 1} → statement M
-lowered-spec = tie.close (tie.spec start-requires minus-requires returns)
+lowered-spec = tie.close
+    (tie.spec (λ c κs. search needs) minus-requires returns)

@@ -5,9 +5,6 @@ use Rattle.debounce.proofs.SmallNumbersLaws.{abs-start, held}
 use Rattle.debounce.proofs.raised.Statement.{statement}
 use Rattle.debounce.proofs.raised.Tie as tie
 
-start-requires : tie.Need-start-requires
-start-requires c κs = search needs
-
 plus-requires : tie.Need-plus-requires
 plus-requires c κs =
     let a = c .before .args in
@@ -28,4 +25,5 @@ returns c =
     )
 
 pub raised-spec : {M : Type 1} → statement M
-raised-spec = tie.close (tie.spec start-requires plus-requires returns)
+raised-spec = tie.close
+    (tie.spec (λ c κs. search needs) plus-requires returns)

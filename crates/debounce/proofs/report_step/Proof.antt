@@ -8,21 +8,6 @@ use Rattle.debounce.proofs.SmallNumbersLaws.{held}
 use Rattle.debounce.proofs.report_step.Statement.{statement}
 use Rattle.debounce.proofs.report_step.Tie as tie
 
-internal-report-requires : tie.Need-internal-report-requires
-internal-report-requires c κs = search needs
-
-counter-report-requires : tie.Need-counter-report-requires
-counter-report-requires c κs = search needs
-
-leaves-at-requires : tie.Need-leaves-at-requires
-leaves-at-requires c κs = search needs
-
-time-report-requires : tie.Need-time-report-requires
-time-report-requires c κs = search needs
-
-leaves-at-requires-2 : tie.Need-leaves-at-requires-2
-leaves-at-requires-2 c κs = search needs
-
 returns : tie.Need-returns
 unfolding reported internalReport alone column
 returns c = simp (c .before .match .keys1, toZ-ofZ (c .before .before .fits .d), c .internal-report .ensures)
@@ -53,11 +38,7 @@ pub report-step-spec : {M : Type 1} → statement M
 report-step-spec =
     tie.close
     (tie.spec
-    internal-report-requires
-    counter-report-requires
-    leaves-at-requires
-    time-report-requires
-    leaves-at-requires-2
+    (λ c κs. search needs) (λ c κs. search needs) (λ c κs. search needs) (λ c κs. search needs) (λ c κs. search needs)
     returns
     returns-2
     returns-3)

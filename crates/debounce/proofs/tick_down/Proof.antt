@@ -24,9 +24,6 @@ returns c =
 negated-requires : tie.Need-negated-requires
 negated-requires c κs = rw (toZ-ofZ (c .fits .d)) (omega arith)
 
-bottom-requires : tie.Need-bottom-requires
-bottom-requires c κs = search needs
-
 negated-requires-2 : tie.Need-negated-requires-2
 negated-requires-2 c κs = rw (held (c .bottom .ensures) (c .bottom .ok)) (omega (arith, bottom-small (c .before .before .pre .of-row)))
 
@@ -57,7 +54,7 @@ tick-down-spec =
     tie.close
     (tie.spec
     negated-requires
-    bottom-requires
+    (λ c κs. search needs)
     negated-requires-2
     goes-on-requires
     negated-requires-3

@@ -5,15 +5,6 @@ use Rattle.debounce.proofs.SmallNumbersLaws.{held}
 use Rattle.debounce.proofs.tick_step.Statement.{statement}
 use Rattle.debounce.proofs.tick_step.Tie as tie
 
-top-requires : tie.Need-top-requires
-top-requires c κs = search needs
-
-tick-up-requires : tie.Need-tick-up-requires
-tick-up-requires c κs = search needs
-
-leaves-at-requires : tie.Need-leaves-at-requires
-leaves-at-requires c κs = search needs
-
 returns : tie.Need-returns
 unfolding ticked
 returns c =
@@ -25,15 +16,6 @@ returns c =
       held (c .before .tick-up .ensures) (c .before .tick-up .ok),
       d,
     )
-
-bottom-requires : tie.Need-bottom-requires
-bottom-requires c κs = search needs
-
-tick-down-requires : tie.Need-tick-down-requires
-tick-down-requires c κs = search needs
-
-leaves-at-requires-2 : tie.Need-leaves-at-requires-2
-leaves-at-requires-2 c κs = search needs
 
 returns-2 : tie.Need-returns-2
 unfolding ticked
@@ -61,12 +43,8 @@ pub tick-step-spec : {M : Type 1} → statement M
 tick-step-spec =
     tie.close
     (tie.spec
-    top-requires
-    tick-up-requires
-    leaves-at-requires
+    (λ c κs. search needs) (λ c κs. search needs) (λ c κs. search needs)
     returns
-    bottom-requires
-    tick-down-requires
-    leaves-at-requires-2
+    (λ c κs. search needs) (λ c κs. search needs) (λ c κs. search needs)
     returns-2
     returns-3)

@@ -4,9 +4,6 @@ use Rattle.debounce.proofs.SmallNumbersLaws.{held}
 use Rattle.debounce.proofs.tick_up.Statement.{statement}
 use Rattle.debounce.proofs.tick_up.Tie as tie
 
-top-requires : tie.Need-top-requires
-top-requires c κs = search needs
-
 goes-on-requires : tie.Need-goes-on-requires
 goes-on-requires c κs = rw (toZ-ofZ (c .before .fits .d)) (search needs)
 
@@ -19,4 +16,5 @@ returns c =
     )
 
 pub tick-up-spec : {M : Type 1} → statement M
-tick-up-spec = tie.close (tie.spec top-requires goes-on-requires returns)
+tick-up-spec = tie.close
+    (tie.spec (λ c κs. search needs) goes-on-requires returns)

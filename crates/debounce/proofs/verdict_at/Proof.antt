@@ -5,24 +5,12 @@ use Rattle.debounce.proofs.SmallNumbersLaws.{held}
 use Rattle.debounce.proofs.verdict_at.Statement.{statement}
 use Rattle.debounce.proofs.verdict_at.Tie as tie
 
-top-requires : tie.Need-top-requires
-top-requires c κs = search needs
-
-same-requires : tie.Need-same-requires
-same-requires c κs = search needs
-
 returns : tie.Need-returns
 unfolding verdictAt
 returns c =
     let d = toZ-ofZ (c .before .before .before .fits .d) in
     let top = held (c .before .before .top .ensures) (c .before .before .top .ok) in
     rw (← simp (d, top) at (c .before .same .ensures), c .if1 .taken)
-
-bottom-requires : tie.Need-bottom-requires
-bottom-requires c κs = search needs
-
-same-requires-2 : tie.Need-same-requires-2
-same-requires-2 c κs = search needs
 
 returns-2 : tie.Need-returns-2
 unfolding verdictAt
@@ -54,10 +42,8 @@ pub verdict-at-spec : {M : Type 1} → statement M
 verdict-at-spec =
     tie.close
     (tie.spec
-    top-requires
-    same-requires
+    (λ c κs. search needs) (λ c κs. search needs)
     returns
-    bottom-requires
-    same-requires-2
+    (λ c κs. search needs) (λ c κs. search needs)
     returns-2
     returns-3)

@@ -7,12 +7,6 @@ use Rattle.diagnostics.proofs.clear_request.Tie as tie
 returns : tie.Need-returns
 returns c s = clear-wrong-length _ _ s (c .if1 .taken)
 
-code-in-requires : tie.Need-code-in-requires
-code-in-requires c κs = search needs
-
-is-unknown-requires : tie.Need-is-unknown-requires
-is-unknown-requires c κs = search needs
-
 returns-2 : tie.Need-returns-2
 returns-2 c s = clear-unknown _ _ s (c .before .before .before .if1 .left) (c .before .before .code-in .ensures) (sym (c .before .is-unknown .ensures) ∙ c .if2 .taken)
 
@@ -21,4 +15,5 @@ returns-3 c s = clear-known _ _ s (c .before .before .before .if1 .left) (c .bef
 
 pub clear-request-spec : {M : Type 1} → statement M
 clear-request-spec =
-    tie.close (tie.spec returns code-in-requires is-unknown-requires returns-2 returns-3)
+    tie.close
+    (tie.spec returns (λ c κs. search needs) (λ c κs. search needs) returns-2 returns-3)

@@ -3,16 +3,11 @@ use Rattle.diagnostics.proofs.RepliesLaws.{by-reply, list-all-is}
 use Rattle.diagnostics.proofs.list_all.Statement.{statement}
 use Rattle.diagnostics.proofs.list_all.Tie as tie
 
-list-asked-requires : tie.Need-list-asked-requires
-list-asked-requires c κs = search needs
-
-same-length : tie.Need-same-length
-same-length c = search needs
-
 returns : tie.Need-returns
 returns c b =
     let a = c .before .before .before .before .before .before .before .before .args in
     by-reply _ (a .room .now) _ (list-all-is (a .cfg .now) (a .request .now) _ _) (c .before .before .list-asked .ensures b)
 
 pub list-all-spec : {M : Type 1} → statement M
-list-all-spec = tie.close (tie.spec list-asked-requires same-length returns)
+list-all-spec = tie.close
+    (tie.spec (λ c κs. search needs) (λ c. search needs) returns)

@@ -10,51 +10,22 @@ use Rattle.diagnostics.proofs.RepliesLaws.{written-is-sent, nothing-is-
 use Rattle.diagnostics.proofs.list_asked.Statement.{statement}
 use Rattle.diagnostics.proofs.list_asked.Tie as tie
 
-number-asked-requires : tie.Need-number-asked-requires
-number-asked-requires c κs = search needs
-
 mul-too-long : tie.Need-mul-too-long
 mul-too-long c = omega (arith, number-most _ (c .before .before .before .before .before .pre .config) _ (c .number-asked .ensures))
 
 add-too-long : tie.Need-add-too-long
 add-too-long c = omega (arith, number-most _ (c .before .before .before .before .before .pre .config) _ (c .number-asked .ensures))
 
-suppresses-requires : tie.Need-suppresses-requires
-suppresses-requires c κs = search needs
-
-turn-of-requires : tie.Need-turn-of-requires
-turn-of-requires c κs = search needs
-
-enum-known-code : tie.Need-enum-known-code
-enum-known-code c = search needs
-
-negative-requires : tie.Need-negative-requires
-negative-requires c κs = search needs
-
-enum-told : tie.Need-enum-told
-enum-told c = search needs
-
-enum-told-2 : tie.Need-enum-told-2
-enum-told-2 c = search needs
-
-slice-aggregate-write : tie.Need-slice-aggregate-write
-slice-aggregate-write c = search needs
-
-write-requires : tie.Need-write-requires
-write-requires c κs = search needs
-
 write-lines-requires : tie.Need-write-lines-requires
 write-lines-requires c κs =
-    let t = c .before .before .before .before .before .before .before .before in
+    let c8 = c .before .before .before .before .before .before .before .before in
+    let t = c8 in
     let a = t .before .before .before .before .before .before .before .args in
     let room : 3 + 4 * t .before .before .number-asked .result ≤ length (a .room .now) = ltb-false _ _ (t .turn-of .ensures .fits (c .before .before .before .before .before .before .enum-told2 .given .1)) in
     record {
       config = t .before .before .before .before .before .before .before .pre .config;
       within = omega (arith, lines-length (a .cfg .now) (a .asked) (holding (a .records .now) (a .debounce .now)), t .before .before .number-asked .ensures, append-next _ _ (c .before .before .before .write .ensures), c .before .before .before .write .kept .0);
     }
-
-same-length : tie.Need-same-length
-same-length c = search needs
 
 returns : tie.Need-returns
 returns c b =
@@ -72,9 +43,6 @@ returns-2 c b =
     (list-tests _ _ _ _ (t .before .suppresses .ensures (a .cfg .now)) _ _ (a .asked) (t .before .before .number-asked .ensures))
     (nothing-is-sent _ _ _)
 
-same-length-2 : tie.Need-same-length-2
-same-length-2 c = search needs
-
 returns-3 : tie.Need-returns-3
 returns-3 c b =
     let t = c .before .before .before .before .before .before .before .before .before .before .before in
@@ -90,20 +58,14 @@ pub list-asked-spec : {M : Type 1} → statement M
 list-asked-spec =
     tie.close
     (tie.spec
-    number-asked-requires
+    (λ c κs. search needs)
     mul-too-long
     add-too-long
-    suppresses-requires
-    turn-of-requires
-    enum-known-code
-    negative-requires
-    enum-told
-    enum-told-2
-    slice-aggregate-write
-    write-requires
+    (λ c κs. search needs) (λ c κs. search needs) (λ c. search needs) (λ c κs. search needs) (λ c. search needs)
+    (λ c. search needs) (λ c. search needs) (λ c κs. search needs)
     write-lines-requires
-    same-length
+    (λ c. search needs)
     returns
     returns-2
-    same-length-2
+    (λ c. search needs)
     returns-3)

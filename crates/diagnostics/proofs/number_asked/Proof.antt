@@ -30,12 +30,6 @@ one-more-if-requires c κs =
     let most = count-most (asks (c .before .before .before .before .before .args .cfg .now) (c .before .before .before .before .before .args .asked) (holding (c .before .before .before .before .before .args .records .now) (c .before .before .before .before .before .args .debounce .now))) (c .before .before .loop .event) in
     omega (arith, c .before .before .before .events .ensures, c .before .before .loop .inv .1)
 
-add-event : tie.Need-add-event Inv-loop μ-loop
-add-event c = omega arith
-
-loop-less : tie.Need-loop-less Inv-loop μ-loop
-loop-less c = omega arith
-
 loop-again : tie.Need-loop-again Inv-loop μ-loop
 loop-again c = (omega arith, rw (count-more, ← c .before .is-asked .ensures (c .before .before .before .before .before .before .args .cfg .now), ← c .before .before .before .loop .inv .1) (c .one-more-if .ensures))
 
@@ -54,7 +48,6 @@ number-asked-spec =
     loop-holds
     is-asked-requires
     one-more-if-requires
-    add-event
-    loop-less
+    (λ c. omega arith) (λ c. omega arith)
     loop-again
     returns)

@@ -2,9 +2,6 @@ use borrow.Author.Needs.{needs}
 use Rattle.diagnostics.proofs.one_more_if.Statement.{statement}
 use Rattle.diagnostics.proofs.one_more_if.Tie as tie
 
-add-result : tie.Need-add-result
-add-result c = search needs
-
 returns : tie.Need-returns
 returns c = rw (c .if1 .taken)
 
@@ -12,4 +9,5 @@ returns-2 : tie.Need-returns-2
 returns-2 c = rw (c .if1 .left)
 
 pub one-more-if-spec : {M : Type 1} → statement M
-one-more-if-spec = tie.close (tie.spec add-result returns returns-2)
+one-more-if-spec = tie.close
+    (tie.spec (λ c. search needs) returns returns-2)

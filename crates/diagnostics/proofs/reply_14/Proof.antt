@@ -6,36 +6,12 @@ use Rattle.diagnostics.proofs.RequestLaws.{replies-54, replies-negative
 use Rattle.diagnostics.proofs.reply_14.Statement.{statement}
 use Rattle.diagnostics.proofs.reply_14.Tie as tie
 
-clear-request-requires : tie.Need-clear-request-requires
-clear-request-requires c κs = search needs
-
-enum-known-code : tie.Need-enum-known-code
-enum-known-code c = search needs
-
-slice-aggregate-write : tie.Need-slice-aggregate-write
-slice-aggregate-write c = search needs
-
-write-requires : tie.Need-write-requires
-write-requires c κs = search needs
-
-enum-known-code-2 : tie.Need-enum-known-code-2
-enum-known-code-2 c = search needs
-
-negative-requires : tie.Need-negative-requires
-negative-requires c κs = search needs
-
-same-length : tie.Need-same-length
-same-length c = search needs
-
 returns : tie.Need-returns
 returns c s =
     let r = c .before .before .before .before .before .before .before .before in
     let a = r .before .before .before .args in
     replies-54 (a .cfg .now) (a .request .now) (a .room .now) s _ (r .before .before .before .pre .room-least) (c .before .before .write .ensures)
     (ap (λ (k : ClearRequest). clearRequestIs (a .cfg .now) k s) (sym (c .before .before .before .before .before .before .code .given .1)) ∙ r .clear-request .ensures s)
-
-same-length-2 : tie.Need-same-length-2
-same-length-2 c = search needs
 
 returns-2 : tie.Need-returns-2
 returns-2 c s =
@@ -48,13 +24,8 @@ pub reply-14-spec : {M : Type 1} → statement M
 reply-14-spec =
     tie.close
     (tie.spec
-    clear-request-requires
-    enum-known-code
-    slice-aggregate-write
-    write-requires
-    enum-known-code-2
-    negative-requires
-    same-length
+    (λ c κs. search needs) (λ c. search needs) (λ c. search needs) (λ c κs. search needs) (λ c. search needs)
+    (λ c κs. search needs) (λ c. search needs)
     returns
-    same-length-2
+    (λ c. search needs)
     returns-2)

@@ -12,24 +12,6 @@ cast-high c =
     let row = config-tells _ (c .before .before .before .pre .config) .row _ (c .before .before .before .pre .event-below) in
     omega (arith, c .code-of .ensures)
 
-cast-middle : tie.Need-cast-middle
-cast-middle c = search needs
-
-cast-low : tie.Need-cast-low
-cast-low c = search needs
-
-status-of-requires : tie.Need-status-of-requires
-status-of-requires c κs = search needs
-
-slice-aggregate-write : tie.Need-slice-aggregate-write
-slice-aggregate-write c = search needs
-
-write-requires : tie.Need-write-requires
-write-requires c κs = search needs
-
-same-length : tie.Need-same-length
-same-length c = search needs
-
 returns : tie.Need-returns
 returns c = rw (← c .before .before .before .before .before .before .code-of .ensures, ← c .before .before .before .before .before .status-of .ensures) (c .before .before .write .ensures)
 
@@ -39,10 +21,6 @@ write-line-spec =
     (tie.spec
     code-of-requires
     cast-high
-    cast-middle
-    cast-low
-    status-of-requires
-    slice-aggregate-write
-    write-requires
-    same-length
+    (λ c. search needs) (λ c. search needs) (λ c κs. search needs) (λ c. search needs) (λ c κs. search needs)
+    (λ c. search needs)
     returns)

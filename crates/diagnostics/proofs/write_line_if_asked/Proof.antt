@@ -4,16 +4,10 @@ use Rattle.writing.proofs.WritingLaws.{append-none}
 use Rattle.diagnostics.proofs.write_line_if_asked.Statement.{statement}
 use Rattle.diagnostics.proofs.write_line_if_asked.Tie as tie
 
-is-asked-requires : tie.Need-is-asked-requires
-is-asked-requires c κs = search needs
-
 write-line-requires : tie.Need-write-line-requires
 write-line-requires c κs =
     let fits = c .before .before .before .before .before .pre in
     record { config = fits .config; event-below = fits .event-below; within = rw (sym (c .before .before .is-asked .ensures (c .before .before .before .before .before .args .cfg .now)) ∙ c .before .if1 .taken) at (fits .within) }
-
-same-length : tie.Need-same-length
-same-length c = search needs
 
 returns : tie.Need-returns
 returns c =
@@ -25,4 +19,5 @@ returns-2 c = rw (← c .before .is-asked .ensures (c .before .before .before .b
 
 pub write-line-if-asked-spec : {M : Type 1} → statement M
 write-line-if-asked-spec =
-    tie.close (tie.spec is-asked-requires write-line-requires same-length returns returns-2)
+    tie.close
+    (tie.spec (λ c κs. search needs) write-line-requires (λ c. search needs) returns returns-2)

@@ -38,12 +38,6 @@ write-line-if-asked-requires c κs =
       within = omega (arith, fits .within, join-within asked _ _ below, append-next _ _ (c .before .before .loop .inv .1), c .before .before .loop .inv .2);
     }
 
-add-event : tie.Need-add-event Inv-loop μ-loop
-add-event c = omega arith
-
-loop-less : tie.Need-loop-less Inv-loop μ-loop
-loop-less c = omega arith
-
 loop-again : tie.Need-loop-again Inv-loop μ-loop
 loop-again c = (omega arith, rw join-more (append-then _ _ _ (c .before .before .before .before .before .loop .inv .1) (c .before .before .write-line-if-asked .ensures)), c .before .before .write-line-if-asked .kept .1 .1 .1 .1 .1 .0 ∙ c .before .before .before .before .before .loop .inv .2)
 
@@ -65,8 +59,7 @@ write-lines-spec =
     events-requires
     loop-holds
     write-line-if-asked-requires
-    add-event
-    loop-less
+    (λ c. omega arith) (λ c. omega arith)
     loop-again
     same-length
     returns)

@@ -9,43 +9,18 @@ use borrow.Author.Needs.{needs}
 use Rattle.fresh_state.proofs.fresh.Statement.{statement}
 use Rattle.fresh_state.proofs.fresh.Tie as tie
 
-begin-with-lengths-requires : tie.Need-begin-with-lengths-requires
-begin-with-lengths-requires c κs = search needs
-
-enum-told : tie.Need-enum-told
-enum-told c = search needs
-
 make-fresh-requires : tie.Need-make-fresh-requires
 make-fresh-requires c κs = λ b. begun-with-lengths _ _ true (sym (c .before .before .before .before .before .begin-with-lengths .ensures b) ∙ ap checkNumber (c .before .before .before .enum-told .given .1)) .1
-
-enum-known-refusal : tie.Need-enum-known-refusal
-enum-known-refusal c = search needs
-
-same-length : tie.Need-same-length
-same-length c = search needs
-
-same-length-2 : tie.Need-same-length-2
-same-length-2 c = search needs
-
-same-length-3 : tie.Need-same-length-3
-same-length-3 c = search needs
 
 returns : tie.Need-returns
 unfolding fresh freshRules
 returns c =
-    let begins = c .before .before .before .before .before .before .before .before .before .before .before .begin-with-lengths in
-    let start = c .before .before .before .before .before .before .before .before .before .before .before .before .before .before .before .before .before in
-    accepted-by _ (begins .ensures (start .args .board)) _ _ _ (c .before .before .before .before .before .before .before .before .before .enum-told .given .1)
+    let c8 = c .before .before .before .before .before .before .before .before in
+    let c16 = c8 .before .before .before .before .before .before .before .before in
+    let begins = c8 .before .before .before .begin-with-lengths in
+    let start = c16 .before in
+    accepted-by _ (begins .ensures (start .args .board)) _ _ _ (c8 .before .enum-told .given .1)
     (ap (done alone) (c .before .before .before .before .before .make-fresh .ensures))
-
-same-length-4 : tie.Need-same-length-4
-same-length-4 c = search needs
-
-same-length-5 : tie.Need-same-length-5
-same-length-5 c = search needs
-
-same-length-6 : tie.Need-same-length-6
-same-length-6 c = search needs
 
 returns-2 : tie.Need-returns-2
 unfolding fresh freshRules
@@ -58,15 +33,9 @@ pub fresh-spec : {M : Type 1} → statement M
 fresh-spec =
     tie.close
     (tie.spec
-    begin-with-lengths-requires
-    enum-told
+    (λ c κs. search needs) (λ c. search needs)
     make-fresh-requires
-    enum-known-refusal
-    same-length
-    same-length-2
-    same-length-3
+    (λ c. search needs) (λ c. search needs) (λ c. search needs) (λ c. search needs)
     returns
-    same-length-4
-    same-length-5
-    same-length-6
+    (λ c. search needs) (λ c. search needs) (λ c. search needs)
     returns-2)

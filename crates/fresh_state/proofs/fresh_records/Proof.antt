@@ -24,16 +24,12 @@ write-fresh-record-requires : tie.Need-write-fresh-record-requires Inv-loop μ-l
 write-fresh-record-requires c κs = let h : c .before .before .loop .event < events (now (c .before .before .before .before .before .args .cfg)) = omega (arith, c .before .before .before .events .ensures) in
     omega (arith, c .before .before .before .before .before .pre)
 
-add-event : tie.Need-add-event Inv-loop μ-loop
-add-event c = omega arith
-
-loop-less : tie.Need-loop-less Inv-loop μ-loop
-loop-less c = omega arith
-
 loop-again : tie.Need-loop-again Inv-loop μ-loop
-loop-again c = let loop = c .before .before .before .before .before .loop in
-    let h : loop .event < events (now (c .before .before .before .before .before .before .before .before .args .cfg)) = omega (arith, c .before .before .before .before .before .before .events .ensures) in
-    (omega arith, fresh-more _ _ (c .before .before .before .before .before .before .before .before .pre) _ h (loop .inv .1) (c .before .before .write-fresh-record .ensures), c .before .before .write-fresh-record .kept .0 ∙ loop .inv .2)
+loop-again c =
+    let c8 = c .before .before .before .before .before .before .before .before in
+    let loop = c .before .before .before .before .before .loop in
+    let h : loop .event < events (now (c8 .args .cfg)) = omega (arith, c .before .before .before .before .before .before .events .ensures) in
+    (omega arith, fresh-more _ _ (c8 .pre) _ h (loop .inv .1) (c .before .before .write-fresh-record .ensures), c .before .before .write-fresh-record .kept .0 ∙ loop .inv .2)
 
 same-length : tie.Need-same-length Inv-loop μ-loop
 same-length c = c .before .loop .inv .2
@@ -51,8 +47,7 @@ fresh-records-spec =
     events-requires
     loop-holds
     write-fresh-record-requires
-    add-event
-    loop-less
+    (λ c. omega arith) (λ c. omega arith)
     loop-again
     same-length
     returns)

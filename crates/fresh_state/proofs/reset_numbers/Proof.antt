@@ -17,15 +17,6 @@ abbrev μ-loop : tie.MeasureT-loop
 loop-holds : tie.Need-loop-holds Inv-loop μ-loop
 loop-holds c = (omega arith, fill-none (pos 0) _ _ (omega arith), refl)
 
-write-number-requires : tie.Need-write-number-requires Inv-loop μ-loop
-write-number-requires c κs = omega arith
-
-add-event : tie.Need-add-event Inv-loop μ-loop
-add-event c = omega arith
-
-loop-less : tie.Need-loop-less Inv-loop μ-loop
-loop-less c = omega arith
-
 loop-again : tie.Need-loop-again Inv-loop μ-loop
 loop-again c = let loop = c .before .before .before .before .loop in
     (omega arith, c .before .write-number .ensures ∙ fill-more (pos 0) _ _ (omega arith) _ (omega arith) (omega arith) (loop .inv .1), c .before .write-number .kept .0 ∙ loop .inv .2)
@@ -45,9 +36,7 @@ reset-numbers-spec =
     Inv-loop
     μ-loop
     loop-holds
-    write-number-requires
-    add-event
-    loop-less
+    (λ c κs. omega arith) (λ c. omega arith) (λ c. omega arith)
     loop-again
     same-length
     returns)

@@ -7,16 +7,11 @@ use Rattle.grelpicado.proofs.PanelLaws.{answer-verdict, answer-value, c
 use Rattle.grelpicado.proofs.answer_of.Statement.{statement}
 use Rattle.grelpicado.proofs.answer_of.Tie as tie
 
-answer-number-requires : tie.Need-answer-number-requires
-answer-number-requires c κs = search needs
-
-handed-back-requires : tie.Need-handed-back-requires
-handed-back-requires c κs = search needs
-
 returns : tie.Need-returns
 returns c = λ records debounce memory.
     let a = c .before .before .before .args .returned in
     crossed (ofAnswer (a .answer)) [] (lent records debounce memory (a .board)) (c .before .before .before .args .found) (c .before .answer-number .ensures) (answer-verdict (a .answer)) (answer-value (a .answer)) (c .handed-back .ensures)
 
 pub answer-of-spec : {M : Type 1} → statement M
-answer-of-spec = tie.close (tie.spec answer-number-requires handed-back-requires returns)
+answer-of-spec = tie.close
+    (tie.spec (λ c κs. search needs) (λ c κs. search needs) returns)

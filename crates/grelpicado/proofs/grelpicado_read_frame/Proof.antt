@@ -7,19 +7,11 @@ use Rattle.grelpicado.proofs.PanelLaws.{through}
 use Rattle.grelpicado.proofs.grelpicado_read_frame.Statement.{statement}
 use Rattle.grelpicado.proofs.grelpicado_read_frame.Tie as tie
 
-board-of-requires : tie.Need-board-of-requires
-board-of-requires c κs = search needs
-
-read-frame-requires : tie.Need-read-frame-requires
-read-frame-requires c κs = search needs
-
-frame-of-requires : tie.Need-frame-of-requires
-frame-of-requires c κs = search needs
-
 returns : tie.Need-returns
 returns c = let a = c .before .before .before .before .before .args in
     through crossesWithFrame (λ b. frameRead (a .cfg .now) (a .event) (lent (a .records .now) (a .debounce .now) (a .memory .now) b)) (a .board) (c .frame-of .ensures (lent (a .records .now) (a .debounce .now) (a .memory .now) (c .before .before .board-of .result)) (a .board)) (c .before .read-frame .ensures) (c .before .before .board-of .ensures)
 
 pub grelpicado-read-frame-spec : {M : Type 1} → statement M
 grelpicado-read-frame-spec =
-    tie.close (tie.spec board-of-requires read-frame-requires frame-of-requires returns)
+    tie.close
+    (tie.spec (λ c κs. search needs) (λ c κs. search needs) (λ c κs. search needs) returns)

@@ -8,19 +8,11 @@ use Rattle.grelpicado.proofs.PanelLaws.{through}
 use Rattle.grelpicado.proofs.grelpicado_read_status.Statement.{statement}
 use Rattle.grelpicado.proofs.grelpicado_read_status.Tie as tie
 
-board-of-requires : tie.Need-board-of-requires
-board-of-requires c κs = search needs
-
-read-status-requires : tie.Need-read-status-requires
-read-status-requires c κs = search needs
-
-status-of-requires : tie.Need-status-of-requires
-status-of-requires c κs = search needs
-
 returns : tie.Need-returns
 returns c = let a = c .before .before .before .before .before .args in
     through crossesWithoutBoard (λ b. readStatus (a .cfg .now) (a .event) alone (lent (a .records .now) (a .debounce .now) (a .memory .now) b)) (a .board) (c .status-of .ensures (lent (a .records .now) (a .debounce .now) (a .memory .now) (c .before .before .board-of .result)) (a .board)) (c .before .read-status .ensures) (c .before .before .board-of .ensures)
 
 pub grelpicado-read-status-spec : {M : Type 1} → statement M
 grelpicado-read-status-spec =
-    tie.close (tie.spec board-of-requires read-status-requires status-of-requires returns)
+    tie.close
+    (tie.spec (λ c κs. search needs) (λ c κs. search needs) (λ c κs. search needs) returns)

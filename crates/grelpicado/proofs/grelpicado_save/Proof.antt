@@ -8,22 +8,15 @@ use Rattle.grelpicado.proofs.PanelLaws.{through}
 use Rattle.grelpicado.proofs.grelpicado_save.Statement.{statement}
 use Rattle.grelpicado.proofs.grelpicado_save.Tie as tie
 
-board-of-requires : tie.Need-board-of-requires
-board-of-requires c κs = search needs
-
-save-requires : tie.Need-save-requires
-save-requires c κs = search needs
-
-length-of-requires : tie.Need-length-of-requires
-length-of-requires c κs = search needs
-
-same-length : tie.Need-same-length
-same-length c = search needs
-
 returns : tie.Need-returns
-returns c = let a = c .before .before .before .before .before .before .before .before .before .args in
+returns c =
+    let c8 = c .before .before .before .before .before .before .before .before in
+    let a = c8 .before .args in
     through crossesWithoutBoard (λ b. save (a .cfg .now) (lentRoom (a .room .now)) (lent (a .records .now) (a .debounce .now) (a .memory .now) b)) (a .board) (c .length-of .ensures (lent (a .records .now) (a .debounce .now) (a .memory .now) (c .before .before .before .before .before .board-of .result)) _ (a .board)) (c .before .before .before .save .ensures) (c .before .before .before .before .before .board-of .ensures)
 
 pub grelpicado-save-spec : {M : Type 1} → statement M
 grelpicado-save-spec =
-    tie.close (tie.spec board-of-requires save-requires length-of-requires same-length returns)
+    tie.close
+    (tie.spec
+    (λ c κs. search needs) (λ c κs. search needs) (λ c κs. search needs) (λ c. search needs)
+    returns)

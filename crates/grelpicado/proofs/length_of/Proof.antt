@@ -5,14 +5,9 @@ use Rattle.grelpicado.proofs.PanelLaws.{length-verdict, crossed-without
 use Rattle.grelpicado.proofs.length_of.Statement.{statement}
 use Rattle.grelpicado.proofs.length_of.Tie as tie
 
-length-number-requires : tie.Need-length-number-requires
-length-number-requires c κs = search needs
-
-written-length-requires : tie.Need-written-length-requires
-written-length-requires c κs = search needs
-
 returns : tie.Need-returns
 returns c = λ s room found. crossed-without-board (ofLength (c .before .before .args .answer)) room s found (c .before .length-number .ensures) (length-verdict (c .before .before .args .answer)) (c .written-length .ensures)
 
 pub length-of-spec : {M : Type 1} → statement M
-length-of-spec = tie.close (tie.spec length-number-requires written-length-requires returns)
+length-of-spec = tie.close
+    (tie.spec (λ c κs. search needs) (λ c κs. search needs) returns)

@@ -9,18 +9,6 @@ use Rattle.grelpicado.proofs.PanelLaws.{report-value, crossed}
 use Rattle.grelpicado.proofs.report_of.Statement.{statement}
 use Rattle.grelpicado.proofs.report_of.Tie as tie
 
-report-number-requires : tie.Need-report-number-requires
-report-number-requires c κs = search needs
-
-report-verdict-requires : tie.Need-report-verdict-requires
-report-verdict-requires c κs = search needs
-
-verdict-number-requires : tie.Need-verdict-number-requires
-verdict-number-requires c κs = search needs
-
-handed-back-requires : tie.Need-handed-back-requires
-handed-back-requires c κs = search needs
-
 returns : tie.Need-returns
 returns c = λ records debounce memory.
     let a = c .before .before .before .before .before .args .returned in
@@ -30,8 +18,5 @@ pub report-of-spec : {M : Type 1} → statement M
 report-of-spec =
     tie.close
     (tie.spec
-    report-number-requires
-    report-verdict-requires
-    verdict-number-requires
-    handed-back-requires
+    (λ c κs. search needs) (λ c κs. search needs) (λ c κs. search needs) (λ c κs. search needs)
     returns)

@@ -6,15 +6,6 @@ use Rattle.grelpicado.proofs.PanelLaws.{length-verdict, crossed}
 use Rattle.grelpicado.proofs.request_of.Statement.{statement}
 use Rattle.grelpicado.proofs.request_of.Tie as tie
 
-length-number-requires : tie.Need-length-number-requires
-length-number-requires c κs = search needs
-
-written-length-requires : tie.Need-written-length-requires
-written-length-requires c κs = search needs
-
-handed-back-requires : tie.Need-handed-back-requires
-handed-back-requires c κs = search needs
-
 returns : tie.Need-returns
 returns c = λ records debounce memory room.
     let a = c .before .before .before .before .args .returned in
@@ -23,4 +14,4 @@ returns c = λ records debounce memory room.
 pub request-of-spec : {M : Type 1} → statement M
 request-of-spec =
     tie.close
-    (tie.spec length-number-requires written-length-requires handed-back-requires returns)
+    (tie.spec (λ c κs. search needs) (λ c κs. search needs) (λ c κs. search needs) returns)

@@ -6,14 +6,9 @@ use Rattle.grelpicado.proofs.PanelLaws.{status-verdict, crossed-without
 use Rattle.grelpicado.proofs.status_of.Statement.{statement}
 use Rattle.grelpicado.proofs.status_of.Tie as tie
 
-status-number-requires : tie.Need-status-number-requires
-status-number-requires c κs = search needs
-
-status-byte-requires : tie.Need-status-byte-requires
-status-byte-requires c κs = search needs
-
 returns : tie.Need-returns
 returns c = λ s found. crossed-without-board (ofStatus (c .before .before .args .answer)) [] s found (c .before .status-number .ensures) (status-verdict (c .before .before .args .answer)) (c .status-byte .ensures)
 
 pub status-of-spec : {M : Type 1} → statement M
-status-of-spec = tie.close (tie.spec status-number-requires status-byte-requires returns)
+status-of-spec = tie.close
+    (tie.spec (λ c κs. search needs) (λ c κs. search needs) returns)

@@ -23,12 +23,10 @@ write-image-requires c κs =
     let long = cut-long _ _ _ (pre .0) used in
     (omega (arith, long, size-most _ _ _ (pre .0), used), omega (arith, long, pre .1, used))
 
-same-length : tie.Need-same-length
-same-length c = search needs
-
 returns : tie.Need-returns
 returns c =
-    let start = c .before .before .before .before .before .before .before .before .before in
+    let c8 = c .before .before .before .before .before .before .before .before in
+    let start = c8 .before in
     let a = start .args in
     λ d running. c .before .before .write-image .ensures
     ∙ ap (λ (l : List ℕ). filled l (now (a .room)))
@@ -41,5 +39,5 @@ accept-save-spec =
     used-length-requires
     slice-aggregate-write-image
     write-image-requires
-    same-length
+    (λ c. search needs)
     returns)

@@ -10,18 +10,6 @@ use borrow.Author.Needs.{needs}
 use Rattle.image.proofs.bodies_ok.Statement.{statement}
 use Rattle.image.proofs.bodies_ok.Tie as tie
 
-events-requires : tie.Need-events-requires
-events-requires c κs = search needs
-
-places-requires : tie.Need-places-requires
-places-requires c κs = search needs
-
-entry-frames-requires : tie.Need-entry-frames-requires
-entry-frames-requires c κs = search needs
-
-records-ok-requires : tie.Need-records-ok-requires
-records-ok-requires c κs = search needs
-
 entries-ok-requires : tie.Need-entries-ok-requires
 entries-ok-requires c κs = let t = config-tells _ (c .before .before .before .before .before .before .pre .accepted) in
     record {
@@ -44,9 +32,6 @@ pub bodies-ok-spec : {M : Type 1} → statement M
 bodies-ok-spec =
     tie.close
     (tie.spec
-    events-requires
-    places-requires
-    entry-frames-requires
-    records-ok-requires
+    (λ c κs. search needs) (λ c κs. search needs) (λ c κs. search needs) (λ c κs. search needs)
     entries-ok-requires
     returns)

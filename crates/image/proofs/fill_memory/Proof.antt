@@ -7,21 +7,17 @@ use borrow.Author.Needs.{needs}
 use Rattle.image.proofs.fill_memory.Statement.{statement}
 use Rattle.image.proofs.fill_memory.Tie as tie
 
-write-requires : tie.Need-write-requires
-write-requires c κs = search needs
-
 zero-from-requires : tie.Need-zero-from-requires
 zero-from-requires c κs = omega (arith, append-next _ _ (c .before .before .before .write .ensures))
 
-same-length : tie.Need-same-length
-same-length c = search needs
-
 returns : tie.Need-returns
 returns c =
-    front-written (now (c .before .before .before .before .before .before .before .before .before .before .args .used))
-    (now (c .before .before .before .before .before .before .before .before .before .before .args .memory))
-    (c .before .before .before .before .before .before .before .before .before .before .pre) (c .before .before .before .before .before .before .write .ensures)
+    let c8 = c .before .before .before .before .before .before .before .before in
+    front-written (now (c8 .before .before .args .used))
+    (now (c8 .before .before .args .memory))
+    (c8 .before .before .pre) (c .before .before .before .before .before .before .write .ensures)
     (c .before .before .zero-from .ensures)
 
 pub fill-memory-spec : {M : Type 1} → statement M
-fill-memory-spec = tie.close (tie.spec write-requires zero-from-requires same-length returns)
+fill-memory-spec = tie.close
+    (tie.spec (λ c κs. search needs) zero-from-requires (λ c. search needs) returns)

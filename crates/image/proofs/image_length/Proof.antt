@@ -9,9 +9,6 @@ use borrow.Author.Needs.{needs}
 use Rattle.image.proofs.image_length.Statement.{statement}
 use Rattle.image.proofs.image_length.Tie as tie
 
-add-result : tie.Need-add-result
-add-result c = search needs
-
 used-length-requires : tie.Need-used-length-requires
 used-length-requires c κs = counted _ _ _ (c .before .before .pre)
 
@@ -28,4 +25,5 @@ returns c =
 
 pub image-length-spec : {M : Type 1} → statement M
 image-length-spec =
-    tie.close (tie.spec add-result used-length-requires add-result-2 add-result-3 returns)
+    tie.close
+    (tie.spec (λ c. search needs) used-length-requires add-result-2 add-result-3 returns)

@@ -21,20 +21,11 @@ right c = sym (c .before .length-ok .ensures) ∙ not-false _ (c .if1 .left)
 least : (c : tie.Else1) → memoryAt (now (c .before .before .before .args .cfg)) + 2 ≤ length (now (c .before .before .before .args .image))
 least c = length-least _ _ (right c)
 
-length-ok-requires : tie.Need-length-ok-requires
-length-ok-requires c κs = search needs
-
 returns : tie.Need-returns
 returns c = sym (refused-by-length _ _ (sym (c .before .length-ok .ensures) ∙ not-true _ (c .if1 .taken)))
 
-memory-at-requires : tie.Need-memory-at-requires
-memory-at-requires c κs = search needs
-
 sub-end : tie.Need-sub-end
 sub-end c = omega (arith, least (c .before))
-
-sub-header : tie.Need-sub-header
-sub-header c = search needs
 
 sub-header-2 : tie.Need-sub-header-2
 sub-header-2 c = omega (arith, least (c .before), c .memory-at .ensures)
@@ -42,21 +33,9 @@ sub-header-2 c = omega (arith, least (c .before), c .memory-at .ensures)
 header-requires : tie.Need-header-requires
 header-requires c κs = omega (arith, least (c .before), length-most _ _ (right (c .before)) (c .before .before .before .before .pre), c .memory-at .ensures)
 
-slice-aggregate-same-bytes : tie.Need-slice-aggregate-same-bytes
-slice-aggregate-same-bytes c = search needs
-
 slice-aggregate-same-bytes-2 : tie.Need-slice-aggregate-same-bytes-2
 slice-aggregate-same-bytes-2 c =
     sym (length-take-le 20 (now (c .before .before .before .before .before .before .before .args .image)) (omega (arith, least (c .before .before .before .before))))
-
-same-bytes-requires : tie.Need-same-bytes-requires
-same-bytes-requires c κs = search needs
-
-sub-bodies-ok : tie.Need-sub-bodies-ok
-sub-bodies-ok c = search needs
-
-part-bodies-ok-start : tie.Need-part-bodies-ok-start
-part-bodies-ok-start c = search needs
 
 part-bodies-ok-end : tie.Need-part-bodies-ok-end
 part-bodies-ok-end c = omega (arith, least (c .before .before .before .before .before), c .before .before .before .before .memory-at .ensures)
@@ -67,41 +46,35 @@ sub-bodies-ok-2 c = omega (arith, least (c .before .before .before .before .befo
 part-bodies-ok-start-2 : tie.Need-part-bodies-ok-start-2
 part-bodies-ok-start-2 c = omega (arith, least (c .before .before .before .before .before .before), c .before .before .before .before .before .memory-at .ensures)
 
-part-bodies-ok-end-2 : tie.Need-part-bodies-ok-end-2
-part-bodies-ok-end-2 c = search needs
-
-bodies-ok-requires : tie.Need-bodies-ok-requires
-bodies-ok-requires c κs = search needs
-
 shared-slice-read-result : tie.Need-shared-slice-read-result
-shared-slice-read-result c = omega (arith, least (c .before .before .before .before .before .before .before .before .before))
+shared-slice-read-result c =
+    let c8 = c .before .before .before .before .before .before .before .before in
+    omega (arith, least (c8 .before))
 
 returns-2 : tie.Need-returns-2
 returns-2 c =
-    judged-right _ _ (right (c .before .before .before .before .before .before .before .before .before))
-    (c .before .before .before .before .before .before .before .before .memory-at .ensures) (c .before .before .before .before .before .before .before .header .ensures)
+    let c8 = c .before .before .before .before .before .before .before .before in
+    judged-right _ _ (right (c8 .before))
+    (c8 .memory-at .ensures) (c .before .before .before .before .before .before .before .header .ensures)
     (c .before .before .before .before .same-bytes .ensures) (c .before .bodies-ok .ensures)
 
 pub image-ok-spec : {M : Type 1} → statement M
 image-ok-spec =
     tie.close
     (tie.spec
-    length-ok-requires
+    (λ c κs. search needs)
     returns
-    memory-at-requires
+    (λ c κs. search needs)
     sub-end
-    sub-header
+    (λ c. search needs)
     sub-header-2
     header-requires
-    slice-aggregate-same-bytes
+    (λ c. search needs)
     slice-aggregate-same-bytes-2
-    same-bytes-requires
-    sub-bodies-ok
-    part-bodies-ok-start
+    (λ c κs. search needs) (λ c. search needs) (λ c. search needs)
     part-bodies-ok-end
     sub-bodies-ok-2
     part-bodies-ok-start-2
-    part-bodies-ok-end-2
-    bodies-ok-requires
+    (λ c. search needs) (λ c κs. search needs)
     shared-slice-read-result
     returns-2)

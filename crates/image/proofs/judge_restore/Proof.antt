@@ -10,12 +10,6 @@ use borrow.Author.Needs.{needs}
 use Rattle.image.proofs.judge_restore.Statement.{statement}
 use Rattle.image.proofs.judge_restore.Tie as tie
 
-begin-with-lengths-requires : tie.Need-begin-with-lengths-requires
-begin-with-lengths-requires c κs = search needs
-
-enum-told : tie.Need-enum-told
-enum-told c = search needs
-
 image-ok-requires : tie.Need-image-ok-requires
 image-ok-requires c κs = let b : Board = record { running = allStopped; overflow = false } in
     begun-accepted _ (now (c .before .before .before .before .before .before .args .image)) _ _ _ b
@@ -25,9 +19,6 @@ returns : tie.Need-returns
 returns c =
     λ b. judged-go _ _ _ _ _ b (sym (c .before .before .before .before .begin-with-lengths .ensures b) ∙ ap checkNumber (c .before .before .enum-told .given .1))
     (c .before .image-ok .ensures) (c .if1 .taken)
-
-enum-known-r : tie.Need-enum-known-r
-enum-known-r c = search needs
 
 returns-2 : tie.Need-returns-2
 returns-2 c =
@@ -42,10 +33,9 @@ pub judge-restore-spec : {M : Type 1} → statement M
 judge-restore-spec =
     tie.close
     (tie.spec
-    begin-with-lengths-requires
-    enum-told
+    (λ c κs. search needs) (λ c. search needs)
     image-ok-requires
     returns
-    enum-known-r
+    (λ c. search needs)
     returns-2
     returns-3)

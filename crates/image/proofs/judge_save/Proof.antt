@@ -7,27 +7,14 @@ use borrow.Author.Needs.{needs}
 use Rattle.image.proofs.judge_save.Statement.{statement}
 use Rattle.image.proofs.judge_save.Tie as tie
 
-begin-requires : tie.Need-begin-requires
-begin-requires c κs = search needs
-
-enum-told : tie.Need-enum-told
-enum-told c = search needs
-
 image-length-requires : tie.Need-image-length-requires
 image-length-requires c κs = let a = c .before .before .before .before .before .before .args in
     begun-savable _ (now (a .room)) _ (now (a .debounce)) _ (a .board) (sym (c .before .before .begin .ensures) ∙ ap checkNumber (c .enum-told .given .1))
 
-any-runs-requires : tie.Need-any-runs-requires
-any-runs-requires c κs = search needs
-
-first-of-requires : tie.Need-first-of-requires
-first-of-requires c κs = search needs
-
-enum-known-r : tie.Need-enum-known-r
-enum-known-r c = search needs
-
 returns : tie.Need-returns
-returns c = let a = c .before .before .before .before .before .before .before .before .before .args in
+returns c =
+    let c8 = c .before .before .before .before .before .before .before .before in
+    let a = c8 .before .args in
     c .first-of .ensures
     ∙ judged-on _ (now (a .room)) _ _ _ _
     (sym (c .before .before .before .before .before .begin .ensures) ∙ ap checkNumber (c .before .before .before .enum-told .given .1)) (c .before .any-runs .ensures)
@@ -40,11 +27,8 @@ pub judge-save-spec : {M : Type 1} → statement M
 judge-save-spec =
     tie.close
     (tie.spec
-    begin-requires
-    enum-told
+    (λ c κs. search needs) (λ c. search needs)
     image-length-requires
-    any-runs-requires
-    first-of-requires
-    enum-known-r
+    (λ c κs. search needs) (λ c κs. search needs) (λ c. search needs)
     returns
     returns-2)

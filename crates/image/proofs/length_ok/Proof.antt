@@ -7,26 +7,8 @@ use borrow.Author.Needs.{needs}
 use Rattle.image.proofs.length_ok.Statement.{statement}
 use Rattle.image.proofs.length_ok.Tie as tie
 
-memory-at-requires : tie.Need-memory-at-requires
-memory-at-requires c κs = search needs
-
 returns : tie.Need-returns
 returns c = sym (too-short _ _ (c .before .memory-at .ensures) (c .if1 .taken))
-
-sub-rest : tie.Need-sub-rest
-sub-rest c = search needs
-
-part-rest-start : tie.Need-part-rest-start
-part-rest-start c = search needs
-
-part-rest-end : tie.Need-part-rest-end
-part-rest-end c = search needs
-
-places-requires : tie.Need-places-requires
-places-requires c κs = search needs
-
-entry-count-requires : tie.Need-entry-count-requires
-entry-count-requires c κs = search needs
 
 returns-2 : tie.Need-returns-2
 returns-2 c =
@@ -64,13 +46,9 @@ pub length-ok-spec : {M : Type 1} → statement M
 length-ok-spec =
     tie.close
     (tie.spec
-    memory-at-requires
+    (λ c κs. search needs)
     returns
-    sub-rest
-    part-rest-start
-    part-rest-end
-    places-requires
-    entry-count-requires
+    (λ c. search needs) (λ c. search needs) (λ c. search needs) (λ c κs. search needs) (λ c κs. search needs)
     returns-2
     used-length-requires
     add-result

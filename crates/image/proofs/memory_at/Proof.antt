@@ -5,17 +5,12 @@ use borrow.Author.Needs.{needs}
 use Rattle.image.proofs.memory_at.Statement.{statement}
 use Rattle.image.proofs.memory_at.Tie as tie
 
-events-requires : tie.Need-events-requires
-events-requires c κs = search needs
-
 mul-result : tie.Need-mul-result
 mul-result c = let t = config-tells _ (c .before .pre) in omega (arith, c .events .ensures, t .n-most)
 
 add-result : tie.Need-add-result
 add-result c = let t = config-tells _ (c .before .pre) in omega (arith, c .events .ensures, t .n-most)
 
-returns : tie.Need-returns
-returns c = search needs
-
 pub memory-at-spec : {M : Type 1} → statement M
-memory-at-spec = tie.close (tie.spec events-requires mul-result add-result returns)
+memory-at-spec = tie.close
+    (tie.spec (λ c κs. search needs) mul-result add-result (λ c. search needs))

@@ -8,46 +8,22 @@ use borrow.Author.Needs.{needs}
 use Rattle.image.proofs.restore.Statement.{statement}
 use Rattle.image.proofs.restore.Tie as tie
 
-judge-restore-requires : tie.Need-judge-restore-requires
-judge-restore-requires c κs = search needs
-
-enum-told : tie.Need-enum-told
-enum-told c = search needs
-
 accept-restore-requires : tie.Need-accept-restore-requires
 accept-restore-requires c κs =
-    let board = c .before .before .before .before .before .before .before .before .before .before .before .before .args .board in
+    let c8 = c .before .before .before .before .before .before .before .before in
+    let board = c8 .before .before .before .before .args .board in
     restore-ready _ _ _ _ _ board
     (passed-by _ (c .before .before .before .before .before .judge-restore .ensures board) (c .before .before .before .enum-told .given .1))
-
-enum-known-r : tie.Need-enum-known-r
-enum-known-r c = search needs
-
-same-length : tie.Need-same-length
-same-length c = search needs
-
-same-length-2 : tie.Need-same-length-2
-same-length-2 c = search needs
-
-same-length-3 : tie.Need-same-length-3
-same-length-3 c = search needs
 
 returns : tie.Need-returns
 unfolding restore
 returns c =
-    let board = c .before .before .before .before .before .before .before .before .before .before .before .before .before .before .before .before .before .before .args .board in
-    let judge = c .before .before .before .before .before .before .before .before .before .before .before .judge-restore in
-    accepted-by _ (judge .ensures board) _ _ _ (c .before .before .before .before .before .before .before .before .before .enum-told .given .1)
+    let c8 = c .before .before .before .before .before .before .before .before in
+    let c16 = c8 .before .before .before .before .before .before .before .before in
+    let board = c16 .before .before .args .board in
+    let judge = c8 .before .before .before .judge-restore in
+    accepted-by _ (judge .ensures board) _ _ _ (c8 .before .enum-told .given .1)
     (ap (done alone) (c .before .before .before .before .before .accept-restore .ensures))
-
-same-length-4 : tie.Need-same-length-4
-same-length-4 c = search needs
-
-same-length-5 : tie.Need-same-length-5
-same-length-5 c = search needs
-
-same-length-6 : tie.Need-same-length-6
-same-length-6 c = search needs
 
 returns-2 : tie.Need-returns-2
 unfolding restore
@@ -59,15 +35,9 @@ pub restore-spec : {M : Type 1} → statement M
 restore-spec =
     tie.close
     (tie.spec
-    judge-restore-requires
-    enum-told
+    (λ c κs. search needs) (λ c. search needs)
     accept-restore-requires
-    enum-known-r
-    same-length
-    same-length-2
-    same-length-3
+    (λ c. search needs) (λ c. search needs) (λ c. search needs) (λ c. search needs)
     returns
-    same-length-4
-    same-length-5
-    same-length-6
+    (λ c. search needs) (λ c. search needs) (λ c. search needs)
     returns-2)

@@ -9,9 +9,6 @@ use borrow.Author.Needs.{needs}
 use Rattle.image.proofs.used_length.Statement.{statement}
 use Rattle.image.proofs.used_length.Tie as tie
 
-entry-frames-requires : tie.Need-entry-frames-requires
-entry-frames-requires c κs = search needs
-
 bytes-in-use-requires : tie.Need-bytes-in-use-requires
 bytes-in-use-requires c κs =
     let t = config-tells _ (c .before .before .pre .accepted) in
@@ -21,4 +18,5 @@ returns : tie.Need-returns
 returns c = c .bytes-in-use .ensures ∙ ap (λ (k : ℕ). bytesInUse k (entryCount (now (c .before .before .before .args .memory)))) (c .before .entry-frames .ensures)
 
 pub used-length-spec : {M : Type 1} → statement M
-used-length-spec = tie.close (tie.spec entry-frames-requires bytes-in-use-requires returns)
+used-length-spec = tie.close
+    (tie.spec (λ c κs. search needs) bytes-in-use-requires returns)

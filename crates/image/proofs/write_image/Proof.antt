@@ -8,15 +8,6 @@ use borrow.Author.Needs.{needs}
 use Rattle.image.proofs.write_image.Statement.{statement}
 use Rattle.image.proofs.write_image.Tie as tie
 
-header-requires : tie.Need-header-requires
-header-requires c κs = search needs
-
-slice-aggregate-write : tie.Need-slice-aggregate-write
-slice-aggregate-write c = search needs
-
-write-requires : tie.Need-write-requires
-write-requires c κs = search needs
-
 write-requires-2 : tie.Need-write-requires-2
 write-requires-2 c κs = omega (arith, append-next _ _ (c .before .before .before .write .ensures))
 
@@ -26,25 +17,18 @@ write-requires-3 c κs =
     let next2 = append-next _ _ (c .before .before .before .write2 .ensures) in
     omega (arith, next, next2)
 
-flag-requires : tie.Need-flag-requires
-flag-requires c κs = search needs
-
-slice-aggregate-write-2 : tie.Need-slice-aggregate-write-2
-slice-aggregate-write-2 c = search needs
-
 write-requires-4 : tie.Need-write-requires-4
 write-requires-4 c κs =
-    let next = append-next _ _ (c .before .before .before .before .before .before .before .before .before .before .before .before .before .write .ensures) in
-    let next2 = append-next _ _ (c .before .before .before .before .before .before .before .before .before .write2 .ensures) in
+    let c8 = c .before .before .before .before .before .before .before .before in
+    let next = append-next _ _ (c8 .before .before .before .before .before .write .ensures) in
+    let next2 = append-next _ _ (c8 .before .write2 .ensures) in
     let next3 = append-next _ _ (c .before .before .before .before .before .write3 .ensures) in
     omega (arith, next, next2, next3)
 
-same-length : tie.Need-same-length
-same-length c = search needs
-
 returns : tie.Need-returns
 returns c =
-    let third = c .before .before .before .before .before .before .before .before in
+    let c8 = c .before .before .before .before .before .before .before .before in
+    let third = c8 in
     let second = third .before .before .before .before in
     let first = second .before .before .before .before in
     let start = first .before .before .before .before .before .before .before in
@@ -57,13 +41,10 @@ pub write-image-spec : {M : Type 1} → statement M
 write-image-spec =
     tie.close
     (tie.spec
-    header-requires
-    slice-aggregate-write
-    write-requires
+    (λ c κs. search needs) (λ c. search needs) (λ c κs. search needs)
     write-requires-2
     write-requires-3
-    flag-requires
-    slice-aggregate-write-2
+    (λ c κs. search needs) (λ c. search needs)
     write-requires-4
-    same-length
+    (λ c. search needs)
     returns)

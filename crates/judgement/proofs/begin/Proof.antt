@@ -8,14 +8,8 @@ use borrow.Author.Needs.{needs}
 use Rattle.judgement.proofs.begin.Statement.{statement}
 use Rattle.judgement.proofs.begin.Tie as tie
 
-config-ok-requires : tie.Need-config-ok-requires
-config-ok-requires c κs = search needs
-
 well-formed-requires : tie.Need-well-formed-requires
 well-formed-requires c κs = sym (c .before .config-ok .ensures) ∙ c .if1 .taken
-
-first-of-requires : tie.Need-first-of-requires
-first-of-requires c κs = search needs
 
 returns : tie.Need-returns
 returns c =
@@ -25,4 +19,5 @@ returns c =
     (⊎-elim (λ v. rw (v .0 .taken) (v .2 ∙ v .1 .ensures)) (λ v. rw (v .1, v .0 .left)) (c .before .if1 .came))
 
 pub begin-spec : {M : Type 1} → statement M
-begin-spec = tie.close (tie.spec config-ok-requires well-formed-requires first-of-requires returns)
+begin-spec = tie.close
+    (tie.spec (λ c κs. search needs) well-formed-requires (λ c κs. search needs) returns)

@@ -8,14 +8,8 @@ use borrow.Author.Needs.{needs}
 use Rattle.judgement.proofs.begin_with_lengths.Statement.{statement}
 use Rattle.judgement.proofs.begin_with_lengths.Tie as tie
 
-config-ok-requires : tie.Need-config-ok-requires
-config-ok-requires c κs = search needs
-
 lengths-fit-requires : tie.Need-lengths-fit-requires
 lengths-fit-requires c κs = sym (c .before .config-ok .ensures) ∙ c .if1 .taken
-
-first-of-requires : tie.Need-first-of-requires
-first-of-requires c κs = search needs
 
 returns : tie.Need-returns
 returns c =
@@ -27,4 +21,5 @@ returns c =
 
 pub begin-with-lengths-spec : {M : Type 1} → statement M
 begin-with-lengths-spec =
-    tie.close (tie.spec config-ok-requires lengths-fit-requires first-of-requires returns)
+    tie.close
+    (tie.spec (λ c κs. search needs) lengths-fit-requires (λ c κs. search needs) returns)

@@ -7,15 +7,6 @@ use borrow.Author.Needs.{needs}
 use Rattle.judgement.proofs.lengths_fit.Statement.{statement}
 use Rattle.judgement.proofs.lengths_fit.Tie as tie
 
-events-requires : tie.Need-events-requires
-events-requires c κs = search needs
-
-places-requires : tie.Need-places-requires
-places-requires c κs = search needs
-
-entry-frames-requires : tie.Need-entry-frames-requires
-entry-frames-requires c κs = search needs
-
 memory-length-requires : tie.Need-memory-length-requires
 memory-length-requires c κs = let t = config-tells _ (c .before .before .before .before .before .pre) in (rw (c .before .places .ensures) (t .M-most), rw (c .entry-frames .ensures) (t .payload-most))
 
@@ -30,9 +21,7 @@ pub lengths-fit-spec : {M : Type 1} → statement M
 lengths-fit-spec =
     tie.close
     (tie.spec
-    events-requires
-    places-requires
-    entry-frames-requires
+    (λ c κs. search needs) (λ c κs. search needs) (λ c κs. search needs)
     memory-length-requires
     mul-result
     returns)

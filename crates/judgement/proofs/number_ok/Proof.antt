@@ -17,9 +17,6 @@ row-of-requires c κs = let t = config-tells _ (c .pre .accepted) in omega (arit
 cycle-of-requires : tie.Need-cycle-of-requires
 cycle-of-requires c κs = let t = config-tells _ (c .before .pre .accepted) in omega (arith, c .before .pre .below)
 
-runs-requires : tie.Need-runs-requires
-runs-requires c κs = search needs
-
 returns : tie.Need-returns
 unfolding DFits
 returns c = rw (← c .before .before .before .cycle-of .ensures, ← c .before .before .runs .ensures, ← c .before .before .before .before .row-of .ensures .kind-is, c .if1 .taken) (zero-is (c .before .before .before .before .before .args .d) (c .before .before .before .before .before .fits .d .sfits))
@@ -43,7 +40,7 @@ number-ok-spec =
     (tie.spec
     row-of-requires
     cycle-of-requires
-    runs-requires
+    (λ c κs. search needs)
     returns
     bottom-requires
     top-requires

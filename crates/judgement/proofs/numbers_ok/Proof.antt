@@ -30,12 +30,6 @@ read-number-requires c κs = omega (arith, c .before .before .events .ensures, c
 number-ok-requires : tie.Need-number-ok-requires Inv-loop μ-loop
 number-ok-requires c κs = record { accepted = c .before .before .before .before .pre .accepted; below = rw (← c .before .before .before .events .ensures) (c .before .loop-test .taken) }
 
-add-event : tie.Need-add-event Inv-loop μ-loop
-add-event c = omega arith
-
-loop-less : tie.Need-loop-less Inv-loop μ-loop
-loop-less c = omega arith
-
 loop-again : tie.Need-loop-again Inv-loop μ-loop
 loop-again c = (omega arith, rw (all-more, c .before .before .before .loop .inv .1, c .number-ok .ensures, held (c .before .read-number .ensures) (c .before .read-number .ok)))
 
@@ -52,7 +46,6 @@ numbers-ok-spec =
     loop-holds
     read-number-requires
     number-ok-requires
-    add-event
-    loop-less
+    (λ c. omega arith) (λ c. omega arith)
     loop-again
     returns)

@@ -26,12 +26,6 @@ loop-holds c = (omega arith, sym (all-none _))
 record-ok-requires : tie.Need-record-ok-requires Inv-loop μ-loop
 record-ok-requires c κs = let t = config-tells _ (c .before .before .before .before .pre .accepted) in let h : c .before .loop .event < events (now (c .before .before .before .before .args .cfg)) = rw (← c .before .before .events .ensures) (c .loop-test .taken) in (omega arith, omega (arith, c .before .before .before .before .pre .as-long))
 
-add-event : tie.Need-add-event Inv-loop μ-loop
-add-event c = omega arith
-
-loop-less : tie.Need-loop-less Inv-loop μ-loop
-loop-less c = omega arith
-
 loop-again : tie.Need-loop-again Inv-loop μ-loop
 loop-again c = (omega arith, rw (all-more, c .before .before .loop .inv .1, c .record-ok .ensures))
 
@@ -47,7 +41,6 @@ records-ok-spec =
     events-requires
     loop-holds
     record-ok-requires
-    add-event
-    loop-less
+    (λ c. omega arith) (λ c. omega arith)
     loop-again
     returns)

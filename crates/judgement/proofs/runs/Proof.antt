@@ -6,16 +6,11 @@ use borrow.Author.Needs.{needs}
 use Rattle.judgement.proofs.runs.Statement.{statement}
 use Rattle.judgement.proofs.runs.Tie as tie
 
-element-copy-out-result : tie.Need-element-copy-out-result
-element-copy-out-result c = search needs
-
-returns : tie.Need-returns
-returns c = search needs
-
 returns-2 : tie.Need-returns-2
 returns-2 c =
     let h : length (c .before .args .t1 .running) ≡ 4 = search needs in
     sym (List·getD-eq-default (c .before .args .t1 .running) false (omega arith))
 
 pub runs-spec : {M : Type 1} → statement M
-runs-spec = tie.close (tie.spec element-copy-out-result returns returns-2)
+runs-spec = tie.close
+    (tie.spec (λ c. search needs) (λ c. search needs) returns-2)

@@ -16,26 +16,16 @@ use Rattle.judgement.proofs.well_formed.Tie as tie
 fits : (c : tie.Else1) → let a = c .before .before .before .before .args in lengthsFit (now (a .cfg)) (lent (now (a .records)) (now (a .debounce)) (now (a .memory)) (a .board)) ≡ true
 fits c = sym (c .before .lengths-fit .ensures (c .before .before .before .before .args .board)) ∙ not-false _ (c .if1 .left)
 
-lengths-fit-requires : tie.Need-lengths-fit-requires
-lengths-fit-requires c κs = search needs
-
 returns : tie.Need-returns
 returns c = sym (not-fitting _ _ _ _ _ (sym (c .before .lengths-fit .ensures (c .before .before .before .before .args .board)) ∙ not-true _ (c .if1 .taken)))
-
-events-requires : tie.Need-events-requires
-events-requires c κs = search needs
-
-places-requires : tie.Need-places-requires
-places-requires c κs = search needs
-
-entry-frames-requires : tie.Need-entry-frames-requires
-entry-frames-requires c κs = search needs
 
 records-ok-requires : tie.Need-records-ok-requires
 records-ok-requires c κs = record { accepted = c .before .before .before .before .before .before .before .pre; as-long = lengths-tell _ _ (fits (c .before .before .before)) .records }
 
 numbers-ok-requires : tie.Need-numbers-ok-requires
-numbers-ok-requires c κs = record { accepted = c .before .before .before .before .before .before .before .before .pre; as-long = lengths-tell _ _ (fits (c .before .before .before .before)) .debounce }
+numbers-ok-requires c κs =
+    let c8 = c .before .before .before .before .before .before .before .before in
+    record { accepted = c8 .pre; as-long = lengths-tell _ _ (fits (c .before .before .before .before)) .debounce }
 
 memory-ok-requires : tie.Need-memory-ok-requires
 memory-ok-requires c κs =
@@ -48,7 +38,8 @@ memory-ok-requires c κs =
 
 returns-2 : tie.Need-returns-2
 returns-2 c =
-    let a = c .before .before .before .before .before .before .before .before .before .before .args in
+    let c8 = c .before .before .before .before .before .before .before .before in
+    let a = c8 .before .before .args in
     let n = c .before .before .before .before .before .events .ensures in
     let m = c .before .before .before .before .places .ensures in
     let f = c .before .before .before .entry-frames .ensures in
@@ -59,11 +50,9 @@ pub well-formed-spec : {M : Type 1} → statement M
 well-formed-spec =
     tie.close
     (tie.spec
-    lengths-fit-requires
+    (λ c κs. search needs)
     returns
-    events-requires
-    places-requires
-    entry-frames-requires
+    (λ c κs. search needs) (λ c κs. search needs) (λ c κs. search needs)
     records-ok-requires
     numbers-ok-requires
     memory-ok-requires

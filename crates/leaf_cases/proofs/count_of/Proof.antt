@@ -8,11 +8,6 @@ cast-result : tie.Need-cast-result
 cast-result c = let e = toZ-ofZ (c .before .fits .number) in
     rw e (count-fits (c .before .args .number) (c .before .fits .number .sfits) (rw e at (c .if1 .left)))
 
-returns : tie.Need-returns
-returns c = search needs
-
-returns-2 : tie.Need-returns-2
-returns-2 c = search needs
-
 pub count-of-spec : {M : Type 1} → statement M
-count-of-spec = tie.close (tie.spec cast-result returns returns-2)
+count-of-spec = tie.close
+    (tie.spec cast-result (λ c. search needs) (λ c. search needs))

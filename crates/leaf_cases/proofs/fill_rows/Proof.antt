@@ -15,24 +15,6 @@ abbrev μ-loop : tie.MeasureT-loop
 loop-holds : tie.Need-loop-holds Inv-loop μ-loop
 loop-holds c = (omega arith, refl)
 
-sub-in-rows : tie.Need-sub-in-rows Inv-loop μ-loop
-sub-in-rows c = omega arith
-
-in-rows-requires : tie.Need-in-rows-requires Inv-loop μ-loop
-in-rows-requires c κs = search needs
-
-mul-number : tie.Need-mul-number Inv-loop μ-loop
-mul-number c = search needs
-
-slice-set-from-number : tie.Need-slice-set-from-number Inv-loop μ-loop
-slice-set-from-number c = omega arith
-
-add-place : tie.Need-add-place Inv-loop μ-loop
-add-place c = omega arith
-
-loop-less : tie.Need-loop-less Inv-loop μ-loop
-loop-less c = omega arith
-
 loop-again : tie.Need-loop-again Inv-loop μ-loop
 loop-again c = (omega arith, simp length-set (c .before .before .loop .inv .1))
 
@@ -49,12 +31,8 @@ fill-rows-spec =
     Inv-loop
     μ-loop
     loop-holds
-    sub-in-rows
-    in-rows-requires
-    mul-number
-    slice-set-from-number
-    add-place
-    loop-less
+    (λ c. omega arith) (λ c κs. search needs) (λ c. search needs) (λ c. omega arith) (λ c. omega arith)
+    (λ c. omega arith)
     loop-again
     same-length
     returns)

@@ -29,21 +29,6 @@ each a b c d e t =
     let two = and-left (a && b) c three in
     (and-left a b two, and-right a b two, and-right (a && b) c three, and-right ((a && b) && c) d four, and-right (((a && b) && c) && d) e t)
 
-between-requires : tie.Need-between-requires
-between-requires c κs = search needs
-
-between-requires-2 : tie.Need-between-requires-2
-between-requires-2 c κs = search needs
-
-between-requires-3 : tie.Need-between-requires-3
-between-requires-3 c κs = search needs
-
-between-requires-4 : tie.Need-between-requires-4
-between-requires-4 c κs = search needs
-
-between-requires-5 : tie.Need-between-requires-5
-between-requires-5 c κs = search needs
-
 returns : tie.Need-returns
 returns c =
     let first = c .before .before .before .before .before .before .before in
@@ -68,9 +53,5 @@ pub small-spec : {M : Type 1} → statement M
 small-spec =
     tie.close
     (tie.spec
-    between-requires
-    between-requires-2
-    between-requires-3
-    between-requires-4
-    between-requires-5
+    (λ c κs. search needs) (λ c κs. search needs) (λ c κs. search needs) (λ c κs. search needs) (λ c κs. search needs)
     returns)

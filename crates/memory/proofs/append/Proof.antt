@@ -9,18 +9,6 @@ use borrow.Author.Needs.{needs}
 use Rattle.memory.proofs.append.Statement.{statement}
 use Rattle.memory.proofs.append.Tie as tie
 
-entry-count-requires : tie.Need-entry-count-requires
-entry-count-requires c κs = search needs
-
-slice-read-memory : tie.Need-slice-read-memory
-slice-read-memory c = search needs
-
-add-memory : tie.Need-add-memory
-add-memory c = search needs
-
-slice-write-memory : tie.Need-slice-write-memory
-slice-write-memory c = search needs
-
 enter-requires : tie.Need-enter-requires
 enter-requires c κs =
     let pre = c .before .before .before .before .before .before .pre in
@@ -39,7 +27,8 @@ same-length c = c .before .before .enter .kept .0 ∙ simp length-set
 
 returns : tie.Need-returns
 returns c =
-    let a = c .before .before .before .before .before .before .before .before .before .args in
+    let c8 = c .before .before .before .before .before .before .before .before in
+    let a = c8 .before .args in
     let m = now (a .memory) in
     c .before .before .enter .ensures
     ∙ ap (λ (k : ℕ). entered (a .payload-bytes) k (a .event .0) (a .count) (now (a .payload)) (set m 0 (entryCount m + 1))) (c .before .before .before .before .before .entry-count .ensures)
@@ -48,10 +37,7 @@ pub append-spec : {M : Type 1} → statement M
 append-spec =
     tie.close
     (tie.spec
-    entry-count-requires
-    slice-read-memory
-    add-memory
-    slice-write-memory
+    (λ c κs. search needs) (λ c. search needs) (λ c. search needs) (λ c. search needs)
     enter-requires
     same-length
     returns)

@@ -4,14 +4,9 @@ use borrow.Author.Needs.{needs}
 use Rattle.memory.proofs.bytes_in_use.Statement.{statement}
 use Rattle.memory.proofs.bytes_in_use.Tie as tie
 
-entry-count-requires : tie.Need-entry-count-requires
-entry-count-requires c κs = search needs
-
-start-of-requires : tie.Need-start-of-requires
-start-of-requires c κs = search needs
-
 returns : tie.Need-returns
 returns c = c .start-of .ensures ∙ ap (bytesInUse (c .before .before .before .args .payload-bytes)) (c .before .entry-count .ensures)
 
 pub bytes-in-use-spec : {M : Type 1} → statement M
-bytes-in-use-spec = tie.close (tie.spec entry-count-requires start-of-requires returns)
+bytes-in-use-spec = tie.close
+    (tie.spec (λ c κs. search needs) (λ c κs. search needs) returns)

@@ -9,17 +9,8 @@ use borrow.Author.Needs.{needs}
 use Rattle.memory.proofs.close_gap.Statement.{statement}
 use Rattle.memory.proofs.close_gap.Tie as tie
 
-start-of-requires : tie.Need-start-of-requires
-start-of-requires c κs = search needs
-
-add-close : tie.Need-add-close
-add-close c = search needs
-
 close-requires : tie.Need-close-requires
 close-requires c κs = omega (arith, c .before .start-of .ensures, entry-within (c .before .before .before .args .payload-bytes) (c .before .before .before .args .place .0) (now (c .before .before .before .args .memory)) (c .before .before .before .pre))
-
-same-length : tie.Need-same-length
-same-length c = search needs
 
 returns : tie.Need-returns
 unfolding gapClosed
@@ -27,4 +18,5 @@ returns c = c .before .before .close .ensures ∙ ap (λ (k : ℕ). closed k (en
 
 pub close-gap-spec : {M : Type 1} → statement M
 close-gap-spec =
-    tie.close (tie.spec start-of-requires add-close close-requires same-length returns)
+    tie.close
+    (tie.spec (λ c κs. search needs) (λ c. search needs) close-requires (λ c. search needs) returns)

@@ -8,9 +8,6 @@ use borrow.Author.Needs.{needs}
 use Rattle.memory.proofs.count_at.Statement.{statement}
 use Rattle.memory.proofs.count_at.Tie as tie
 
-start-of-requires : tie.Need-start-of-requires
-start-of-requires c κs = search needs
-
 add-result : tie.Need-add-result
 add-result c = omega (arith, c .start-of .ensures, entry-within (c .before .before .args .payload-bytes) (c .before .before .args .place .0) (now (c .before .before .args .memory)) (c .before .before .pre))
 
@@ -21,4 +18,5 @@ returns : tie.Need-returns
 returns c = ap (λ (k : ℕ). getD (now (c .before .before .before .args .memory)) (k + 2) 0) (c .before .start-of .ensures) ∙ sym (count-is-at (c .before .before .before .args .payload-bytes) (now (c .before .before .before .args .memory)) (c .before .before .before .args .place .0) (c .before .before .before .pre .below))
 
 pub count-at-spec : {M : Type 1} → statement M
-count-at-spec = tie.close (tie.spec start-of-requires add-result shared-slice-read-result returns)
+count-at-spec = tie.close
+    (tie.spec (λ c κs. search needs) add-result shared-slice-read-result returns)

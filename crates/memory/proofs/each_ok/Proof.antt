@@ -36,22 +36,20 @@ entry-ok-requires : tie.Need-entry-ok-requires Inv-loop μ-loop
 entry-ok-requires c κs = c .before .before .before .before .before .before .before .pre .0
 
 returns : tie.Need-returns Inv-loop μ-loop
-returns c = let xs = entriesOf (c .before .before .before .before .before .before .before .before .before .args .payload-bytes) (now (c .before .before .before .before .before .before .before .before .before .args .memory)) in
-    let q = soundEntry (c .before .before .before .before .before .before .before .before .before .args .events) (now (c .before .before .before .before .before .before .before .before .before .args .records)) in
-    let h : c .before .before .before .before .before .loop .i < length xs = omega (arith, entries-are-count (c .before .before .before .before .before .before .before .before .before .args .payload-bytes) (now (c .before .before .before .before .before .before .before .before .before .args .memory)), c .before .before .before .before .before .before .entry-count .ensures, c .before .before .before .before .loop-test .taken) in
+returns c =
+    let c8 = c .before .before .before .before .before .before .before .before in
+    let xs = entriesOf (c8 .before .args .payload-bytes) (now (c8 .before .args .memory)) in
+    let q = soundEntry (c8 .before .args .events) (now (c8 .before .args .records)) in
+    let h : c .before .before .before .before .before .loop .i < length xs = omega (arith, entries-are-count (c8 .before .args .payload-bytes) (now (c8 .before .args .memory)), c .before .before .before .before .before .before .entry-count .ensures, c .before .before .before .before .loop-test .taken) in
     let e : q (atPlace (c .before .before .before .before .before .loop .i) xs) ≡ false = rw (← c .before .before .before .event-at .ensures, ← c .before .before .count-at .ensures) (sym (c .before .entry-ok .ensures) ∙ not-true (c .before .entry-ok .result) (c .if1 .taken)) in
     sym (c .before .before .before .before .before .loop .inv .1 ∙ all-ends blank q xs (c .before .before .before .before .before .loop .i) h e)
 
-add-i : tie.Need-add-i Inv-loop μ-loop
-add-i c = omega arith
-
-loop-less : tie.Need-loop-less Inv-loop μ-loop
-loop-less c = omega arith
-
 loop-again : tie.Need-loop-again Inv-loop μ-loop
-loop-again c = let xs = entriesOf (c .before .before .before .before .before .before .before .before .before .args .payload-bytes) (now (c .before .before .before .before .before .before .before .before .before .args .memory)) in
-    let q = soundEntry (c .before .before .before .before .before .before .before .before .before .args .events) (now (c .before .before .before .before .before .before .before .before .before .args .records)) in
-    let h : c .before .before .before .before .before .loop .i < length xs = omega (arith, entries-are-count (c .before .before .before .before .before .before .before .before .before .args .payload-bytes) (now (c .before .before .before .before .before .before .before .before .before .args .memory)), c .before .before .before .before .before .before .entry-count .ensures, c .before .before .before .before .loop-test .taken) in
+loop-again c =
+    let c8 = c .before .before .before .before .before .before .before .before in
+    let xs = entriesOf (c8 .before .args .payload-bytes) (now (c8 .before .args .memory)) in
+    let q = soundEntry (c8 .before .args .events) (now (c8 .before .args .records)) in
+    let h : c .before .before .before .before .before .loop .i < length xs = omega (arith, entries-are-count (c8 .before .args .payload-bytes) (now (c8 .before .args .memory)), c .before .before .before .before .before .before .entry-count .ensures, c .before .before .before .before .loop-test .taken) in
     let e : q (atPlace (c .before .before .before .before .before .loop .i) xs) ≡ true = rw (← c .before .before .before .event-at .ensures, ← c .before .before .count-at .ensures) (sym (c .before .entry-ok .ensures) ∙ not-false (c .before .entry-ok .result) (c .if1 .left)) in
     (omega arith, c .before .before .before .before .before .loop .inv .1 ∙ all-goes-on blank q xs (c .before .before .before .before .before .loop .i) h e)
 
@@ -71,7 +69,6 @@ each-ok-spec =
     count-at-requires
     entry-ok-requires
     returns
-    add-i
-    loop-less
+    (λ c. omega arith) (λ c. omega arith)
     loop-again
     returns-2)

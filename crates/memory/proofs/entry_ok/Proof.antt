@@ -5,9 +5,6 @@ use borrow.Author.Needs.{needs}
 use Rattle.memory.proofs.entry_ok.Statement.{statement}
 use Rattle.memory.proofs.entry_ok.Tie as tie
 
-has-failed-requires : tie.Need-has-failed-requires
-has-failed-requires c κs = search needs
-
 returns : tie.Need-returns
 unfolding holds
 returns c = simp (lt-ltb _ _ (c .before .if1 .taken), c .has-failed .ensures, and-true)
@@ -17,4 +14,5 @@ unfolding holds
 returns-2 c = simp (le-ltb _ _ (c .if1 .left))
 
 pub entry-ok-spec : {M : Type 1} → statement M
-entry-ok-spec = tie.close (tie.spec has-failed-requires returns returns-2)
+entry-ok-spec = tie.close
+    (tie.spec (λ c κs. search needs) returns returns-2)

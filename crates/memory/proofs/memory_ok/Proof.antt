@@ -10,28 +10,16 @@ use borrow.Author.Needs.{needs}
 use Rattle.memory.proofs.memory_ok.Statement.{statement}
 use Rattle.memory.proofs.memory_ok.Tie as tie
 
-memory-length-requires : tie.Need-memory-length-requires
-memory-length-requires c κs = search needs
-
 returns : tie.Need-returns
 returns c = sym (block-other-length (c .before .before .before .before .args .events) (c .before .before .before .before .args .places) (c .before .before .before .before .args .payload-bytes) (now (c .before .before .before .before .args .records)) (now (c .before .before .before .before .args .memory)) (λ e. c .if1 .taken (e ∙ sym (c .before .memory-length .ensures))))
 
-entry-count-requires : tie.Need-entry-count-requires
-entry-count-requires c κs = search needs
-
 returns-2 : tie.Need-returns-2
 returns-2 c = sym (block-many (c .before .before .before .before .before .before .args .events) (c .before .before .before .before .before .before .args .places) (c .before .before .before .before .before .before .args .payload-bytes) (now (c .before .before .before .before .before .before .args .records)) (now (c .before .before .before .before .before .before .args .memory)) (omega (arith, c .before .entry-count .ensures, c .if2 .taken)))
-
-bytes-in-use-requires : tie.Need-bytes-in-use-requires
-bytes-in-use-requires c κs = search needs
 
 slice-aggregate-entries-ok : tie.Need-slice-aggregate-entries-ok
 slice-aggregate-entries-ok c =
     let c8 = c .before .before .before .before .before .before .before .before in
     rw (c .before .bytes-in-use .ensures) (sym (end-length (c8 .args .places) (c8 .args .payload-bytes) (now (c8 .args .memory)) (c .before .before .before .before .if1 .left ∙ c .before .before .before .before .before .memory-length .ensures) (omega (arith, c .before .before .before .entry-count .ensures, c .before .before .if2 .left))))
-
-entries-ok-requires : tie.Need-entries-ok-requires
-entries-ok-requires c κs = search needs
 
 sub-all-zero : tie.Need-sub-all-zero
 sub-all-zero c =
@@ -43,31 +31,26 @@ part-all-zero-start c =
     let c8 = c .before .before .before .before .before .before .before .before in
     rw (c .before .before .bytes-in-use .ensures) (end-within (c8 .before .args .places) (c8 .before .args .payload-bytes) (now (c8 .before .args .memory)) (c .before .before .before .before .before .if1 .left ∙ c .before .before .before .before .before .before .memory-length .ensures) (omega (arith, c .before .before .before .before .entry-count .ensures, c .before .before .before .if2 .left)))
 
-part-all-zero-end : tie.Need-part-all-zero-end
-part-all-zero-end c = search needs
-
-all-zero-requires : tie.Need-all-zero-requires
-all-zero-requires c κs = search needs
-
 returns-3 : tie.Need-returns-3
-returns-3 c = let m = now (c .before .before .before .before .before .before .before .before .before .before .before .args .memory) in
+returns-3 c =
+    let c8 = c .before .before .before .before .before .before .before .before in
+    let m = now (c8 .before .before .before .args .memory) in
     (λ i. c .before .before .entries-ok .ensures i && c .all-zero .ensures i)
-    ∙ ap (λ (k : ℕ). usedOk (c .before .before .before .before .before .before .before .before .before .before .before .args .events) (c .before .before .before .before .before .before .before .before .before .before .before .args .places) (c .before .before .before .before .before .before .before .before .before .before .before .args .payload-bytes) (now (c .before .before .before .before .before .before .before .before .before .before .before .args .records)) (take k m) && zeros (take (length m - k) (drop k m))) (c .before .before .before .before .bytes-in-use .ensures)
-    ∙ block-parts (c .before .before .before .before .before .before .before .before .before .before .before .args .events) (c .before .before .before .before .before .before .before .before .before .before .before .args .places) (c .before .before .before .before .before .before .before .before .before .before .before .args .payload-bytes) (now (c .before .before .before .before .before .before .before .before .before .before .before .args .records)) m (c .before .before .before .before .before .before .before .if1 .left ∙ c .before .before .before .before .before .before .before .before .memory-length .ensures) (omega (arith, c .before .before .before .before .before .before .entry-count .ensures, c .before .before .before .before .before .if2 .left))
+    ∙ ap (λ (k : ℕ). usedOk (c8 .before .before .before .args .events) (c8 .before .before .before .args .places) (c8 .before .before .before .args .payload-bytes) (now (c8 .before .before .before .args .records)) (take k m) && zeros (take (length m - k) (drop k m))) (c .before .before .before .before .bytes-in-use .ensures)
+    ∙ block-parts (c8 .before .before .before .args .events) (c8 .before .before .before .args .places) (c8 .before .before .before .args .payload-bytes) (now (c8 .before .before .before .args .records)) m (c .before .before .before .before .before .before .before .if1 .left ∙ c8 .memory-length .ensures) (omega (arith, c .before .before .before .before .before .before .entry-count .ensures, c .before .before .before .before .before .if2 .left))
 
 pub memory-ok-spec : {M : Type 1} → statement M
 memory-ok-spec =
     tie.close
     (tie.spec
-    memory-length-requires
+    (λ c κs. search needs)
     returns
-    entry-count-requires
+    (λ c κs. search needs)
     returns-2
-    bytes-in-use-requires
+    (λ c κs. search needs)
     slice-aggregate-entries-ok
-    entries-ok-requires
+    (λ c κs. search needs)
     sub-all-zero
     part-all-zero-start
-    part-all-zero-end
-    all-zero-requires
+    (λ c. search needs) (λ c κs. search needs)
     returns-3)

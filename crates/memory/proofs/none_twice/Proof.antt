@@ -24,9 +24,6 @@ loop-holds c = (omega arith, refl)
 event-at-requires : tie.Need-event-at-requires Inv-loop μ-loop
 event-at-requires c κs = record { entries = (c .before .before .before .before .pre); below = omega (arith, c .before .before .entry-count .ensures, c .loop-test .taken) }
 
-add-i : tie.Need-add-i Inv-loop μ-loop
-add-i c = omega arith
-
 stands-from-requires : tie.Need-stands-from-requires Inv-loop μ-loop
 stands-from-requires c κs = (c .before .before .before .before .before .pre, omega (arith, c .before .before .before .entry-count .ensures, c .before .loop-test .taken))
 
@@ -34,9 +31,6 @@ returns : tie.Need-returns Inv-loop μ-loop
 returns c = let xs = entriesOf (c .before .before .before .before .before .before .before .args .payload-bytes) (now (c .before .before .before .before .before .before .before .args .memory)) in
     let h : c .before .before .before .before .loop .i < length xs = omega (arith, entries-are-count (c .before .before .before .before .before .before .before .args .payload-bytes) (now (c .before .before .before .before .before .before .before .args .memory)), c .before .before .before .before .before .entry-count .ensures, c .before .before .before .loop-test .taken) in
     sym (c .before .before .before .before .loop .inv .1 ∙ twice-ends xs (c .before .before .before .before .loop .i) h (rw (← c .before .before .event-at .ensures) (sym (c .before .stands-from .ensures) ∙ c .if1 .taken)))
-
-loop-less : tie.Need-loop-less Inv-loop μ-loop
-loop-less c = omega arith
 
 loop-again : tie.Need-loop-again Inv-loop μ-loop
 loop-again c = let xs = entriesOf (c .before .before .before .before .before .before .before .args .payload-bytes) (now (c .before .before .before .before .before .before .before .args .memory)) in
@@ -56,9 +50,9 @@ none-twice-spec =
     entry-count-requires
     loop-holds
     event-at-requires
-    add-i
+    (λ c. omega arith)
     stands-from-requires
     returns
-    loop-less
+    (λ c. omega arith)
     loop-again
     returns-2)

@@ -2,14 +2,6 @@ use native.Mathlib.Omega.{arith}
 use Rattle.memory.proofs.one_more.Statement.{statement}
 use Rattle.memory.proofs.one_more.Tie as tie
 
-add-result : tie.Need-add-result
-add-result c = omega arith
-
-returns : tie.Need-returns
-returns c = omega arith
-
-returns-2 : tie.Need-returns-2
-returns-2 c = omega arith
-
 pub one-more-spec : {M : Type 1} → statement M
-one-more-spec = tie.close (tie.spec add-result returns returns-2)
+one-more-spec = tie.close
+    (tie.spec (λ c. omega arith) (λ c. omega arith) (λ c. omega arith))

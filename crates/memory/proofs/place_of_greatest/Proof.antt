@@ -32,12 +32,6 @@ event-at-requires c κs = record { entries = c .before .before .before .before .
 priority-of-requires-2 : tie.Need-priority-of-requires-2 Inv-loop μ-loop
 priority-of-requires-2 c κs = rw (c .event-at .ensures) (event-small (c .before .before .before .before .before .before .args .payload-bytes) (c .before .before .loop .i) (now (c .before .before .before .before .before .before .args .memory)) (c .before .before .before .before .before .before .pre .0) (omega (arith, c .before .before .before .before .entry-count .ensures, c .before .loop-test .taken)))
 
-add-i : tie.Need-add-i Inv-loop μ-loop
-add-i c = omega arith
-
-loop-less : tie.Need-loop-less Inv-loop μ-loop
-loop-less c = omega arith
-
 loop-again : tie.Need-loop-again Inv-loop μ-loop
 loop-again c =
     let c8 = c .before .before .before .before .before .before .before .before in
@@ -68,7 +62,6 @@ place-of-greatest-spec =
     loop-holds
     event-at-requires
     priority-of-requires-2
-    add-i
-    loop-less
+    (λ c. omega arith) (λ c. omega arith)
     loop-again
     returns)

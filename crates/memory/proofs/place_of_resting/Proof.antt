@@ -34,22 +34,20 @@ gives-way-requires : tie.Need-gives-way-requires Inv-loop μ-loop
 gives-way-requires c κs = rw (c .event-at .ensures) (event-small (c .before .before .before .before .before .before .before .args .payload-bytes) (c .before .before .loop .i) (now (c .before .before .before .before .before .before .before .args .memory)) (c .before .before .before .before .before .before .before .pre .0) (omega (arith, c .before .before .before .before .entry-count .ensures, c .before .loop-test .taken)))
 
 returns : tie.Need-returns Inv-loop μ-loop
-returns c = let xs = entriesOf (c .before .before .before .before .before .before .before .before .before .args .payload-bytes) (now (c .before .before .before .before .before .before .before .before .before .args .memory)) in
-    let q = restsAt (priorityOf (now (c .before .before .before .before .before .before .before .before .before .args .cfg))) (quietIn (now (c .before .before .before .before .before .before .before .before .before .args .records))) in
-    let h : c .before .before .before .before .loop .i < length xs = omega (arith, entries-are-count (c .before .before .before .before .before .before .before .before .before .args .payload-bytes) (now (c .before .before .before .before .before .before .before .before .before .args .memory)), c .before .before .before .before .before .before .entry-count .ensures, c .before .before .before .loop-test .taken) in
+returns c =
+    let c8 = c .before .before .before .before .before .before .before .before in
+    let xs = entriesOf (c8 .before .args .payload-bytes) (now (c8 .before .args .memory)) in
+    let q = restsAt (priorityOf (now (c8 .before .args .cfg))) (quietIn (now (c8 .before .args .records))) in
+    let h : c .before .before .before .before .loop .i < length xs = omega (arith, entries-are-count (c8 .before .args .payload-bytes) (now (c8 .before .args .memory)), c .before .before .before .before .before .before .entry-count .ensures, c .before .before .before .loop-test .taken) in
     sym (c .before .before .before .before .loop .inv .1 ∙ first-hit (q (c .before .before .before .before .before .priority-of .result)) xs (c .before .before .before .before .loop .i) h (rw (← c .before .before .event-at .ensures) (sym (c .before .gives-way .ensures) ∙ c .if1 .taken)))
     ∙ ap (λ (k : ℕ). firstPlace (q k) xs) (c .before .before .before .before .before .priority-of .ensures)
 
-add-i : tie.Need-add-i Inv-loop μ-loop
-add-i c = omega arith
-
-loop-less : tie.Need-loop-less Inv-loop μ-loop
-loop-less c = omega arith
-
 loop-again : tie.Need-loop-again Inv-loop μ-loop
-loop-again c = let xs = entriesOf (c .before .before .before .before .before .before .before .before .before .args .payload-bytes) (now (c .before .before .before .before .before .before .before .before .before .args .memory)) in
-    let q = restsAt (priorityOf (now (c .before .before .before .before .before .before .before .before .before .args .cfg))) (quietIn (now (c .before .before .before .before .before .before .before .before .before .args .records))) (c .before .before .before .before .before .priority-of .result) in
-    let h : c .before .before .before .before .loop .i < length xs = omega (arith, entries-are-count (c .before .before .before .before .before .before .before .before .before .args .payload-bytes) (now (c .before .before .before .before .before .before .before .before .before .args .memory)), c .before .before .before .before .before .before .entry-count .ensures, c .before .before .before .loop-test .taken) in
+loop-again c =
+    let c8 = c .before .before .before .before .before .before .before .before in
+    let xs = entriesOf (c8 .before .args .payload-bytes) (now (c8 .before .args .memory)) in
+    let q = restsAt (priorityOf (now (c8 .before .args .cfg))) (quietIn (now (c8 .before .args .records))) (c .before .before .before .before .before .priority-of .result) in
+    let h : c .before .before .before .before .loop .i < length xs = omega (arith, entries-are-count (c8 .before .args .payload-bytes) (now (c8 .before .args .memory)), c .before .before .before .before .before .before .entry-count .ensures, c .before .before .before .loop-test .taken) in
     (omega arith, c .before .before .before .before .loop .inv .1 ∙ first-miss q xs (c .before .before .before .before .loop .i) h (rw (← c .before .before .event-at .ensures) (sym (c .before .gives-way .ensures) ∙ c .if1 .left)))
 
 returns-2 : tie.Need-returns-2 Inv-loop μ-loop
@@ -70,7 +68,6 @@ place-of-resting-spec =
     event-at-requires
     gives-way-requires
     returns
-    add-i
-    loop-less
+    (λ c. omega arith) (λ c. omega arith)
     loop-again
     returns-2)

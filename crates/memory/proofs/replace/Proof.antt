@@ -8,31 +8,25 @@ use borrow.Author.Needs.{needs}
 use Rattle.memory.proofs.replace.Statement.{statement}
 use Rattle.memory.proofs.replace.Tie as tie
 
-entry-count-requires : tie.Need-entry-count-requires
-entry-count-requires c κs = search needs
-
-sub-t11 : tie.Need-sub-t11
-sub-t11 c = search needs
-
-close-gap-requires : tie.Need-close-gap-requires
-close-gap-requires c κs = search needs
-
 enter-requires : tie.Need-enter-requires
 enter-requires c κs =
-    let a = c .before .before .before .before .before .before .before .before .before .args in
-    let pre = c .before .before .before .before .before .before .before .before .before .pre in
+    let c8 = c .before .before .before .before .before .before .before .before in
+    let a = c8 .before .args in
+    let pre = c8 .before .pre in
     (rw (c .before .before .before .close-gap .ensures) (room-in-use (a .payload-bytes) (a .place .0) (a .event .0) _ (now (a .memory)) (pre .0) (pre .1 .0) (omega (arith, c .before .before .before .before .before .entry-count .ensures, pre .0 .below))), pre .1 .1)
-
-same-length : tie.Need-same-length
-same-length c = search needs
 
 returns : tie.Need-returns
 returns c =
-    let a = c .before .before .before .before .before .before .before .before .before .before .before .before .args in
+    let c8 = c .before .before .before .before .before .before .before .before in
+    let a = c8 .before .before .before .before .args in
     c .before .before .enter .ensures
-    ∙ (λ i. entered (a .payload-bytes) (c .before .before .before .before .before .before .before .before .entry-count .ensures i - 1) (a .event .0) (a .count) (now (a .payload)) (c .before .before .before .before .before .before .close-gap .ensures i))
+    ∙ (λ i. entered (a .payload-bytes) (c8 .entry-count .ensures i - 1) (a .event .0) (a .count) (now (a .payload)) (c .before .before .before .before .before .before .close-gap .ensures i))
 
 pub replace-spec : {M : Type 1} → statement M
 replace-spec =
     tie.close
-    (tie.spec entry-count-requires sub-t11 close-gap-requires enter-requires same-length returns)
+    (tie.spec
+    (λ c κs. search needs) (λ c. search needs) (λ c κs. search needs)
+    enter-requires
+    (λ c. search needs)
+    returns)

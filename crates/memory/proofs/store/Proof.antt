@@ -9,57 +9,40 @@ use borrow.Author.Needs.{needs}
 use Rattle.memory.proofs.store.Statement.{statement}
 use Rattle.memory.proofs.store.Tie as tie
 
-entry-frames-requires : tie.Need-entry-frames-requires
-entry-frames-requires c κs = search needs
-
 place-of-requires : tie.Need-place-of-requires
 place-of-requires c κs =
     let a = c .before .before .before .before .before .args in
     may-find (now (a .cfg)) (now (a .records)) (now (a .memory)) (a .event .0) (now (a .frame)) (c .before .before .before .before .before .pre) (c .before .entry-frames .ensures)
 
-enum-known-own : tie.Need-enum-known-own
-enum-known-own c = search needs
-
 renew-requires : tie.Need-renew-requires
 renew-requires c κs =
-    let a = c .before .before .before .before .before .before .before .before .before .before .args in
-    may-renew (now (a .cfg)) (now (a .records)) (now (a .memory)) (a .event .0) (now (a .frame)) (c .before .before .before .before .before .before .before .before .before .before .pre) (c .before .before .before .before .before .before .entry-frames .ensures) _ (sym (c .before .before .before .before .place-of .ensures) ∙ c .before .before .own .given .1)
-
-enum-told : tie.Need-enum-told
-enum-told c = search needs
-
-admit-requires : tie.Need-admit-requires
-admit-requires c κs = search needs
-
-same-length : tie.Need-same-length
-same-length c = search needs
+    let c8 = c .before .before .before .before .before .before .before .before in
+    let a = c8 .before .before .args in
+    may-renew (now (a .cfg)) (now (a .records)) (now (a .memory)) (a .event .0) (now (a .frame)) (c8 .before .before .pre) (c .before .before .before .before .before .before .entry-frames .ensures) _ (sym (c .before .before .before .before .place-of .ensures) ∙ c .before .before .own .given .1)
 
 returns : tie.Need-returns
 returns c =
-    let a = c .before .before .before .before .before .before .before .before .before .before .before .before .before .args in
+    let c8 = c .before .before .before .before .before .before .before .before in
+    let a = c8 .before .before .before .before .before .args in
     ap (λ (m : List ℕ). leftWith m Renewed) (c .before .before .renew .ensures)
-    ∙ renews (now (a .cfg)) (now (a .records)) (now (a .memory)) (a .event .0) (now (a .frame)) (c .before .before .before .before .before .before .before .before .before .before .before .before .before .pre) (c .before .before .before .before .before .before .before .before .before .entry-frames .ensures) _ (sym (c .before .before .before .before .before .before .before .place-of .ensures) ∙ c .before .before .before .before .before .own .given .1)
-
-same-length-2 : tie.Need-same-length-2
-same-length-2 c = search needs
+    ∙ renews (now (a .cfg)) (now (a .records)) (now (a .memory)) (a .event .0) (now (a .frame)) (c8 .before .before .before .before .before .pre) (c8 .before .entry-frames .ensures) _ (sym (c .before .before .before .before .before .before .before .place-of .ensures) ∙ c .before .before .before .before .before .own .given .1)
 
 returns-2 : tie.Need-returns-2
 returns-2 c =
-    let a = c .before .before .before .before .before .before .before .before .before .before .before .before .args in
+    let c8 = c .before .before .before .before .before .before .before .before in
+    let a = c8 .before .before .before .before .args in
     c .before .before .admit .ensures
-    ∙ has-none (now (a .cfg)) (now (a .records)) (now (a .memory)) (a .event .0) (now (a .frame)) (c .before .before .before .before .before .before .before .before .before .before .before .before .pre) (c .before .before .before .before .before .before .before .before .entry-frames .ensures) (sym (c .before .before .before .before .before .before .place-of .ensures) ∙ c .before .before .before .before .enum-told .given .1)
+    ∙ has-none (now (a .cfg)) (now (a .records)) (now (a .memory)) (a .event .0) (now (a .frame)) (c8 .before .before .before .before .pre) (c8 .entry-frames .ensures) (sym (c .before .before .before .before .before .before .place-of .ensures) ∙ c .before .before .before .before .enum-told .given .1)
 
 pub store-spec : {M : Type 1} → statement M
 store-spec =
     tie.close
     (tie.spec
-    entry-frames-requires
+    (λ c κs. search needs)
     place-of-requires
-    enum-known-own
+    (λ c. search needs)
     renew-requires
-    enum-told
-    admit-requires
-    same-length
+    (λ c. search needs) (λ c κs. search needs) (λ c. search needs)
     returns
-    same-length-2
+    (λ c. search needs)
     returns-2)

@@ -9,18 +9,6 @@ use borrow.Author.Needs.{needs}
 use Rattle.memory.proofs.victim.Statement.{statement}
 use Rattle.memory.proofs.victim.Tie as tie
 
-place-of-greatest-requires : tie.Need-place-of-greatest-requires
-place-of-greatest-requires c κs = search needs
-
-enum-known-greatest : tie.Need-enum-known-greatest
-enum-known-greatest c = search needs
-
-enum-told : tie.Need-enum-told
-enum-told c = search needs
-
-place-of-resting-requires : tie.Need-place-of-resting-requires
-place-of-resting-requires c κs = search needs
-
 returns : tie.Need-returns
 unfolding victimPlace
 returns c = ap (λ (f : Find). orElsePlace f (firstPlace (rests (priorityOf (now (c .before .before .before .before .before .before .args .cfg))) (quietIn (now (c .before .before .before .before .before .before .args .records))) (c .before .before .before .before .before .before .args .event .0)) (entriesOf (c .before .before .before .before .before .before .args .payload-bytes) (now (c .before .before .before .before .before .before .args .memory))))) (sym (c .before .greatest .given .1) ∙ c .before .before .before .place-of-greatest .ensures)
@@ -33,9 +21,6 @@ pub victim-spec : {M : Type 1} → statement M
 victim-spec =
     tie.close
     (tie.spec
-    place-of-greatest-requires
-    enum-known-greatest
-    enum-told
-    place-of-resting-requires
+    (λ c κs. search needs) (λ c. search needs) (λ c. search needs) (λ c κs. search needs)
     returns
     returns-2)

@@ -5,12 +5,6 @@ use borrow.Author.Needs.{needs}
 use Rattle.one_event.proofs.entry_leaves_if.Statement.{statement}
 use Rattle.one_event.proofs.entry_leaves_if.Tie as tie
 
-forget-requires : tie.Need-forget-requires
-forget-requires c κs = search needs
-
-same-length : tie.Need-same-length
-same-length c = search needs
-
 returns : tie.Need-returns
 returns c =
     let a = c .before .before .before .before .before .before .args in
@@ -22,4 +16,5 @@ returns-2 c =
     stays-where (now (a .cfg)) (a .event .0) (now (a .memory)) (c .if1 .left)
 
 pub entry-leaves-if-spec : {M : Type 1} → statement M
-entry-leaves-if-spec = tie.close (tie.spec forget-requires same-length returns returns-2)
+entry-leaves-if-spec = tie.close
+    (tie.spec (λ c κs. search needs) (λ c. search needs) returns returns-2)

@@ -7,21 +7,10 @@ use borrow.Author.Needs.{needs}
 use Rattle.one_event.proofs.passes.Statement.{statement}
 use Rattle.one_event.proofs.passes.Tie as tie
 
-read-record-requires : tie.Need-read-record-requires
-read-record-requires c κs = search needs
-
-passed-requires : tie.Need-passed-requires
-passed-requires c κs = search needs
-
-write-record-requires : tie.Need-write-record-requires
-write-record-requires c κs = search needs
-
-same-length : tie.Need-same-length
-same-length c = search needs
-
 returns : tie.Need-returns
 returns c =
-    let a = c .before .before .before .before .before .before .before .before .args in
+    let c8 = c .before .before .before .before .before .before .before .before in
+    let a = c8 .args in
     let read-record = c .before .before .before .before .before .read-record in
     let after = c .before .before .before .passed in
     λ cfg. happens-is cfg (a .event .0) (now (a .records)) passed (read-record .result) (after .result) (read-record .ensures)
@@ -30,4 +19,6 @@ returns c =
 pub passes-spec : {M : Type 1} → statement M
 passes-spec =
     tie.close
-    (tie.spec read-record-requires passed-requires write-record-requires same-length returns)
+    (tie.spec
+    (λ c κs. search needs) (λ c κs. search needs) (λ c κs. search needs) (λ c. search needs)
+    returns)

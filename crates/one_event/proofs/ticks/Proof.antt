@@ -8,12 +8,6 @@ use borrow.Author.Needs.{needs}
 use Rattle.one_event.proofs.ticks.Statement.{statement}
 use Rattle.one_event.proofs.ticks.Tie as tie
 
-row-of-requires : tie.Need-row-of-requires
-row-of-requires c κs = search needs
-
-read-number-requires : tie.Need-read-number-requires
-read-number-requires c κs = search needs
-
 tick-step-requires : tie.Need-tick-step-requires
 tick-step-requires c κs =
     let a = c .before .before .before .before .before .before .args in
@@ -23,24 +17,14 @@ tick-step-requires c κs =
     may-tick (now (a .cfg)) (a .event .0) (lent (now (a .records)) (now (a .debounce)) (now (a .memory)) (a .board)) (pre .0) (row-of .result)
     (row-of .ensures) (held (read-number .ensures) (read-number .ok)) (a .ms) (pre .1 .1)
 
-applies-requires : tie.Need-applies-requires
-applies-requires c κs = search needs
-
-same-length : tie.Need-same-length
-same-length c = search needs
-
-same-length-2 : tie.Need-same-length-2
-same-length-2 c = search needs
-
-same-length-3 : tie.Need-same-length-3
-same-length-3 c = search needs
-
 returns : tie.Need-returns
 returns c =
-    let a = c .before .before .before .before .before .before .before .before .before .before .before .before .before .before .before .before .args in
-    let row-of = c .before .before .before .before .before .before .before .before .before .before .before .before .row-of in
-    let read-number = c .before .before .before .before .before .before .before .before .before .before .read-number in
-    let tick-step = c .before .before .before .before .before .before .before .before .before .tick-step in
+    let c8 = c .before .before .before .before .before .before .before .before in
+    let c16 = c8 .before .before .before .before .before .before .before .before in
+    let a = c16 .args in
+    let row-of = c8 .before .before .before .before .row-of in
+    let read-number = c8 .before .before .read-number in
+    let tick-step = c8 .before .tick-step in
     ticks-is (now (a .cfg)) (a .event .0) (lent (now (a .records)) (now (a .debounce)) (now (a .memory)) (a .board)) (now (a .frame)) (row-of .result)
     (row-of .ensures) (held (read-number .ensures) (read-number .ok)) (answered (tick-step .result))
     (c .before .before .before .before .before .applies .ensures) (a .ms) (tick-step .ensures)
@@ -49,11 +33,7 @@ pub ticks-spec : {M : Type 1} → statement M
 ticks-spec =
     tie.close
     (tie.spec
-    row-of-requires
-    read-number-requires
+    (λ c κs. search needs) (λ c κs. search needs)
     tick-step-requires
-    applies-requires
-    same-length
-    same-length-2
-    same-length-3
+    (λ c κs. search needs) (λ c. search needs) (λ c. search needs) (λ c. search needs)
     returns)

@@ -8,17 +8,8 @@ use borrow.Author.Needs.{needs}
 use Rattle.queries.proofs.frame_of.Statement.{statement}
 use Rattle.queries.proofs.frame_of.Tie as tie
 
-frame-bytes-requires : tie.Need-frame-bytes-requires
-frame-bytes-requires c κs = search needs
-
-entry-frames-requires : tie.Need-entry-frames-requires
-entry-frames-requires c κs = search needs
-
 place-of-requires : tie.Need-place-of-requires
 place-of-requires c κs = rw (c .entry-frames .ensures) (c .before .before .before .pre)
-
-enum-known-own : tie.Need-enum-known-own
-enum-known-own c = search needs
 
 frame-start-requires : tie.Need-frame-start-requires
 frame-start-requires c κs =
@@ -29,9 +20,6 @@ frame-start-requires c κs =
     (c .before .before .before .before .entry-frames .ensures) pre (own .given .0 .0)
     (sym (c .before .before .before .place-of .ensures) ∙ own .given .1) in
     (most .0, omega arith)
-
-enum-told : tie.Need-enum-told
-enum-told c = search needs
 
 returns : tie.Need-returns
 returns c =
@@ -52,11 +40,10 @@ pub frame-of-spec : {M : Type 1} → statement M
 frame-of-spec =
     tie.close
     (tie.spec
-    frame-bytes-requires
-    entry-frames-requires
+    (λ c κs. search needs) (λ c κs. search needs)
     place-of-requires
-    enum-known-own
+    (λ c. search needs)
     frame-start-requires
-    enum-told
+    (λ c. search needs)
     returns
     returns-2)

@@ -10,20 +10,11 @@ use borrow.Author.Needs.{needs}
 use Rattle.queries.proofs.read_frame.Statement.{statement}
 use Rattle.queries.proofs.read_frame.Tie as tie
 
-judge-requires : tie.Need-judge-requires
-judge-requires c κs = search needs
-
-enum-told : tie.Need-enum-told
-enum-told c = search needs
-
 frame-of-requires : tie.Need-frame-of-requires
 frame-of-requires c κs =
     let a = c .before .before .before .before .before .args in
     let s = lent (now (a .records)) (now (a .debounce)) (now (a .memory)) (a .board) in
     may-seek (now (a .cfg)) s (a .event .0) (sym (c .before .before .judge .ensures) ∙ ap checkNumber (c .enum-told .given .1))
-
-enum-known-refusal : tie.Need-enum-known-refusal
-enum-known-refusal c = search needs
 
 returns : tie.Need-returns
 returns c =
@@ -41,4 +32,9 @@ returns-2 c =
 pub read-frame-spec : {M : Type 1} → statement M
 read-frame-spec =
     tie.close
-    (tie.spec judge-requires enum-told frame-of-requires enum-known-refusal returns returns-2)
+    (tie.spec
+    (λ c κs. search needs) (λ c. search needs)
+    frame-of-requires
+    (λ c. search needs)
+    returns
+    returns-2)

@@ -8,18 +8,6 @@ use borrow.Author.Needs.{needs}
 use Rattle.queries.proofs.read_status.Statement.{statement}
 use Rattle.queries.proofs.read_status.Tie as tie
 
-judge-requires : tie.Need-judge-requires
-judge-requires c κs = search needs
-
-enum-told : tie.Need-enum-told
-enum-told c = search needs
-
-status-of-requires : tie.Need-status-of-requires
-status-of-requires c κs = search needs
-
-enum-known-refusal : tie.Need-enum-known-refusal
-enum-known-refusal c = search needs
-
 returns : tie.Need-returns
 returns c =
     let a = c .before .before .before .before .before .before .args in
@@ -35,4 +23,7 @@ returns-2 c =
 pub read-status-spec : {M : Type 1} → statement M
 read-status-spec =
     tie.close
-    (tie.spec judge-requires enum-told status-of-requires enum-known-refusal returns returns-2)
+    (tie.spec
+    (λ c κs. search needs) (λ c. search needs) (λ c κs. search needs) (λ c. search needs)
+    returns
+    returns-2)

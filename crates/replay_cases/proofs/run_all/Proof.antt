@@ -14,12 +14,6 @@ abbrev μ-loop : tie.MeasureT-loop
 loop-holds : tie.Need-loop-holds Inv-loop μ-loop
 loop-holds c = tt
 
-returns : tie.Need-returns Inv-loop μ-loop
-returns c = search needs
-
-run-case-requires : tie.Need-run-case-requires Inv-loop μ-loop
-run-case-requires c κs = search needs
-
 add--case : tie.Need-add--case Inv-loop μ-loop
 add--case c = omega (arith, c .before .before .before .loop-test .taken, c .before .before .before .before .before .before .good .0)
 
@@ -29,9 +23,6 @@ loop-less c = omega (arith, c .before .before .before .loop-test .taken)
 loop-again : tie.Need-loop-again Inv-loop μ-loop
 loop-again c = tt
 
-returns-2 : tie.Need-returns-2 Inv-loop μ-loop
-returns-2 c = search needs
-
 pub run-all-spec : {M : Type 1} → statement M
 run-all-spec =
     tie.close
@@ -39,9 +30,8 @@ run-all-spec =
     Inv-loop
     μ-loop
     loop-holds
-    returns
-    run-case-requires
+    (λ c. search needs) (λ c κs. search needs)
     add--case
     loop-less
     loop-again
-    returns-2)
+    (λ c. search needs))

@@ -10,15 +10,6 @@ use borrow.Author.Needs.{needs}
 use Rattle.replay_cases.proofs.story.Statement.{statement}
 use Rattle.replay_cases.proofs.story.Tie as tie
 
-events-requires : tie.Need-events-requires
-events-requires c κs = search needs
-
-places-requires : tie.Need-places-requires
-places-requires c κs = search needs
-
-entry-frames-requires : tie.Need-entry-frames-requires
-entry-frames-requires c κs = search needs
-
 memory-length-requires : tie.Need-memory-length-requires
 memory-length-requires c κs = let t = config-tells (now (c .before .before .before .before .before .before .before .args .cfg)) (c .before .before .before .before .before .before .before .pre .accepted) in (rw (c .before .places .ensures) (t .M-most), rw (c .entry-frames .ensures) (t .payload-most))
 
@@ -58,15 +49,6 @@ slice-aggregate-memory c =
     let c8 = c .before .before .before .before .before .before .before .before in
     length-of-front _ _ (blocks-within (now (c8 .before .before .before .args .cfg)) (c8 .before .before .before .pre) (c .before .before .before .before .before .before .events .ensures) (rw (c .before .before .before .before .before .places .ensures, c .before .before .before .before .entry-frames .ensures) at (c .before .before .before .memory-length .ensures)) .memory-within)
 
-stopped-board-requires : tie.Need-stopped-board-requires
-stopped-board-requires c κs = search needs
-
-fresh-requires : tie.Need-fresh-requires
-fresh-requires c κs = search needs
-
-slice-aggregate-turns : tie.Need-slice-aggregate-turns
-slice-aggregate-turns c = search needs
-
 turns-requires : tie.Need-turns-requires
 turns-requires c κs =
     let c8 = c .before .before .before .before .before .before .before .before in
@@ -80,25 +62,11 @@ turns-requires c κs =
       buffer-long = omega (arith, few);
     }
 
-same-length : tie.Need-same-length
-same-length c = search needs
-
-same-length-2 : tie.Need-same-length-2
-same-length-2 c = search needs
-
-same-length-3 : tie.Need-same-length-3
-same-length-3 c = search needs
-
-returns : tie.Need-returns
-returns c = search needs
-
 pub story-spec : {M : Type 1} → statement M
 story-spec =
     tie.close
     (tie.spec
-    events-requires
-    places-requires
-    entry-frames-requires
+    (λ c κs. search needs) (λ c κs. search needs) (λ c κs. search needs)
     memory-length-requires
     mul-records
     slice-relend-prefix-records
@@ -107,11 +75,6 @@ story-spec =
     slice-aggregate-debounce
     slice-relend-prefix-memory
     slice-aggregate-memory
-    stopped-board-requires
-    fresh-requires
-    slice-aggregate-turns
+    (λ c κs. search needs) (λ c κs. search needs) (λ c. search needs)
     turns-requires
-    same-length
-    same-length-2
-    same-length-3
-    returns)
+    (λ c. search needs) (λ c. search needs) (λ c. search needs) (λ c. search needs))

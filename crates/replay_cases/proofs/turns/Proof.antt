@@ -15,9 +15,6 @@ abbrev μ-loop : tie.MeasureT-loop
 μ-loop cfg records₀ debounce₀ memory₀ text expected buffer₀ played₀ -turn₀ -turn-end records debounce memory buffer played -turn =
     -turn-end - -turn
 
-nothing-requires : tie.Need-nothing-requires Inv-loop μ-loop
-nothing-requires c κs = search needs
-
 loop-holds : tie.Need-loop-holds Inv-loop μ-loop
 loop-holds c = (refl, refl, refl, refl)
 
@@ -32,9 +29,6 @@ same-length-3 c = c .before .before .before .before .loop .inv .2
 
 same-length-4 : tie.Need-same-length-4 Inv-loop μ-loop
 same-length-4 c = c .before .before .before .before .loop .inv .3
-
-returns : tie.Need-returns Inv-loop μ-loop
-returns c = search needs
 
 turn-requires : tie.Need-turn-requires Inv-loop μ-loop
 turn-requires c κs =
@@ -52,7 +46,9 @@ add--turn c =
     omega (arith, c8 .before .before .before .before .before .before .loop-test .taken, c16 .before .before .before .before .before .before .good .1 .1 .1 .1 .1 .0)
 
 loop-less : tie.Need-loop-less Inv-loop μ-loop
-loop-less c = omega (arith, c .before .before .before .before .before .before .before .before .before .before .before .before .before .before .loop-test .taken)
+loop-less c =
+    let c8 = c .before .before .before .before .before .before .before .before in
+    omega (arith, c8 .before .before .before .before .before .before .loop-test .taken)
 
 loop-again : tie.Need-loop-again Inv-loop μ-loop
 loop-again c =
@@ -71,22 +67,19 @@ same-length-7 c = c .before .before .loop .inv .2
 same-length-8 : tie.Need-same-length-8 Inv-loop μ-loop
 same-length-8 c = c .before .before .loop .inv .3
 
-returns-2 : tie.Need-returns-2 Inv-loop μ-loop
-returns-2 c = search needs
-
 pub turns-spec : {M : Type 1} → statement M
 turns-spec =
     tie.close
     (tie.spec
     Inv-loop
     μ-loop
-    nothing-requires
+    (λ c κs. search needs)
     loop-holds
     same-length
     same-length-2
     same-length-3
     same-length-4
-    returns
+    (λ c. search needs)
     turn-requires
     add--turn
     loop-less
@@ -95,4 +88,4 @@ turns-spec =
     same-length-6
     same-length-7
     same-length-8
-    returns-2)
+    (λ c. search needs))

@@ -17,9 +17,6 @@ loop-holds c = tt
 shared-slice-read-if1 : tie.Need-shared-slice-read-if1 Inv-loop μ-loop
 shared-slice-read-if1 c = omega (arith, c .before .loop-test .taken)
 
-returns : tie.Need-returns Inv-loop μ-loop
-returns c = search needs
-
 add-i : tie.Need-add-i Inv-loop μ-loop
 add-i c = omega (arith, c .before .before .loop-test .taken)
 
@@ -29,9 +26,6 @@ loop-less c = omega (arith, c .before .before .loop-test .taken)
 loop-again : tie.Need-loop-again Inv-loop μ-loop
 loop-again c = tt
 
-returns-2 : tie.Need-returns-2 Inv-loop μ-loop
-returns-2 c = search needs
-
 pub word-end-spec : {M : Type 1} → statement M
 word-end-spec =
     tie.close
@@ -40,8 +34,8 @@ word-end-spec =
     μ-loop
     loop-holds
     shared-slice-read-if1
-    returns
+    (λ c. search needs)
     add-i
     loop-less
     loop-again
-    returns-2)
+    (λ c. search needs))

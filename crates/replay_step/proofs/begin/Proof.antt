@@ -11,24 +11,6 @@ returns : tie.Need-returns
 unfolding beginning
 returns c = rw (c .if1 .taken)
 
-next-number-requires : tie.Need-next-number-requires
-next-number-requires c κs = search needs
-
-enum-known-count : tie.Need-enum-known-count
-enum-known-count c = search needs
-
-counted-requires : tie.Need-counted-requires
-counted-requires c κs = search needs
-
-enum-told : tie.Need-enum-told
-enum-told c = search needs
-
-enum-told-2 : tie.Need-enum-told-2
-enum-told-2 c = search needs
-
-same-length : tie.Need-same-length
-same-length c = search needs
-
 returns-2 : tie.Need-returns-2
 unfolding beginning
 returns-2 c =
@@ -48,12 +30,8 @@ begin-spec =
     tie.close
     (tie.spec
     returns
-    next-number-requires
-    enum-known-count
-    counted-requires
-    enum-told
-    enum-told-2
-    same-length
+    (λ c κs. search needs) (λ c. search needs) (λ c κs. search needs) (λ c. search needs) (λ c. search needs)
+    (λ c. search needs)
     returns-2
     returns-3
     returns-4)

@@ -3,18 +3,6 @@ use borrow.Author.Needs.{needs}
 use Rattle.replay_step.proofs.call_asked.Statement.{statement}
 use Rattle.replay_step.proofs.call_asked.Tie as tie
 
-read-argument-requires : tie.Need-read-argument-requires
-read-argument-requires c κs = search needs
-
-enum-known-first : tie.Need-enum-known-first
-enum-known-first c = search needs
-
-call-with-requires : tie.Need-call-with-requires
-call-with-requires c κs = search needs
-
-enum-told : tie.Need-enum-told
-enum-told c = search needs
-
 returns : tie.Need-returns
 unfolding callAsked
 returns c = rw (← c .before .before .before .before .read-argument .ensures, c .before .before .first .given .1) (c .call-with .ensures)
@@ -27,9 +15,6 @@ pub call-asked-spec : {M : Type 1} → statement M
 call-asked-spec =
     tie.close
     (tie.spec
-    read-argument-requires
-    enum-known-first
-    call-with-requires
-    enum-told
+    (λ c κs. search needs) (λ c. search needs) (λ c κs. search needs) (λ c. search needs)
     returns
     returns-2)

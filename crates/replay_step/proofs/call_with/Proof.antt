@@ -4,9 +4,6 @@ use borrow.Author.Needs.{needs}
 use Rattle.replay_step.proofs.call_with.Statement.{statement}
 use Rattle.replay_step.proofs.call_with.Tie as tie
 
-report-asked-requires : tie.Need-report-asked-requires
-report-asked-requires c κs = search needs
-
 returns : tie.Need-returns
 unfolding callWith
 returns c = rw (c .before .match .keys1) (c .report-asked .ensures)
@@ -34,4 +31,4 @@ returns-6 c = simp (ne-eqb _ _ (c .match .rest .0 .0 .0 .0 .1), ne-eqb _ _ (c .m
 pub call-with-spec : {M : Type 1} → statement M
 call-with-spec =
     tie.close
-    (tie.spec report-asked-requires returns returns-2 returns-3 returns-4 returns-5 returns-6)
+    (tie.spec (λ c κs. search needs) returns returns-2 returns-3 returns-4 returns-5 returns-6)

@@ -10,24 +10,12 @@ use borrow.Author.Needs.{needs}
 use Rattle.replay_step.proofs.counted.Statement.{statement}
 use Rattle.replay_step.proofs.counted.Tie as tie
 
-count-allowed-requires : tie.Need-count-allowed-requires
-count-allowed-requires c κs = search needs
-
 returns : tie.Need-returns
 unfolding withCount
 returns c = let e = toZ-ofZ (c .before .before .before .fits .count) in let r = rw e at (c .before .count-allowed .ensures) in rw (← r, not-true (c .before .count-allowed .result) (c .if1 .taken))
 
-count-of-requires : tie.Need-count-of-requires
-count-of-requires c κs = search needs
-
-cast-read-configuration : tie.Need-cast-read-configuration
-cast-read-configuration c = search needs
-
 read-configuration-requires : tie.Need-read-configuration-requires
 read-configuration-requires c κs = let e = toZ-ofZ (c .before .before .before .before .before .fits .count) in let r = rw e at (c .before .before .before .count-allowed .ensures) in let n = rw e at (c .count-of .ensures) in rw n (le-trans (count-small _ (sym r ∙ not-false _ (c .before .before .if1 .left))) (c .before .before .before .before .before .pre))
-
-same-length : tie.Need-same-length
-same-length c = search needs
 
 returns-2 : tie.Need-returns-2
 unfolding withCount
@@ -37,10 +25,9 @@ pub counted-spec : {M : Type 1} → statement M
 counted-spec =
     tie.close
     (tie.spec
-    count-allowed-requires
+    (λ c κs. search needs)
     returns
-    count-of-requires
-    cast-read-configuration
+    (λ c κs. search needs) (λ c. search needs)
     read-configuration-requires
-    same-length
+    (λ c. search needs)
     returns-2)

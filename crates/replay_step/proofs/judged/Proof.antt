@@ -12,9 +12,6 @@ use Rattle.replay_step.proofs.judged.Tie as tie
 slice-aggregate-config-ok : tie.Need-slice-aggregate-config-ok
 slice-aggregate-config-ok c = length-of-front _ _ (c .before .pre)
 
-config-ok-requires : tie.Need-config-ok-requires
-config-ok-requires c κs = search needs
-
 returns : tie.Need-returns
 unfolding judgedNumbers
 returns c = rw (← c .before .config-ok .ensures, c .if1 .taken) (λ i. leaving (Ready (length-of-front (c .before .before .before .args .count) (now (c .before .before .before .args .cfg)) (c .before .before .before .pre) i) (c .before .before .before .args .next)) (sym (laid-front (now (c .before .before .before .args .cfg)) (c .before .before .before .args .count) (c .before .before .before .pre)) i))
@@ -24,4 +21,5 @@ unfolding judgedNumbers
 returns-2 c = rw (← c .before .config-ok .ensures, c .if1 .left) (λ i. leaving Begun.Refused (sym (laid-front (now (c .before .before .before .args .cfg)) (c .before .before .before .args .count) (c .before .before .before .pre)) i))
 
 pub judged-spec : {M : Type 1} → statement M
-judged-spec = tie.close (tie.spec slice-aggregate-config-ok config-ok-requires returns returns-2)
+judged-spec = tie.close
+    (tie.spec slice-aggregate-config-ok (λ c κs. search needs) returns returns-2)

@@ -8,27 +8,9 @@ use borrow.Author.Needs.{needs}
 use Rattle.replay_step.proofs.next_call.Statement.{statement}
 use Rattle.replay_step.proofs.next_call.Tie as tie
 
-next-number-requires : tie.Need-next-number-requires
-next-number-requires c κs = search needs
-
-enum-known-read : tie.Need-enum-known-read
-enum-known-read c = search needs
-
 returns : tie.Need-returns
 unfolding askedAt
 returns c = rw (← c .before .before .before .before .next-number .ensures, c .before .before .read .given .1, c .if1 .taken)
-
-count-of-requires : tie.Need-count-of-requires
-count-of-requires c κs = search needs
-
-call-asked-requires : tie.Need-call-asked-requires
-call-asked-requires c κs = search needs
-
-enum-told : tie.Need-enum-told
-enum-told c = search needs
-
-enum-told-2 : tie.Need-enum-told-2
-enum-told-2 c = search needs
 
 returns-2 : tie.Need-returns-2
 unfolding askedAt
@@ -48,13 +30,9 @@ pub next-call-spec : {M : Type 1} → statement M
 next-call-spec =
     tie.close
     (tie.spec
-    next-number-requires
-    enum-known-read
+    (λ c κs. search needs) (λ c. search needs)
     returns
-    count-of-requires
-    call-asked-requires
-    enum-told
-    enum-told-2
+    (λ c κs. search needs) (λ c κs. search needs) (λ c. search needs) (λ c. search needs)
     returns-2
     returns-3
     returns-4)

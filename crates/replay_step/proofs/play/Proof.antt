@@ -7,35 +7,11 @@ use borrow.Author.Needs.{needs}
 use Rattle.replay_step.proofs.play.Statement.{statement}
 use Rattle.replay_step.proofs.play.Tie as tie
 
-frame-bytes-requires : tie.Need-frame-bytes-requires
-frame-bytes-requires c κs = search needs
-
 array-share-prefix-zeros : tie.Need-array-share-prefix-zeros
 array-share-prefix-zeros c = rw (c .frame-bytes .ensures) (config-tells (now (c .before .before .before .before .args .cfg)) (c .before .before .before .before .pre .accepted) .F-most)
 
 slice-aggregate-frame : tie.Need-slice-aggregate-frame
 slice-aggregate-frame c = length-of-front _ _ (rw (c .before .frame-bytes .ensures) (config-tells (now (c .before .before .before .before .before .args .cfg)) (c .before .before .before .before .before .pre .accepted) .F-most))
-
-make-requires : tie.Need-make-requires
-make-requires c κs = search needs
-
-events-requires : tie.Need-events-requires
-events-requires c κs = search needs
-
-fill-line-requires : tie.Need-fill-line-requires
-fill-line-requires c κs = search needs
-
-same-length : tie.Need-same-length
-same-length c = search needs
-
-same-length-2 : tie.Need-same-length-2
-same-length-2 c = search needs
-
-same-length-3 : tie.Need-same-length-3
-same-length-3 c = search needs
-
-same-length-4 : tie.Need-same-length-4
-same-length-4 c = search needs
 
 returns : tie.Need-returns
 returns c =
@@ -48,14 +24,9 @@ pub play-spec : {M : Type 1} → statement M
 play-spec =
     tie.close
     (tie.spec
-    frame-bytes-requires
+    (λ c κs. search needs)
     array-share-prefix-zeros
     slice-aggregate-frame
-    make-requires
-    events-requires
-    fill-line-requires
-    same-length
-    same-length-2
-    same-length-3
-    same-length-4
+    (λ c κs. search needs) (λ c κs. search needs) (λ c κs. search needs) (λ c. search needs) (λ c. search needs)
+    (λ c. search needs) (λ c. search needs)
     returns)

@@ -4,15 +4,10 @@ use borrow.Author.Needs.{needs}
 use Rattle.replay_step.proofs.read_argument.Statement.{statement}
 use Rattle.replay_step.proofs.read_argument.Tie as tie
 
-next-number-requires : tie.Need-next-number-requires
-next-number-requires c κs = search needs
-
-argument-of-requires : tie.Need-argument-of-requires
-argument-of-requires c κs = search needs
-
 returns : tie.Need-returns
 unfolding argumentAt
 returns c = c .argument-of .ensures ∙ ap argumentOf (c .before .next-number .ensures)
 
 pub read-argument-spec : {M : Type 1} → statement M
-read-argument-spec = tie.close (tie.spec next-number-requires argument-of-requires returns)
+read-argument-spec = tie.close
+    (tie.spec (λ c κs. search needs) (λ c κs. search needs) returns)

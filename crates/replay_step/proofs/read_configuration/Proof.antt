@@ -5,30 +5,13 @@ use borrow.Author.Needs.{needs}
 use Rattle.replay_step.proofs.read_configuration.Statement.{statement}
 use Rattle.replay_step.proofs.read_configuration.Tie as tie
 
-read-numbers-requires : tie.Need-read-numbers-requires
-read-numbers-requires c κs = search needs
-
-enum-known-next : tie.Need-enum-known-next
-enum-known-next c = search needs
-
-judged-requires : tie.Need-judged-requires
-judged-requires c κs = search needs
-
-enum-told : tie.Need-enum-told
-enum-told c = search needs
-
-same-length : tie.Need-same-length
-same-length c = search needs
-
 returns : tie.Need-returns
 returns c =
-    let a = c .before .before .before .before .before .before .before .before .before .args in
+    let c8 = c .before .before .before .before .before .before .before .before in
+    let a = c8 .before .args in
     read-judged (a .count) (numbersRead (a .count) (a .from .at) (now (a .text))) (now (a .cfg)) (counts (now (a .text)) (a .from .at) (a .count))
     (rw (c .before .before .before .next .given .1) at (c .before .before .before .before .before .before .read-numbers .ensures))
     (c .judged .ensures)
-
-same-length-2 : tie.Need-same-length-2
-same-length-2 c = search needs
 
 returns-2 : tie.Need-returns-2
 returns-2 c =
@@ -39,11 +22,7 @@ pub read-configuration-spec : {M : Type 1} → statement M
 read-configuration-spec =
     tie.close
     (tie.spec
-    read-numbers-requires
-    enum-known-next
-    judged-requires
-    enum-told
-    same-length
+    (λ c κs. search needs) (λ c. search needs) (λ c κs. search needs) (λ c. search needs) (λ c. search needs)
     returns
-    same-length-2
+    (λ c. search needs)
     returns-2)

@@ -9,27 +9,6 @@ use borrow.Author.Needs.{needs}
 use Rattle.replay_step.proofs.read_into.Statement.{statement}
 use Rattle.replay_step.proofs.read_into.Tie as tie
 
-next-number-requires : tie.Need-next-number-requires
-next-number-requires c κs = search needs
-
-enum-known-read : tie.Need-enum-known-read
-enum-known-read c = search needs
-
-mul-value : tie.Need-mul-value
-mul-value c = search needs
-
-slice-set-from-value : tie.Need-slice-set-from-value
-slice-set-from-value c = search needs
-
-enum-told : tie.Need-enum-told
-enum-told c = search needs
-
-enum-told-2 : tie.Need-enum-told-2
-enum-told-2 c = search needs
-
-same-length : tie.Need-same-length
-same-length c = search needs
-
 returns : tie.Need-returns
 returns c = rw (← c .before .before .before .before .before .next-number .ensures, c .before .before .before .read .given .1) (ap (leaving (Numbers.Read (c .before .before .before .read .given .0 .0 .next))) (rw (back (c .before .before .before .read .given .0 .0 .value) (c .before .struct-told .given .0 .1)) (laid-next _ _ _ (c .before .before .before .before .before .before .before .pre))))
 
@@ -43,13 +22,8 @@ pub read-into-spec : {M : Type 1} → statement M
 read-into-spec =
     tie.close
     (tie.spec
-    next-number-requires
-    enum-known-read
-    mul-value
-    slice-set-from-value
-    enum-told
-    enum-told-2
-    same-length
+    (λ c κs. search needs) (λ c. search needs) (λ c. search needs) (λ c. search needs) (λ c. search needs)
+    (λ c. search needs) (λ c. search needs)
     returns
     returns-2
     returns-3)

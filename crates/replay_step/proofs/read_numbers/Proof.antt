@@ -23,30 +23,24 @@ loop-holds c = (omega arith, refl, refl, refl)
 read-into-requires : tie.Need-read-into-requires Inv-loop μ-loop
 read-into-requires c κs = omega (arith, c .before .before .loop .inv .1, c .before .loop-test .taken, c .before .before .before .before .pre)
 
-enum-known-behind : tie.Need-enum-known-behind Inv-loop μ-loop
-enum-known-behind c = search needs
-
-enum-told : tie.Need-enum-told Inv-loop μ-loop
-enum-told c = search needs
-
-same-length : tie.Need-same-length Inv-loop μ-loop
-same-length c = search needs
-
 returns : tie.Need-returns Inv-loop μ-loop
 returns c =
     let c8 = c .before .before .before .before .before .before .before .before in
     turn-unread (now (c8 .args .text)) (c8 .args .from .at) (c .before .before .before .before .before .before .loop .place) _ _ (omega (arith, c .before .before .before .before .before .before .loop .inv .1, c .before .before .before .before .before .loop-test .taken, c8 .pre)) (c .before .before .before .before .before .before .loop .inv .2) (c .before .before .before .before .before .before .loop .inv .3) (c8 .args .count) (c .before .before .before .before .before .loop-test .taken) _ refl (rw (c .enum-told .given .1) at (c .before .before .before .read-into .ensures))
 
 add-place : tie.Need-add-place Inv-loop μ-loop
-add-place c = omega (arith, c .before .before .before .before .before .before .loop-test .taken, c .before .before .before .before .before .before .before .before .before .fits .count)
+add-place c =
+    let c8 = c .before .before .before .before .before .before .before .before in
+    omega (arith, c .before .before .before .before .before .before .loop-test .taken, c8 .before .fits .count)
 
 loop-less : tie.Need-loop-less Inv-loop μ-loop
 loop-less c = omega (arith, c .before .before .before .before .before .before .loop-test .taken)
 
 loop-again : tie.Need-loop-again Inv-loop μ-loop
 loop-again c =
-    let t = turn-read (now (c .before .before .before .before .before .before .before .before .before .args .text)) (c .before .before .before .before .before .before .before .before .before .args .from .at) (c .before .before .before .before .before .before .before .loop .place) _ _
-    (omega (arith, c .before .before .before .before .before .before .before .loop .inv .1, c .before .before .before .before .before .before .loop-test .taken, c .before .before .before .before .before .before .before .before .before .pre))
+    let c8 = c .before .before .before .before .before .before .before .before in
+    let t = turn-read (now (c8 .before .args .text)) (c8 .before .args .from .at) (c .before .before .before .before .before .before .before .loop .place) _ _
+    (omega (arith, c .before .before .before .before .before .before .before .loop .inv .1, c .before .before .before .before .before .before .loop-test .taken, c8 .before .pre))
     (c .before .before .before .before .before .before .before .loop .inv .2) (c .before .before .before .before .before .before .before .loop .inv .3) _ refl (rw (c .before .behind .given .1) at (c .before .before .before .before .read-into .ensures)) in
     (omega (arith, c .before .before .before .before .before .before .loop-test .taken), c .before .before .before .before .read-into .kept .1 .1 .0 ∙ c .before .before .before .before .before .before .before .loop .inv .1, rw add-one (t .0), rw add-one (t .1))
 
@@ -64,9 +58,7 @@ read-numbers-spec =
     μ-loop
     loop-holds
     read-into-requires
-    enum-known-behind
-    enum-told
-    same-length
+    (λ c. search needs) (λ c. search needs) (λ c. search needs)
     returns
     add-place
     loop-less

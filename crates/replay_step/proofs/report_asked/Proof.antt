@@ -3,15 +3,6 @@ use borrow.Author.Needs.{needs}
 use Rattle.replay_step.proofs.report_asked.Statement.{statement}
 use Rattle.replay_step.proofs.report_asked.Tie as tie
 
-read-argument-requires : tie.Need-read-argument-requires
-read-argument-requires c κs = search needs
-
-enum-known-code : tie.Need-enum-known-code
-enum-known-code c = search needs
-
-enum-told : tie.Need-enum-told
-enum-told c = search needs
-
 returns : tie.Need-returns
 unfolding reportAsked
 returns c = rw (← c .before .before .before .read-argument .ensures, c .before .code .given .1)
@@ -22,4 +13,5 @@ returns-2 c = rw (← c .before .before .read-argument .ensures, c .enum-told .g
 
 pub report-asked-spec : {M : Type 1} → statement M
 report-asked-spec =
-    tie.close (tie.spec read-argument-requires enum-known-code enum-told returns returns-2)
+    tie.close
+    (tie.spec (λ c κs. search needs) (λ c. search needs) (λ c. search needs) returns returns-2)

@@ -6,17 +6,8 @@ use borrow.Author.Needs.{needs}
 use Rattle.reporting.proofs.judge_report.Statement.{statement}
 use Rattle.reporting.proofs.judge_report.Tie as tie
 
-begin-requires : tie.Need-begin-requires
-begin-requires c κs = search needs
-
-enum-told : tie.Need-enum-told
-enum-told c = search needs
-
 report-tests-requires : tie.Need-report-tests-requires
 report-tests-requires c κs = begun-by _ _ true (c .before .before .begin .ensures) (c .enum-told .given .1)
-
-enum-known-r : tie.Need-enum-known-r
-enum-known-r c = search needs
 
 returns : tie.Need-returns
 unfolding reportRules
@@ -29,4 +20,9 @@ returns-2 c = stopped-by _ _ true (c .before .before .before .begin .ensures) _ 
 pub judge-report-spec : {M : Type 1} → statement M
 judge-report-spec =
     tie.close
-    (tie.spec begin-requires enum-told report-tests-requires enum-known-r returns returns-2)
+    (tie.spec
+    (λ c κs. search needs) (λ c. search needs)
+    report-tests-requires
+    (λ c. search needs)
+    returns
+    returns-2)

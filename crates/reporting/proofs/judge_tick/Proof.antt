@@ -6,18 +6,6 @@ use borrow.Author.Needs.{needs}
 use Rattle.reporting.proofs.judge_tick.Statement.{statement}
 use Rattle.reporting.proofs.judge_tick.Tie as tie
 
-begin-requires : tie.Need-begin-requires
-begin-requires c κs = search needs
-
-enum-told : tie.Need-enum-told
-enum-told c = search needs
-
-tick-tests-requires : tie.Need-tick-tests-requires
-tick-tests-requires c κs = search needs
-
-enum-known-r : tie.Need-enum-known-r
-enum-known-r c = search needs
-
 returns : tie.Need-returns
 unfolding tickRules
 returns c = judged-by _ _ true (c .before .before .before .begin .ensures) _ (c .before .enum-told .given .1) (c .tick-tests .ensures)
@@ -29,4 +17,7 @@ returns-2 c = stopped-by _ _ true (c .before .before .before .begin .ensures) _ 
 pub judge-tick-spec : {M : Type 1} → statement M
 judge-tick-spec =
     tie.close
-    (tie.spec begin-requires enum-told tick-tests-requires enum-known-r returns returns-2)
+    (tie.spec
+    (λ c κs. search needs) (λ c. search needs) (λ c κs. search needs) (λ c. search needs)
+    returns
+    returns-2)

@@ -3,11 +3,9 @@ use borrow.Author.Needs.{needs}
 use Rattle.reporting.proofs.no_pre_result.Statement.{statement}
 use Rattle.reporting.proofs.no_pre_result.Tie as tie
 
-kind-of-requires : tie.Need-kind-of-requires
-kind-of-requires c κs = search needs
-
 returns : tie.Need-returns
 returns c = cc
 
 pub no-pre-result-spec : {M : Type 1} → statement M
-no-pre-result-spec = tie.close (tie.spec kind-of-requires returns)
+no-pre-result-spec = tie.close
+    (tie.spec (λ c κs. search needs) returns)

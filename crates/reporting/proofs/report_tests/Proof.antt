@@ -8,9 +8,6 @@ use borrow.Author.Needs.{needs}
 use Rattle.reporting.proofs.report_tests.Statement.{statement}
 use Rattle.reporting.proofs.report_tests.Tie as tie
 
-events-requires : tie.Need-events-requires
-events-requires c κs = search needs
-
 returns : tie.Need-returns
 unfolding firstThatApplies
 returns c = simp (← c .before .before .events .ensures, c .if1 .taken)
@@ -32,4 +29,5 @@ returns-3 c =
 
 pub report-tests-spec : {M : Type 1} → statement M
 report-tests-spec =
-    tie.close (tie.spec events-requires returns returns-2 row-tests-requires returns-3)
+    tie.close
+    (tie.spec (λ c κs. search needs) returns returns-2 row-tests-requires returns-3)

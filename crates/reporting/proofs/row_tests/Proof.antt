@@ -4,15 +4,6 @@ use borrow.Author.Needs.{needs}
 use Rattle.reporting.proofs.row_tests.Statement.{statement}
 use Rattle.reporting.proofs.row_tests.Tie as tie
 
-no-pre-result-requires : tie.Need-no-pre-result-requires
-no-pre-result-requires c κs = search needs
-
-wrong-frame-requires : tie.Need-wrong-frame-requires
-wrong-frame-requires c κs = search needs
-
-cycle-runs-requires : tie.Need-cycle-runs-requires
-cycle-runs-requires c κs = search needs
-
 returns : tie.Need-returns
 unfolding firstThatApplies
 returns c = simp (← c .before .before .before .no-pre-result .ensures, c .if1 .taken)
@@ -42,9 +33,7 @@ pub row-tests-spec : {M : Type 1} → statement M
 row-tests-spec =
     tie.close
     (tie.spec
-    no-pre-result-requires
-    wrong-frame-requires
-    cycle-runs-requires
+    (λ c κs. search needs) (λ c κs. search needs) (λ c κs. search needs)
     returns
     returns-2
     returns-3

@@ -8,9 +8,6 @@ use borrow.Author.Needs.{needs}
 use Rattle.reporting.proofs.tick.Statement.{statement}
 use Rattle.reporting.proofs.tick.Tie as tie
 
-judge-tick-requires : tie.Need-judge-tick-requires
-judge-tick-requires c κs = search needs
-
 enum-told : tie.Need-enum-told
 enum-told c = search needs
 
@@ -18,36 +15,13 @@ tick-events-requires : tie.Need-tick-events-requires
 tick-events-requires c κs =
     may-tick _ _ _ _ (passed-by _ (c .before .before .before .before .before .judge-tick .ensures) (c .before .before .before .enum-told .given .1))
 
-enum-known-r : tie.Need-enum-known-r
-enum-known-r c = search needs
-
-refuse-tick-requires : tie.Need-refuse-tick-requires
-refuse-tick-requires c κs = search needs
-
-same-length : tie.Need-same-length
-same-length c = search needs
-
-same-length-2 : tie.Need-same-length-2
-same-length-2 c = search needs
-
-same-length-3 : tie.Need-same-length-3
-same-length-3 c = search needs
-
 returns : tie.Need-returns
 unfolding tick
 returns c =
-    let judge-tick = c .before .before .before .before .before .before .before .before .before .before .before .judge-tick in
-    let enum-told = c .before .before .before .before .before .before .before .before .before .enum-told in
+    let c8 = c .before .before .before .before .before .before .before .before in
+    let judge-tick = c8 .before .before .before .judge-tick in
+    let enum-told = c8 .before .enum-told in
     accepted-by _ (judge-tick .ensures) _ _ _ (enum-told .given .1) (ap (done alone) (c .before .before .before .before .before .tick-events .ensures))
-
-same-length-4 : tie.Need-same-length-4
-same-length-4 c = search needs
-
-same-length-5 : tie.Need-same-length-5
-same-length-5 c = search needs
-
-same-length-6 : tie.Need-same-length-6
-same-length-6 c = search needs
 
 returns-2 : tie.Need-returns-2
 unfolding tick
@@ -57,16 +31,10 @@ pub tick-spec : {M : Type 1} → statement M
 tick-spec =
     tie.close
     (tie.spec
-    judge-tick-requires
+    (λ c κs. search needs)
     enum-told
     tick-events-requires
-    enum-known-r
-    refuse-tick-requires
-    same-length
-    same-length-2
-    same-length-3
+    (λ c. search needs) (λ c κs. search needs) (λ c. search needs) (λ c. search needs) (λ c. search needs)
     returns
-    same-length-4
-    same-length-5
-    same-length-6
+    (λ c. search needs) (λ c. search needs) (λ c. search needs)
     returns-2)

@@ -21,32 +21,25 @@ Inv-loop cfg records₀ debounce₀ memory₀ board ms frame n after₀ event₀
 abbrev μ-loop : tie.MeasureT-loop
 μ-loop cfg records₀ debounce₀ memory₀ board ms frame n after₀ event₀ records debounce memory after event = n - event
 
-events-requires : tie.Need-events-requires Inv-loop μ-loop
-events-requires c κs = search needs
-
 loop-holds : tie.Need-loop-holds Inv-loop μ-loop
 loop-holds c = let a = c .before .before .before .before .args in
     (omega arith, no-turn (timeRuns (now (a .cfg)) (a .board)) (ticks (now (a .cfg)) (a .ms) (now (a .frame))) _, refl, refl, refl)
 
 tick-event-requires : tie.Need-tick-event-requires Inv-loop μ-loop
 tick-event-requires c κs =
-    let m = c .before .before .before .before .before .before .before .before .before .pre in
+    let c8 = c .before .before .before .before .before .before .before .before in
+    let m = c8 .before .pre in
     let loop = c .before .before .before .before .loop in
-    let cfg = c .before .before .before .before .before .before .before .before .before .args .cfg in
+    let cfg = c8 .before .args .cfg in
     let below : loop .event < events (now cfg) = omega (arith, c .before .before .before .loop-test .taken, c .before .before .before .before .before .events .ensures) in
     (turn-ready _ _ _ _ m (loop .event) below (loop .inv .1), (m .frame-fits, m .short))
 
-add-event : tie.Need-add-event Inv-loop μ-loop
-add-event c = omega arith
-
-loop-less : tie.Need-loop-less Inv-loop μ-loop
-loop-less c = omega arith
-
 loop-again : tie.Need-loop-again Inv-loop μ-loop
 loop-again c =
-    let loop = c .before .before .before .before .before .before .before .before .before .before .loop in
+    let c8 = c .before .before .before .before .before .before .before .before in
+    let loop = c8 .before .before .loop in
     let inv = loop .inv in
-    let a = c .before .before .before .before .before .before .before .before .before .before .before .before .before .before .before .args in
+    let a = c8 .before .before .before .before .before .before .before .args in
     let tick-event = c .before .before .before .before .before .tick-event in (
       omega arith,
       next-turn (timeRuns (now (a .cfg)) (a .board)) (ticks (now (a .cfg)) (a .ms) (now (a .frame))) (loop .event) _ (inv .1) (tick-event .ensures),
@@ -54,15 +47,6 @@ loop-again c =
       tick-event .kept .1 .1 .0 ∙ inv .3,
       tick-event .kept .1 .1 .1 .0 ∙ inv .4,
     )
-
-same-length : tie.Need-same-length Inv-loop μ-loop
-same-length c = search needs
-
-same-length-2 : tie.Need-same-length-2 Inv-loop μ-loop
-same-length-2 c = search needs
-
-same-length-3 : tie.Need-same-length-3 Inv-loop μ-loop
-same-length-3 c = search needs
 
 returns : tie.Need-returns Inv-loop μ-loop
 returns c =
@@ -76,13 +60,10 @@ tick-events-spec =
     (tie.spec
     Inv-loop
     μ-loop
-    events-requires
+    (λ c κs. search needs)
     loop-holds
     tick-event-requires
-    add-event
-    loop-less
+    (λ c. omega arith) (λ c. omega arith)
     loop-again
-    same-length
-    same-length-2
-    same-length-3
+    (λ c. search needs) (λ c. search needs) (λ c. search needs)
     returns)

@@ -4,9 +4,6 @@ use borrow.Author.Needs.{needs}
 use Rattle.reporting.proofs.tick_tests.Statement.{statement}
 use Rattle.reporting.proofs.tick_tests.Tie as tie
 
-wrong-frame-requires : tie.Need-wrong-frame-requires
-wrong-frame-requires c κs = search needs
-
 returns : tie.Need-returns
 unfolding firstThatApplies
 returns c = simp (c .if1 .taken)
@@ -20,4 +17,5 @@ unfolding firstThatApplies
 returns-3 c = simp (← c .before .before .wrong-frame .ensures, c .before .if1 .left, c .if2 .left)
 
 pub tick-tests-spec : {M : Type 1} → statement M
-tick-tests-spec = tie.close (tie.spec wrong-frame-requires returns returns-2 returns-3)
+tick-tests-spec = tie.close
+    (tie.spec (λ c κs. search needs) returns returns-2 returns-3)

@@ -3,11 +3,9 @@ use borrow.Author.Needs.{needs}
 use Rattle.reporting.proofs.wrong_frame.Statement.{statement}
 use Rattle.reporting.proofs.wrong_frame.Tie as tie
 
-frame-bytes-requires : tie.Need-frame-bytes-requires
-frame-bytes-requires c κs = search needs
-
 returns : tie.Need-returns
 returns c = cc
 
 pub wrong-frame-spec : {M : Type 1} → statement M
-wrong-frame-spec = tie.close (tie.spec frame-bytes-requires returns)
+wrong-frame-spec = tie.close
+    (tie.spec (λ c κs. search needs) returns)

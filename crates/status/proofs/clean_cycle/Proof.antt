@@ -9,13 +9,11 @@ use Rattle.status.proofs.MasksLaws.{maskOf, shares-is, neither-set}
 use Rattle.status.proofs.clean_cycle.Statement.{statement}
 use Rattle.status.proofs.clean_cycle.Tie as tie
 
-shares-requires : tie.Need-shares-requires
-shares-requires c κs = search needs
-
 returns : tie.Need-returns
 returns c =
     let s = c .before .args .s .0 in
     ap not (shares-is s (maskOf (testFailedThisOperationCycle ∷ testNotCompletedThisOperationCycle ∷ [])) (lit< tt) (c .shares .ensures)) ∙ neither-set (statusOf s testFailedThisOperationCycle) (statusOf s testNotCompletedThisOperationCycle)
 
 pub clean-cycle-spec : {M : Type 1} → statement M
-clean-cycle-spec = tie.close (tie.spec shares-requires returns)
+clean-cycle-spec = tie.close
+    (tie.spec (λ c κs. search needs) returns)

@@ -5,11 +5,9 @@ use borrow.Author.Needs.{needs}
 use Rattle.status.proofs.count_ok.Statement.{statement}
 use Rattle.status.proofs.count_ok.Tie as tie
 
-implies-requires : tie.Need-implies-requires
-implies-requires c κs = search needs
-
 returns : tie.Need-returns
 returns c = λ i. ltb (c .before .args .count) (c .before .args .limit) && c .implies .ensures i
 
 pub count-ok-spec : {M : Type 1} → statement M
-count-ok-spec = tie.close (tie.spec implies-requires returns)
+count-ok-spec = tie.close
+    (tie.spec (λ c κs. search needs) returns)

@@ -13,30 +13,6 @@ use Rattle.status.proofs.RecordsLaws.{bytes-are}
 use Rattle.status.proofs.failed.Statement.{statement}
 use Rattle.status.proofs.failed.Tie as tie
 
-contains-requires : tie.Need-contains-requires
-contains-requires c κs = search needs
-
-risen-if-requires : tie.Need-risen-if-requires
-risen-if-requires c κs = search needs
-
-cast-confirms : tie.Need-cast-confirms
-cast-confirms c = search needs
-
-set-requires : tie.Need-set-requires
-set-requires c κs = search needs
-
-clear-requires : tie.Need-clear-requires
-clear-requires c κs = search needs
-
-set-if-requires : tie.Need-set-if-requires
-set-if-requires c κs = search needs
-
-set-if-requires-2 : tie.Need-set-if-requires-2
-set-if-requires-2 c κs = search needs
-
-contains-requires-2 : tie.Need-contains-requires-2
-contains-requires-2 c κs = search needs
-
 returns : tie.Need-returns
 returns c =
     let start = c .before .before .before .before .before .before .before .before in
@@ -63,12 +39,6 @@ pub failed-spec : {M : Type 1} → statement M
 failed-spec =
     tie.close
     (tie.spec
-    contains-requires
-    risen-if-requires
-    cast-confirms
-    set-requires
-    clear-requires
-    set-if-requires
-    set-if-requires-2
-    contains-requires-2
+    (λ c κs. search needs) (λ c κs. search needs) (λ c. search needs) (λ c κs. search needs) (λ c κs. search needs)
+    (λ c κs. search needs) (λ c κs. search needs) (λ c κs. search needs)
     returns)

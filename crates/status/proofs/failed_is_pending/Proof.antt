@@ -8,18 +8,6 @@ use Rattle.status.proofs.MasksLaws.{contains-is}
 use Rattle.status.proofs.failed_is_pending.Statement.{statement}
 use Rattle.status.proofs.failed_is_pending.Tie as tie
 
-contains-requires : tie.Need-contains-requires
-contains-requires c κs = search needs
-
-contains-requires-2 : tie.Need-contains-requires-2
-contains-requires-2 c κs = search needs
-
-contains-requires-3 : tie.Need-contains-requires-3
-contains-requires-3 c κs = search needs
-
-implies-requires : tie.Need-implies-requires
-implies-requires c κs = search needs
-
 returns : tie.Need-returns
 returns c =
     let s = c .before .before .before .before .args .s .0 in
@@ -31,4 +19,6 @@ returns c =
 pub failed-is-pending-spec : {M : Type 1} → statement M
 failed-is-pending-spec =
     tie.close
-    (tie.spec contains-requires contains-requires-2 contains-requires-3 implies-requires returns)
+    (tie.spec
+    (λ c κs. search needs) (λ c κs. search needs) (λ c κs. search needs) (λ c κs. search needs)
+    returns)

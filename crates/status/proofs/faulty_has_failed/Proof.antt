@@ -10,15 +10,6 @@ use Rattle.status.proofs.MasksLaws.{maskOf, contains-is, shares-is, one
 use Rattle.status.proofs.faulty_has_failed.Statement.{statement}
 use Rattle.status.proofs.faulty_has_failed.Tie as tie
 
-shares-requires : tie.Need-shares-requires
-shares-requires c κs = search needs
-
-contains-requires : tie.Need-contains-requires
-contains-requires c κs = search needs
-
-implies-requires : tie.Need-implies-requires
-implies-requires c κs = search needs
-
 returns : tie.Need-returns
 returns c =
     let s = c .before .before .before .args .s .0 in
@@ -29,4 +20,5 @@ returns c =
 
 pub faulty-has-failed-spec : {M : Type 1} → statement M
 faulty-has-failed-spec =
-    tie.close (tie.spec shares-requires contains-requires implies-requires returns)
+    tie.close
+    (tie.spec (λ c κs. search needs) (λ c κs. search needs) (λ c κs. search needs) returns)

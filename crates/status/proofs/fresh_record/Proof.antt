@@ -5,11 +5,9 @@ use borrow.Author.Needs.{needs}
 use Rattle.status.proofs.fresh_record.Statement.{statement}
 use Rattle.status.proofs.fresh_record.Tie as tie
 
-fresh-requires : tie.Need-fresh-requires
-fresh-requires c κs = search needs
-
 returns : tie.Need-returns
 returns c = ap (λ (x : ℕ). record { status = x; K = 0; h = 0; g = 0 }) (c .fresh .ensures)
 
 pub fresh-record-spec : {M : Type 1} → statement M
-fresh-record-spec = tie.close (tie.spec fresh-requires returns)
+fresh-record-spec = tie.close
+    (tie.spec (λ c κs. search needs) returns)

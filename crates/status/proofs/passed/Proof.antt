@@ -8,9 +8,6 @@ use Rattle.status.proofs.RecordsLaws.{bytes-are}
 use Rattle.status.proofs.passed.Statement.{statement}
 use Rattle.status.proofs.passed.Tie as tie
 
-clear-requires : tie.Need-clear-requires
-clear-requires c κs = search needs
-
 returns : tie.Need-returns
 returns c =
     λ n. bytes-are (search needs)
@@ -18,4 +15,5 @@ returns c =
     refl refl refl
 
 pub passed-spec : {M : Type 1} → statement M
-passed-spec = tie.close (tie.spec clear-requires returns)
+passed-spec = tie.close
+    (tie.spec (λ c κs. search needs) returns)

@@ -8,16 +8,11 @@ use Rattle.status.proofs.MasksLaws.{contains-is}
 use Rattle.status.proofs.pending_has_cycles.Statement.{statement}
 use Rattle.status.proofs.pending_has_cycles.Tie as tie
 
-contains-requires : tie.Need-contains-requires
-contains-requires c κs = search needs
-
-same-requires : tie.Need-same-requires
-same-requires c κs = search needs
-
 returns : tie.Need-returns
 returns c =
     let r = c .before .before .before .before .args .r in
     c .same .ensures ∙ (λ i. same (leb 1 (r .k)) (contains-is (r .status .0) pendingDTC (c .before .contains .ensures) i))
 
 pub pending-has-cycles-spec : {M : Type 1} → statement M
-pending-has-cycles-spec = tie.close (tie.spec contains-requires same-requires returns)
+pending-has-cycles-spec = tie.close
+    (tie.spec (λ c κs. search needs) (λ c κs. search needs) returns)

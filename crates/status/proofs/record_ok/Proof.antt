@@ -12,38 +12,12 @@ use Rattle.status.proofs.RecordsLaws.{nine-hold}
 use Rattle.status.proofs.record_ok.Statement.{statement}
 use Rattle.status.proofs.record_ok.Tie as tie
 
-untested-is-fresh-requires : tie.Need-untested-is-fresh-requires
-untested-is-fresh-requires c κs = search needs
-
-faulty-has-failed-requires : tie.Need-faulty-has-failed-requires
-faulty-has-failed-requires c κs = search needs
-
-failed-is-pending-requires : tie.Need-failed-is-pending-requires
-failed-is-pending-requires c κs = search needs
-
-warning-is-confirmed-requires : tie.Need-warning-is-confirmed-requires
-warning-is-confirmed-requires c κs = search needs
-
-pending-has-cycles-requires : tie.Need-pending-has-cycles-requires
-pending-has-cycles-requires c κs = search needs
-
-contains-requires : tie.Need-contains-requires
-contains-requires c κs = search needs
-
-count-ok-requires : tie.Need-count-ok-requires
-count-ok-requires c κs = search needs
-
-contains-requires-2 : tie.Need-contains-requires-2
-contains-requires-2 c κs = search needs
-
-count-ok-requires-2 : tie.Need-count-ok-requires-2
-count-ok-requires-2 c κs = search needs
-
 returns : tie.Need-returns
 unfolding wellFormedRecord
 returns c =
-    let a = c .before .before .before .before .before .before .before .before .before .before .args in
-    let untested = c .before .before .before .before .before .before .before .before .untested-is-fresh in
+    let c8 = c .before .before .before .before .before .before .before .before in
+    let a = c8 .before .before .args in
+    let untested = c8 .untested-is-fresh in
     let faulty = c .before .before .before .before .before .before .before .faulty-has-failed in
     let pending = c .before .before .before .before .before .before .failed-is-pending in
     let warned = c .before .before .before .before .before .warning-is-confirmed in
@@ -64,13 +38,6 @@ pub record-ok-spec : {M : Type 1} → statement M
 record-ok-spec =
     tie.close
     (tie.spec
-    untested-is-fresh-requires
-    faulty-has-failed-requires
-    failed-is-pending-requires
-    warning-is-confirmed-requires
-    pending-has-cycles-requires
-    contains-requires
-    count-ok-requires
-    contains-requires-2
-    count-ok-requires-2
+    (λ c κs. search needs) (λ c κs. search needs) (λ c κs. search needs) (λ c κs. search needs) (λ c κs. search needs)
+    (λ c κs. search needs) (λ c κs. search needs) (λ c κs. search needs) (λ c κs. search needs)
     returns)

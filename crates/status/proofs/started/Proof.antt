@@ -8,12 +8,6 @@ use Rattle.status.proofs.RecordsLaws.{bytes-are}
 use Rattle.status.proofs.started.Statement.{statement}
 use Rattle.status.proofs.started.Tie as tie
 
-clear-requires : tie.Need-clear-requires
-clear-requires c κs = search needs
-
-set-requires : tie.Need-set-requires
-set-requires c κs = search needs
-
 returns : tie.Need-returns
 returns c =
     λ n. bytes-are (search needs)
@@ -22,4 +16,5 @@ returns c =
     refl refl refl
 
 pub started-spec : {M : Type 1} → statement M
-started-spec = tie.close (tie.spec clear-requires set-requires returns)
+started-spec = tie.close
+    (tie.spec (λ c κs. search needs) (λ c κs. search needs) returns)

@@ -12,12 +12,6 @@ returns : tie.Need-returns
 unfolding storedAt
 returns c = sym (List·getD-eq-default (now (c .before .args .records)) 0 (omega arith))
 
-mul-at : tie.Need-mul-at
-mul-at c = search needs
-
-shared-slice-read-t10 : tie.Need-shared-slice-read-t10
-shared-slice-read-t10 c = search needs
-
 returns-2 : tie.Need-returns-2
 unfolding storedAt
 returns-2 c = refl
@@ -27,4 +21,5 @@ unfolding storedAt
 returns-3 c = sym (List·getD-eq-default (now (c .before .before .args .records)) 0 (omega arith))
 
 pub status-of-spec : {M : Type 1} → statement M
-status-of-spec = tie.close (tie.spec returns mul-at shared-slice-read-t10 returns-2 returns-3)
+status-of-spec = tie.close
+    (tie.spec returns (λ c. search needs) (λ c. search needs) returns-2 returns-3)

@@ -10,30 +10,6 @@ use Rattle.status.proofs.RecordsLaws.{bytes-are}
 use Rattle.status.proofs.stop_a.Statement.{statement}
 use Rattle.status.proofs.stop_a.Tie as tie
 
-clean-cycle-requires : tie.Need-clean-cycle-requires
-clean-cycle-requires c κs = search needs
-
-contains-requires : tie.Need-contains-requires
-contains-requires c κs = search needs
-
-risen-if-requires : tie.Need-risen-if-requires
-risen-if-requires c κs = search needs
-
-cast-heals : tie.Need-cast-heals
-cast-heals c = search needs
-
-clear-if-requires : tie.Need-clear-if-requires
-clear-if-requires c κs = search needs
-
-clear-if-requires-2 : tie.Need-clear-if-requires-2
-clear-if-requires-2 c κs = search needs
-
-zero-if-requires : tie.Need-zero-if-requires
-zero-if-requires c κs = search needs
-
-zero-if-requires-2 : tie.Need-zero-if-requires-2
-zero-if-requires-2 c κs = search needs
-
 returns : tie.Need-returns
 returns c =
     let start = c .before .before .before .before .before .before .before .before in
@@ -57,12 +33,6 @@ pub stop-a-spec : {M : Type 1} → statement M
 stop-a-spec =
     tie.close
     (tie.spec
-    clean-cycle-requires
-    contains-requires
-    risen-if-requires
-    cast-heals
-    clear-if-requires
-    clear-if-requires-2
-    zero-if-requires
-    zero-if-requires-2
+    (λ c κs. search needs) (λ c κs. search needs) (λ c κs. search needs) (λ c. search needs) (λ c κs. search needs)
+    (λ c κs. search needs) (λ c κs. search needs) (λ c κs. search needs)
     returns)

@@ -10,27 +10,6 @@ use Rattle.status.proofs.RecordsLaws.{bytes-are}
 use Rattle.status.proofs.stop_b.Statement.{statement}
 use Rattle.status.proofs.stop_b.Tie as tie
 
-counts-for-ageing-requires : tie.Need-counts-for-ageing-requires
-counts-for-ageing-requires c κs = search needs
-
-contains-requires : tie.Need-contains-requires
-contains-requires c κs = search needs
-
-risen-if-requires : tie.Need-risen-if-requires
-risen-if-requires c κs = search needs
-
-cast-ages : tie.Need-cast-ages
-cast-ages c = search needs
-
-clear-if-requires : tie.Need-clear-if-requires
-clear-if-requires c κs = search needs
-
-zero-if-requires : tie.Need-zero-if-requires
-zero-if-requires c κs = search needs
-
-zero-if-requires-2 : tie.Need-zero-if-requires-2
-zero-if-requires-2 c κs = search needs
-
 returns : tie.Need-returns
 returns c =
     let start = c .before .before .before .before .before .before .before in
@@ -53,11 +32,6 @@ pub stop-b-spec : {M : Type 1} → statement M
 stop-b-spec =
     tie.close
     (tie.spec
-    counts-for-ageing-requires
-    contains-requires
-    risen-if-requires
-    cast-ages
-    clear-if-requires
-    zero-if-requires
-    zero-if-requires-2
+    (λ c κs. search needs) (λ c κs. search needs) (λ c κs. search needs) (λ c. search needs) (λ c κs. search needs)
+    (λ c κs. search needs) (λ c κs. search needs)
     returns)

@@ -9,9 +9,6 @@ use Rattle.status.specs.Records.{recordIs, limits}
 use Rattle.status.proofs.stopped.Statement.{statement}
 use Rattle.status.proofs.stopped.Tie as tie
 
-stop-a-requires : tie.Need-stop-a-requires
-stop-a-requires c κs = search needs
-
 stop-b-requires : tie.Need-stop-b-requires
 stop-b-requires c κs = rw (ap (λ (x : Stored). x .g) (c .stop-a .ensures 0 0 false)) (c .before .pre .g-below)
 
@@ -26,4 +23,5 @@ returns c =
     record { after = second .0 ∙ ap (λ (x : EventRecord). stored (stopB n x)) first-is; aged = second .1 ∙ ap (ages n) first-is }
 
 pub stopped-spec : {M : Type 1} → statement M
-stopped-spec = tie.close (tie.spec stop-a-requires stop-b-requires returns)
+stopped-spec = tie.close
+    (tie.spec (λ c κs. search needs) stop-b-requires returns)

@@ -9,15 +9,6 @@ use Rattle.status.proofs.MasksLaws.{contains-is}
 use Rattle.status.proofs.untested_is_fresh.Statement.{statement}
 use Rattle.status.proofs.untested_is_fresh.Tie as tie
 
-fresh-requires : tie.Need-fresh-requires
-fresh-requires c κs = search needs
-
-contains-requires : tie.Need-contains-requires
-contains-requires c κs = search needs
-
-implies-requires : tie.Need-implies-requires
-implies-requires c κs = search needs
-
 returns : tie.Need-returns
 returns c =
     let s = c .before .before .before .before .before .args .s .0 in
@@ -27,4 +18,5 @@ returns c =
 
 pub untested-is-fresh-spec : {M : Type 1} → statement M
 untested-is-fresh-spec =
-    tie.close (tie.spec fresh-requires contains-requires implies-requires returns)
+    tie.close
+    (tie.spec (λ c κs. search needs) (λ c κs. search needs) (λ c κs. search needs) returns)

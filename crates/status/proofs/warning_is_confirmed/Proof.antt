@@ -8,15 +8,6 @@ use Rattle.status.proofs.MasksLaws.{contains-is}
 use Rattle.status.proofs.warning_is_confirmed.Statement.{statement}
 use Rattle.status.proofs.warning_is_confirmed.Tie as tie
 
-contains-requires : tie.Need-contains-requires
-contains-requires c κs = search needs
-
-contains-requires-2 : tie.Need-contains-requires-2
-contains-requires-2 c κs = search needs
-
-implies-requires : tie.Need-implies-requires
-implies-requires c κs = search needs
-
 returns : tie.Need-returns
 returns c =
     let a = c .before .before .before .args in
@@ -26,4 +17,5 @@ returns c =
 
 pub warning-is-confirmed-spec : {M : Type 1} → statement M
 warning-is-confirmed-spec =
-    tie.close (tie.spec contains-requires contains-requires-2 implies-requires returns)
+    tie.close
+    (tie.spec (λ c κs. search needs) (λ c κs. search needs) (λ c κs. search needs) returns)

@@ -9,17 +9,11 @@ use Rattle.transcript.proofs.LineLaws.{decimal-few, statuses-few, line-
 use Rattle.transcript.proofs.fill_line.Statement.{statement}
 use Rattle.transcript.proofs.fill_line.Tie as tie
 
-put-decimal-requires : tie.Need-put-decimal-requires
-put-decimal-requires c κs = search needs
-
 put-statuses-requires : tie.Need-put-statuses-requires
 put-statuses-requires c κs =
     let first = c .before .before .before .put-decimal in
     let start = c .before .before .before .before .before .before .before in
     record { records-long = start .pre .records-long; buffer-long = omega (arith, first .kept .0, append-next _ _ (first .ensures), decimal-few (start .args .answer)) }
-
-slice-aggregate-write : tie.Need-slice-aggregate-write
-slice-aggregate-write c = search needs
 
 write-requires : tie.Need-write-requires
 write-requires c κs =
@@ -36,24 +30,22 @@ write-requires c κs =
       statuses-few (a .records .now) (a .events),
     )
 
-same-length : tie.Need-same-length
-same-length c = search needs
-
 returns : tie.Need-returns
 unfolding line
 returns c =
-    let first = c .before .before .before .before .before .before .before .before .before .before .before .put-decimal in
+    let c8 = c .before .before .before .before .before .before .before .before in
+    let first = c8 .before .before .before .put-decimal in
     let second = c .before .before .before .before .before .before .before .put-statuses in
-    let room = c .before .before .before .before .before .before .before .before .before .before .before .before .before .before .before .pre .buffer-long in
+    let room = c8 .before .before .before .before .before .before .before .pre .buffer-long in
     append-then _ _ _ (append-then _ _ _ (first .ensures) (second .ensures)) (c .before .before .write .ensures) ∙ append-filled _ _ (le-trans (line-few _ _ _) room)
 
 pub fill-line-spec : {M : Type 1} → statement M
 fill-line-spec =
     tie.close
     (tie.spec
-    put-decimal-requires
+    (λ c κs. search needs)
     put-statuses-requires
-    slice-aggregate-write
+    (λ c. search needs)
     write-requires
-    same-length
+    (λ c. search needs)
     returns)

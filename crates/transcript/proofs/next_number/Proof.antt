@@ -6,20 +6,8 @@ use Rattle.transcript.proofs.TextLaws.{found, next-end, next-word}
 use Rattle.transcript.proofs.next_number.Statement.{statement}
 use Rattle.transcript.proofs.next_number.Tie as tie
 
-run-end-requires : tie.Need-run-end-requires
-run-end-requires c κs = search needs
-
 returns : tie.Need-returns
 returns c = next-end _ _ (omega arith)
-
-run-end-requires-2 : tie.Need-run-end-requires-2
-run-end-requires-2 c κs = search needs
-
-sub-read-word : tie.Need-sub-read-word
-sub-read-word c = search needs
-
-part-read-word-start : tie.Need-part-read-word-start
-part-read-word-start c = search needs
 
 part-read-word-end : tie.Need-part-read-word-end
 part-read-word-end c = found _ _ _ _ (c .before .before .run-end .ensures) (c .before .if1 .left) (c .run-end2 .ensures) .within
@@ -34,11 +22,9 @@ pub next-number-spec : {M : Type 1} → statement M
 next-number-spec =
     tie.close
     (tie.spec
-    run-end-requires
+    (λ c κs. search needs)
     returns
-    run-end-requires-2
-    sub-read-word
-    part-read-word-start
+    (λ c κs. search needs) (λ c. search needs) (λ c. search needs)
     part-read-word-end
     read-word-requires
     returns-2)

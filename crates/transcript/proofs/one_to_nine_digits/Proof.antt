@@ -4,12 +4,10 @@ use Rattle.transcript.specs.Text.{oneToNineDigits}
 use Rattle.transcript.proofs.one_to_nine_digits.Statement.{statement}
 use Rattle.transcript.proofs.one_to_nine_digits.Tie as tie
 
-all-digits-requires : tie.Need-all-digits-requires
-all-digits-requires c κs = search needs
-
 returns : tie.Need-returns
 unfolding oneToNineDigits
 returns c = rw (c .all-digits .ensures)
 
 pub one-to-nine-digits-spec : {M : Type 1} → statement M
-one-to-nine-digits-spec = tie.close (tie.spec all-digits-requires returns)
+one-to-nine-digits-spec = tie.close
+    (tie.spec (λ c κs. search needs) returns)

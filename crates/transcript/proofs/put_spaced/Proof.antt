@@ -6,17 +6,8 @@ use Rattle.transcript.specs.Line.{spaced}
 use Rattle.transcript.proofs.put_spaced.Statement.{statement}
 use Rattle.transcript.proofs.put_spaced.Tie as tie
 
-slice-aggregate-write : tie.Need-slice-aggregate-write
-slice-aggregate-write c = search needs
-
-write-requires : tie.Need-write-requires
-write-requires c κs = search needs
-
 put-decimal-requires : tie.Need-put-decimal-requires
 put-decimal-requires c κs = omega (arith, c .before .before .before .write .kept .0, append-next _ _ (c .before .before .before .write .ensures))
-
-same-length : tie.Need-same-length
-same-length c = search needs
 
 returns : tie.Need-returns
 unfolding spaced
@@ -25,4 +16,4 @@ returns c = append-then _ _ _ (c .before .before .before .before .before .before
 pub put-spaced-spec : {M : Type 1} → statement M
 put-spaced-spec =
     tie.close
-    (tie.spec slice-aggregate-write write-requires put-decimal-requires same-length returns)
+    (tie.spec (λ c. search needs) (λ c κs. search needs) put-decimal-requires (λ c. search needs) returns)

@@ -20,20 +20,8 @@ abbrev μ-loop : tie.MeasureT-loop
 loop-holds : tie.Need-loop-holds Inv-loop μ-loop
 loop-holds c = (omega arith, sym (rw statuses-none (append-none _)), refl)
 
-mul-put-spaced : tie.Need-mul-put-spaced Inv-loop μ-loop
-mul-put-spaced c = omega arith
-
-shared-slice-read-put-spaced : tie.Need-shared-slice-read-put-spaced Inv-loop μ-loop
-shared-slice-read-put-spaced c = omega arith
-
 put-spaced-requires : tie.Need-put-spaced-requires Inv-loop μ-loop
 put-spaced-requires c κs = omega (arith, append-next _ _ (c .before .before .before .loop .inv .1), statuses-few (c .before .before .before .before .before .before .args .records .now) (c .before .before .before .loop .e))
-
-add-e : tie.Need-add-e Inv-loop μ-loop
-add-e c = omega arith
-
-loop-less : tie.Need-loop-less Inv-loop μ-loop
-loop-less c = omega arith
 
 loop-again : tie.Need-loop-again Inv-loop μ-loop
 loop-again c =
@@ -54,11 +42,9 @@ put-statuses-spec =
     Inv-loop
     μ-loop
     loop-holds
-    mul-put-spaced
-    shared-slice-read-put-spaced
+    (λ c. omega arith) (λ c. omega arith)
     put-spaced-requires
-    add-e
-    loop-less
+    (λ c. omega arith) (λ c. omega arith)
     loop-again
     same-length
     returns)

@@ -10,23 +10,11 @@ use Rattle.transcript.proofs.TextLaws.{worth-most, minus-width, number-
 use Rattle.transcript.proofs.read_word.Statement.{statement}
 use Rattle.transcript.proofs.read_word.Tie as tie
 
-shared-slice-read-minus : tie.Need-shared-slice-read-minus
-shared-slice-read-minus c = search needs
-
-cast-first : tie.Need-cast-first
-cast-first c = search needs
-
 sub-digits : tie.Need-sub-digits
 sub-digits c = omega (arith, minus-width (hasMinus (c .before .before .args .word .now)))
 
 part-digits-start : tie.Need-part-digits-start
 part-digits-start c = omega (arith, minus-width (hasMinus (c .before .before .args .word .now)))
-
-part-digits-end : tie.Need-part-digits-end
-part-digits-end c = search needs
-
-one-to-nine-digits-requires : tie.Need-one-to-nine-digits-requires
-one-to-nine-digits-requires c κs = search needs
 
 returns : tie.Need-returns
 returns c = reads-unreadable _ _ (sym (c .before .one-to-nine-digits .ensures ∙ number-is _) ∙ not-true _ (c .if1 .taken))
@@ -48,12 +36,10 @@ pub read-word-spec : {M : Type 1} → statement M
 read-word-spec =
     tie.close
     (tie.spec
-    shared-slice-read-minus
-    cast-first
+    (λ c. search needs) (λ c. search needs)
     sub-digits
     part-digits-start
-    part-digits-end
-    one-to-nine-digits-requires
+    (λ c. search needs) (λ c κs. search needs)
     returns
     value-of-requires
     with-sign-requires

@@ -17,9 +17,6 @@ abbrev μ-loop : tie.MeasureT-loop
 loop-holds : tie.Need-loop-holds Inv-loop μ-loop
 loop-holds c = refl
 
-shared-slice-read-is-separator : tie.Need-shared-slice-read-is-separator Inv-loop μ-loop
-shared-slice-read-is-separator c = omega arith
-
 is-separator-requires : tie.Need-is-separator-requires Inv-loop μ-loop
 is-separator-requires c κs = tt
 
@@ -27,12 +24,6 @@ returns : tie.Need-returns Inv-loop μ-loop
 returns c =
     let other = differ (c .before .is-separator .result) (c .before .before .before .before .before .before .args .separators) (c .if1 .taken) in
     sym (c .before .before .before .before .loop .inv ∙ run-stop _ _ _ (c .before .before .before .loop-test .taken) (rw (← c .before .is-separator .ensures) other))
-
-add-i : tie.Need-add-i Inv-loop μ-loop
-add-i c = omega arith
-
-loop-less : tie.Need-loop-less Inv-loop μ-loop
-loop-less c = omega arith
 
 loop-again : tie.Need-loop-again Inv-loop μ-loop
 loop-again c =
@@ -49,10 +40,9 @@ run-end-spec =
     Inv-loop
     μ-loop
     loop-holds
-    shared-slice-read-is-separator
+    (λ c. omega arith)
     is-separator-requires
     returns
-    add-i
-    loop-less
+    (λ c. omega arith) (λ c. omega arith)
     loop-again
     returns-2)

@@ -15,21 +15,12 @@ abbrev μ-loop : tie.MeasureT-loop
 loop-holds : tie.Need-loop-holds Inv-loop μ-loop
 loop-holds c = added-none _ (c .before .pre)
 
-shared-slice-read-with-digit : tie.Need-shared-slice-read-with-digit Inv-loop μ-loop
-shared-slice-read-with-digit c = omega arith
-
 with-digit-requires : tie.Need-with-digit-requires Inv-loop μ-loop
 with-digit-requires c κs =
     let s = c .before .before .loop .inv in
     let h = c .before .loop-test .taken in
     let here = added-here _ _ _ s h in
     (added-room _ _ _ s h (c .before .before .before .before .pre), digit-least _ here, digit-most _ here)
-
-add-i : tie.Need-add-i Inv-loop μ-loop
-add-i c = omega arith
-
-loop-less : tie.Need-loop-less Inv-loop μ-loop
-loop-less c = omega arith
 
 loop-again : tie.Need-loop-again Inv-loop μ-loop
 loop-again c = added-more _ _ _ (c .before .before .before .loop .inv) (c .before .before .loop-test .taken) _ (c .with-digit .ensures)
@@ -44,9 +35,8 @@ value-of-spec =
     Inv-loop
     μ-loop
     loop-holds
-    shared-slice-read-with-digit
+    (λ c. omega arith)
     with-digit-requires
-    add-i
-    loop-less
+    (λ c. omega arith) (λ c. omega arith)
     loop-again
     returns)

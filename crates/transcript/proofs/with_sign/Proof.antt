@@ -11,9 +11,6 @@ use Rattle.transcript.proofs.TextLaws.{sign-size}
 use Rattle.transcript.proofs.with_sign.Statement.{statement}
 use Rattle.transcript.proofs.with_sign.Tie as tie
 
-cast-value : tie.Need-cast-value
-cast-value c = search needs
-
 sub-result : tie.Need-sub-result
 unfolding withSign
 sub-result c =
@@ -36,4 +33,5 @@ returns-2 c =
     rw (toZ-pos w32 h, c .if1 .left)
 
 pub with-sign-spec : {M : Type 1} → statement M
-with-sign-spec = tie.close (tie.spec cast-value sub-result returns returns-2)
+with-sign-spec = tie.close
+    (tie.spec (λ c. search needs) sub-result returns returns-2)

@@ -5,16 +5,11 @@ use borrow.Author.Needs.{needs}
 use Rattle.writing.proofs.copy_bytes.Statement.{statement}
 use Rattle.writing.proofs.copy_bytes.Tie as tie
 
-put-requires : tie.Need-put-requires
-put-requires c κs = search needs
-
-same-length : tie.Need-same-length
-same-length c = search needs
-
 returns : tie.Need-returns
 returns c =
     let a = c .before .before .before .before .before .before .args in
     c .before .before .put .ensures ∙ sets-laid (a .from .now) (a .to .now) (c .before .before .before .before .before .before .pre)
 
 pub copy-bytes-spec : {M : Type 1} → statement M
-copy-bytes-spec = tie.close (tie.spec put-requires same-length returns)
+copy-bytes-spec = tie.close
+    (tie.spec (λ c κs. search needs) (λ c. search needs) returns)

@@ -17,21 +17,6 @@ abbrev μ-loop : tie.MeasureT-loop
 loop-holds : tie.Need-loop-holds Inv-loop μ-loop
 loop-holds c = (omega arith, refl, refl)
 
-shared-slice-read-block : tie.Need-shared-slice-read-block Inv-loop μ-loop
-shared-slice-read-block c = omega arith
-
-add-block : tie.Need-add-block Inv-loop μ-loop
-add-block c = omega arith
-
-slice-write-block : tie.Need-slice-write-block Inv-loop μ-loop
-slice-write-block c = omega arith
-
-add-i : tie.Need-add-i Inv-loop μ-loop
-add-i c = omega arith
-
-loop-less : tie.Need-loop-less Inv-loop μ-loop
-loop-less c = omega arith
-
 loop-again : tie.Need-loop-again Inv-loop μ-loop
 loop-again c =
     let a = c .before .before .before .args in
@@ -52,11 +37,7 @@ put-spec =
     Inv-loop
     μ-loop
     loop-holds
-    shared-slice-read-block
-    add-block
-    slice-write-block
-    add-i
-    loop-less
+    (λ c. omega arith) (λ c. omega arith) (λ c. omega arith) (λ c. omega arith) (λ c. omega arith)
     loop-again
     same-length
     returns)

@@ -13,19 +13,11 @@ minus-size : (n : ℕ) → mag (negℤ (pos n)) ≤ n
 minus-size zero = omega arith
 minus-size (suc n) = omega arith
 
-cast-value : tie.Need-cast-value
-cast-value c = search needs
-
 sub-result : tie.Need-sub-result
 sub-result c = let n = c .before .args .n in
     let h : n < 2 ^ 31 = omega arith in
     rw (toZ-pos w32 h, +ℤ-idl) (record { sfits = omega (arith, minus-size n) })
 
-returns : tie.Need-returns
-returns c = search needs
-
-returns-2 : tie.Need-returns-2
-returns-2 c = search needs
-
 pub negative-spec : {M : Type 1} → statement M
-negative-spec = tie.close (tie.spec cast-value sub-result returns returns-2)
+negative-spec = tie.close
+    (tie.spec (λ c. search needs) sub-result (λ c. search needs) (λ c. search needs))

@@ -18,29 +18,11 @@ abbrev μ-loop : tie.MeasureT-loop
 loop-holds : tie.Need-loop-holds Inv-loop μ-loop
 loop-holds c = refl
 
-is-hex-requires : tie.Need-is-hex-requires Inv-loop μ-loop
-is-hex-requires c κs = search needs
-
 same-length : tie.Need-same-length Inv-loop μ-loop
 same-length c = c .before .before .before .loop .inv
 
 returns : tie.Need-returns Inv-loop μ-loop
 returns c = (omega (arith, c .before .before .before .loop .inv), sym (length-take-le _ _ (omega (arith, c .before .before .before .loop .inv))))
-
-hex-byte-requires : tie.Need-hex-byte-requires Inv-loop μ-loop
-hex-byte-requires c κs = search needs
-
-slice-write-bytes : tie.Need-slice-write-bytes Inv-loop μ-loop
-slice-write-bytes c = omega arith
-
-next-byte-requires : tie.Need-next-byte-requires Inv-loop μ-loop
-next-byte-requires c κs = search needs
-
-add-place : tie.Need-add-place Inv-loop μ-loop
-add-place c = omega arith
-
-loop-less : tie.Need-loop-less Inv-loop μ-loop
-loop-less c = omega arith
 
 loop-again : tie.Need-loop-again Inv-loop μ-loop
 loop-again c = simp length-set (c .before .before .before .before .before .loop .inv)
@@ -58,14 +40,10 @@ read-bytes-spec =
     Inv-loop
     μ-loop
     loop-holds
-    is-hex-requires
+    (λ c κs. search needs)
     same-length
     returns
-    hex-byte-requires
-    slice-write-bytes
-    next-byte-requires
-    add-place
-    loop-less
+    (λ c κs. search needs) (λ c. omega arith) (λ c κs. search needs) (λ c. omega arith) (λ c. omega arith)
     loop-again
     same-length-2
     returns-2)

@@ -18,32 +18,11 @@ abbrev μ-loop : tie.MeasureT-loop
 loop-holds : tie.Need-loop-holds Inv-loop μ-loop
 loop-holds c = refl
 
-is-number-requires : tie.Need-is-number-requires Inv-loop μ-loop
-is-number-requires c κs = search needs
-
 same-length : tie.Need-same-length Inv-loop μ-loop
 same-length c = c .before .before .before .loop .inv
 
 returns : tie.Need-returns Inv-loop μ-loop
 returns c = (omega (arith, c .before .before .before .loop .inv), sym (length-take-le _ _ (omega (arith, c .before .before .before .loop .inv))))
-
-integer-requires : tie.Need-integer-requires Inv-loop μ-loop
-integer-requires c κs = search needs
-
-mul-number : tie.Need-mul-number Inv-loop μ-loop
-mul-number c = omega arith
-
-slice-set-from-number : tie.Need-slice-set-from-number Inv-loop μ-loop
-slice-set-from-number c = omega arith
-
-next-number-requires : tie.Need-next-number-requires Inv-loop μ-loop
-next-number-requires c κs = search needs
-
-add-place : tie.Need-add-place Inv-loop μ-loop
-add-place c = omega arith
-
-loop-less : tie.Need-loop-less Inv-loop μ-loop
-loop-less c = omega arith
 
 loop-again : tie.Need-loop-again Inv-loop μ-loop
 loop-again c = simp length-set (c .before .before .before .before .before .loop .inv)
@@ -61,15 +40,11 @@ read-numbers-spec =
     Inv-loop
     μ-loop
     loop-holds
-    is-number-requires
+    (λ c κs. search needs)
     same-length
     returns
-    integer-requires
-    mul-number
-    slice-set-from-number
-    next-number-requires
-    add-place
-    loop-less
+    (λ c κs. search needs) (λ c. omega arith) (λ c. omega arith) (λ c κs. search needs) (λ c. omega arith)
+    (λ c. omega arith)
     loop-again
     same-length-2
     returns-2)

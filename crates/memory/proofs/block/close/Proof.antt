@@ -22,20 +22,8 @@ loop-holds c = let m = now (c .before .args .block) in
     let w = c .before .args .width in
     ((omega arith, omega arith), (mix-from (closed at w m) m at (closed-take at w m (c .before .pre)), refl))
 
-add-byte-or-zero : tie.Need-add-byte-or-zero Inv-loop μ-loop
-add-byte-or-zero c = omega arith
-
 byte-or-zero-requires : tie.Need-byte-or-zero-requires Inv-loop μ-loop
 byte-or-zero-requires c κs = tt
-
-slice-write-block : tie.Need-slice-write-block Inv-loop μ-loop
-slice-write-block c = omega arith
-
-add-i : tie.Need-add-i Inv-loop μ-loop
-add-i c = omega arith
-
-loop-less : tie.Need-loop-less Inv-loop μ-loop
-loop-less c = omega arith
 
 loop-again : tie.Need-loop-again Inv-loop μ-loop
 loop-again c = let m = now (c .before .before .before .before .before .args .block) in
@@ -65,11 +53,9 @@ close-spec =
     Inv-loop
     μ-loop
     loop-holds
-    add-byte-or-zero
+    (λ c. omega arith)
     byte-or-zero-requires
-    slice-write-block
-    add-i
-    loop-less
+    (λ c. omega arith) (λ c. omega arith) (λ c. omega arith)
     loop-again
     same-length
     returns)

@@ -11,18 +11,11 @@ use Rattle.memory.proofs.readings.has_failed.Lts as lts
 use Rattle.status.proofs.Status.contains.Reads as contains-reads
 use Rattle.status.proofs.status_of.Reads as status-of-reads
 
--- src/readings.rt:21:5
-status-of-requires : tie.Need-status-of-requires
-status-of-requires c κs = search needs
-
--- src/readings.rt:21:5
-contains-requires : tie.Need-contains-requires
-contains-requires c κs = search needs
-
 -- src/readings.rt:18:1
 returns : tie.Need-returns
 unfolding storedAt
 returns c = contains-is (c .before .status-of .result .0) testFailedSinceLastClear (c .contains .ensures) ∙ ap (λ (byte : ℕ). statusOf byte testFailedSinceLastClear) (c .before .status-of .ensures)
 
 pub has-failed-spec : {M : Type 1} → statement M
-has-failed-spec = tie.close (tie.spec status-of-requires contains-requires returns)
+has-failed-spec = tie.close
+    (tie.spec (λ c κs. search needs) (λ c κs. search needs) returns)

@@ -12,18 +12,11 @@ use Rattle.memory.proofs.readings.is_quiet.Lts as lts
 use Rattle.status.proofs.Status.contains.Reads as contains-reads
 use Rattle.status.proofs.status_of.Reads as status-of-reads
 
--- src/readings.rt:14:6
-status-of-requires : tie.Need-status-of-requires
-status-of-requires c κs = search needs
-
--- src/readings.rt:14:6
-contains-requires : tie.Need-contains-requires
-contains-requires c κs = search needs
-
 -- src/readings.rt:11:1
 returns : tie.Need-returns
 unfolding storedAt
 returns c = ap (λ (b : Bool). not b) (contains-is (c .before .status-of .result .0) testFailed (c .contains .ensures) ∙ ap (λ (byte : ℕ). statusOf byte testFailed) (c .before .status-of .ensures))
 
 pub is-quiet-spec : {M : Type 1} → statement M
-is-quiet-spec = tie.close (tie.spec status-of-requires contains-requires returns)
+is-quiet-spec = tie.close
+    (tie.spec (λ c κs. search needs) (λ c κs. search needs) returns)
