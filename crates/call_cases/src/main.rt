@@ -1,5 +1,5 @@
-// Runs the case files through the eleven calls, and prints the file and the line of each case that differs, and for each file how many
-// calls ran and how many differed.
+// Runs the case files through the eleven calls, and prints the file and the line of each case that differs, and for
+// each file how many calls ran and how many differed.
 //
 // A line of a case file begins with
 //   config  a new story: the fresh state under this configuration
@@ -28,8 +28,8 @@ struct Lent {
     board: Board,
 }
 
-// The last case: whether its blocks are still to be compared, whether it is a call or the first fresh state, whether its answer agrees,
-// and its line.
+// The last case: whether its blocks are still to be compared, whether it is a call or the first fresh state, whether
+// its answer agrees, and its line.
 struct Case {
     open: bool,
     is_call: bool,
@@ -37,7 +37,8 @@ struct Case {
     line: u32,
 }
 
-// The calls that ran, the cases that differed, and the line of the one that was last found to differ, 0 where it was told.
+// The calls that ran, the cases that differed, and the line of the one that was last found to differ, 0 where it was
+// told.
 struct Tally {
     ran: u32,
     differed: u32,
@@ -202,7 +203,8 @@ fn same_verdict(says: &[u8], verdict: Verdict) -> bool {
     }
 }
 
-// Whether the frame stands where the line has it as from:to, and the part has the bytes that stand there in the memory block.
+// Whether the frame stands where the line has it as from:to, and the part has the bytes that stand there in the memory
+// block.
 fn same_frame(says: &[u8], frame: FramePart, memory: &[u8], part: &[u8]) -> bool {
     let at = text::word(says, 2);
     let from = text::decimal(says, at);
@@ -777,7 +779,8 @@ fn take_other(
     }
 }
 
-// One line more, none at the end of the file. What is open before it is compared now, but where it has the state that is awaited.
+// One line more, none at the end of the file. What is open before it is compared now, but where it has the state that
+// is awaited.
 fn settle(
     now: Story,
     line: &[u8],

@@ -25,13 +25,16 @@ module _ (cfg : Configuration) (code : ℕ) where
 
   module _ (s : State) where
     -- "clearing all also clears overflow"
-    pub after-all : {i : ℕ} → i ≡ events cfg → {t t′ : State} → t ≡ upTo i s → t′ ≡ overflowCleared cfg code t → t′ ≡ cleared cfg code s
+    pub after-all : {i : ℕ} → i ≡ events cfg → {t t′ : State} → t ≡ upTo i s → t′ ≡ overflowCleared cfg code t
+        → t′ ≡ cleared cfg code s
     unfolding cleared
     after-all e p q = q ∙ ap (overflowCleared cfg code) (last-turn (covers cfg code) (clears cfg) cfg _ s e p)
 
-    pub fits-at : configOk cfg ≡ true → wellFormed cfg s ≡ true → (i : ℕ) → i < events cfg → {t : State} → t ≡ upTo i s → EventFits cfg (t .records) (t .debounce) (t .memory) i
+    pub fits-at : configOk cfg ≡ true → wellFormed cfg s ≡ true → (i : ℕ) → i < events cfg → {t : State} → t ≡ upTo i s
+        → EventFits cfg (t .records) (t .debounce) (t .memory) i
     fits-at ok formed i h p =
-        ready-at-turn (covers cfg code) (clears cfg) cfg s (clears-keep cfg (config-tells cfg ok) code s) ok formed i h p .event
+        ready-at-turn (covers cfg code) (clears cfg) cfg s (clears-keep cfg (config-tells cfg ok) code s) ok formed i h
+        p .event
 
 -- ---- the call
 

@@ -59,7 +59,10 @@ fn clear_if_covered(
     event: EventNumber,
 )
     requires { ⌜ EventFits (now cfg) (now records) (now debounce) (now memory) (event .0) ⌝ }
-    ensures { λ _. ⌜ ((b : Board) → lent (now (records .exit)) (now (debounce .exit)) (now (memory .exit)) b ≡ clearsCovered (now (cfg .entry)) code (event .0) (lent (now (records .entry)) (now (debounce .entry)) (now (memory .entry)) b)) ⌝ }
+    ensures { λ _. ⌜ ((b : Board)
+        → lent (now (records .exit)) (now (debounce .exit)) (now (memory .exit)) b
+        ≡ clearsCovered (now (cfg .entry)) code (event .0)
+        (lent (now (records .entry)) (now (debounce .entry)) (now (memory .entry)) b)) ⌝ }
 {
     if covers(cfg, code, event) {
         one_event::clears(cfg, records, debounce, memory, event);
@@ -68,7 +71,8 @@ fn clear_if_covered(
 
 // "clearing all also clears overflow"
 fn overflow_cleared(board: Board, code: u32) -> Board
-    ensures { λ r. ⌜ ((cfg : Configuration) (l : List ℕ) (d : List ℤ) (m : List ℕ) → lent l d m r ≡ overflowCleared cfg code (lent l d m board)) ⌝ }
+    ensures { λ r. ⌜ ((cfg : Configuration) (l : List ℕ) (d : List ℤ) (m : List ℕ)
+        → lent l d m r ≡ overflowCleared cfg code (lent l d m board)) ⌝ }
 {
     let running = board.running;
     Board {
@@ -86,8 +90,11 @@ pub fn clear_covered(
     board: Board,
     code: u32,
 ) -> Board
-    requires { ⌜ (configOk (now cfg) ≡ true) × (wellFormed (now cfg) (lent (now records) (now debounce) (now memory) board) ≡ true) ⌝ }
-    ensures { λ r. ⌜ lent (now (records .exit)) (now (debounce .exit)) (now (memory .exit)) r ≡ cleared (now (cfg .entry)) code (lent (now (records .entry)) (now (debounce .entry)) (now (memory .entry)) board) ⌝ }
+    requires { ⌜ (configOk (now cfg) ≡ true) ×
+        (wellFormed (now cfg) (lent (now records) (now debounce) (now memory) board) ≡ true) ⌝ }
+    ensures { λ r. ⌜ lent (now (records .exit)) (now (debounce .exit)) (now (memory .exit)) r
+        ≡ cleared (now (cfg .entry)) code
+        (lent (now (records .entry)) (now (debounce .entry)) (now (memory .entry)) board) ⌝ }
 {
     for event in 0..config::events(cfg) {
         clear_if_covered(cfg, records, debounce, memory, code, EventNumber(event));
@@ -117,7 +124,10 @@ fn judge(
     board: Board,
     code: u32,
 ) -> Check
-    ensures { λ r. ⌜ checkNumber r ≡ firstThatApplies (clearRules (now (cfg .entry)) code (lent (now (records .entry)) (now (debounce .entry)) (now (memory .entry)) board)) ⌝ }
+    ensures { λ r. ⌜ checkNumber r
+        ≡ firstThatApplies
+        (clearRules (now (cfg .entry)) code
+        (lent (now (records .entry)) (now (debounce .entry)) (now (memory .entry)) board)) ⌝ }
 {
     match judgement::begin(cfg, records, debounce, memory, board, true) {
         Check::Go => judge_code(cfg, code),
@@ -125,8 +135,8 @@ fn judge(
     }
 }
 
-// "Clear, by one trouble code or FFFFFFh for all, in any cycle state: each covered event gets status 50h, K = h = g = D = 0, its entry
-// leaves; clearing all also clears overflow."
+// "Clear, by one trouble code or FFFFFFh for all, in any cycle state: each covered event gets status 50h, K = h = g = D
+// = 0, its entry leaves; clearing all also clears overflow."
 pub fn clear(
     cfg: &[i32],
     records: &mut [u8],
@@ -135,7 +145,10 @@ pub fn clear(
     board: Board,
     code: u32,
 ) -> Returned
-    ensures { λ r. ⌜ leaves (ofAnswer (r .answer)) [] alone (lent (now (records .exit)) (now (debounce .exit)) (now (memory .exit)) (r .board)) ≡ clearCode (now (cfg .entry)) code alone (lent (now (records .entry)) (now (debounce .entry)) (now (memory .entry)) board) ⌝ }
+    ensures { λ r. ⌜ leaves (ofAnswer (r .answer)) [] alone
+        (lent (now (records .exit)) (now (debounce .exit)) (now (memory .exit)) (r .board))
+        ≡ clearCode (now (cfg .entry)) code alone
+        (lent (now (records .entry)) (now (debounce .entry)) (now (memory .entry)) board) ⌝ }
 {
     match judge(cfg, records, debounce, memory, board, code) {
         Check::Go => {

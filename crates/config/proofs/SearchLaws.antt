@@ -27,7 +27,8 @@ module _ (f : ℕ → Bool) where
   none-lowest zero e k h = absurd (not-suc-le-zero h)
   none-lowest (suc n) e k h = go (lowestBelow n f) refl (f n) refl e (λ p. none-lowest n p k)
     where
-      go : (o : Option ℕ) → lowestBelow n f ≡ o → (b : Bool) → f n ≡ b → orElse o (cond b (some n) none) ≡ none → (lowestBelow n f ≡ none → k < n → f k ≡ false) → f k ≡ false
+      go : (o : Option ℕ) → lowestBelow n f ≡ o → (b : Bool) → f n ≡ b → orElse o (cond b (some n) none) ≡ none
+          → (lowestBelow n f ≡ none → k < n → f k ≡ false) → f k ≡ false
       go (some a) p b q t ih = absurd (Option·some-ne-none a t)
       go none p true q t ih = absurd (Option·some-ne-none n t)
       go none p false q t ih = ⊎-elim (λ s. ap f s ∙ q) (ih p) (eq-or-lt-of-le (le-of-suc-le-suc h))
@@ -52,8 +53,10 @@ module _ (f : ℕ → Bool) where
   some-lowest zero e q = absurd (Option·none-ne-some e q)
   some-lowest (suc n) e q = go (lowestBelow n f) refl (f n) refl q (some-lowest n e)
     where
-      go : (o : Option ℕ) → lowestBelow n f ≡ o → (b : Bool) → f n ≡ b → orElse o (cond b (some n) none) ≡ some e → (lowestBelow n f ≡ some e → Lowest n e) → Lowest (suc n) e
-      go (some a) p b r t ih = let l = ih (p ∙ t) in record { below = omega arith; passes = l .passes; first = l .first }
+      go : (o : Option ℕ) → lowestBelow n f ≡ o → (b : Bool) → f n ≡ b → orElse o (cond b (some n) none) ≡ some e
+          → (lowestBelow n f ≡ some e → Lowest n e) → Lowest (suc n) e
+      go (some a) p b r t ih =
+          let l = ih (p ∙ t) in record { below = omega arith; passes = l .passes; first = l .first }
       go none p true r t ih =
           let s : n ≡ e = Option·some-injective n e t in
           record { below = omega arith; passes = rw (sym s) r; first = rw (sym s) (none-lowest n p) }
@@ -72,11 +75,17 @@ module _ (cfg : Configuration) (code : ℕ) where
   unfolding firstWithCode
   found-tells e q =
       let l = some-lowest (hasCode cfg code) (events cfg) e q in
-      record { below = l .below; has-code = eqb-true (codeOf cfg e) code (l .passes); first = λ k h. eqb-false (codeOf cfg k) code (l .first k h) }
+      record {
+        below = l .below;
+        has-code = eqb-true (codeOf cfg e) code (l .passes);
+        first = λ k h. eqb-false (codeOf cfg k) code (l .first k h);
+      }
 
   pub found-is : (e : ℕ) → FirstWithCode cfg code e → firstWithCode cfg code ≡ some e
   unfolding firstWithCode
-  found-is e l = lowest-some (hasCode cfg code) (events cfg) e (l .below) (eq-eqb (codeOf cfg e) code (l .has-code)) (λ k h. ne-eqb (codeOf cfg k) code (l .first k h))
+  found-is e l =
+      lowest-some (hasCode cfg code) (events cfg) e (l .below) (eq-eqb (codeOf cfg e) code (l .has-code))
+      (λ k h. ne-eqb (codeOf cfg k) code (l .first k h))
 
   pub nothing-tells : firstWithCode cfg code ≡ none → (e : ℕ) → e < events cfg → codeOf cfg e ≢ code
   unfolding firstWithCode
@@ -90,7 +99,8 @@ module _ (cfg : Configuration) (code : ℕ) where
 
 module _ (cfg : Configuration) (code : ℕ) where
   -- a clear of a code that was not found covers no event
-  pub covers-nothing : forAll code ≡ false → firstWithCode cfg code ≡ none → (k : ℕ) → k < events cfg → covers cfg code k ≡ false
+  pub covers-nothing : forAll code ≡ false → firstWithCode cfg code ≡ none → (k : ℕ) → k < events cfg
+      → covers cfg code k ≡ false
   covers-nothing a q k h = rw (a, ne-eqb (codeOf cfg k) code (nothing-tells cfg code q k h))
 
   -- "4 | no such … trouble code"
@@ -103,11 +113,15 @@ module _ (cfg : Configuration) (code : ℕ) where
   unfolding unknownCode
   known-where-found e q =
       let l = found-tells cfg code e q in
-      not-eq-not .0 (λ t. eqb-false (codeOf cfg e) code (neither (forAll code) _ (not-true _ (all-below-at (events cfg) _ t e (l .below))) .1) (l .has-code))
+      not-eq-not .0
+      (λ t. eqb-false (codeOf cfg e) code
+      (neither (forAll code) _ (not-true _ (all-below-at (events cfg) _ t e (l .below))) .1) (l .has-code))
 
 module _ (cfg : Configuration) (ok : configOk cfg ≡ true) where
   -- "FFFFFFh for all" is never unknown
   pub known-where-all : (code : ℕ) → forAll code ≡ true → unknownCode cfg code ≡ false
   unfolding unknownCode
   known-where-all code a =
-      not-eq-not .0 (λ t. clash true refl (sym (rw a at (all-below-at (events cfg) (λ e. not (covers cfg code e)) t 0 (config-tells cfg ok .n-least)))))
+      not-eq-not .0
+      (λ t. clash true refl
+      (sym (rw a at (all-below-at (events cfg) (λ e. not (covers cfg code e)) t 0 (config-tells cfg ok .n-least)))))

@@ -41,5 +41,6 @@ zero-is (negsuc n) h = ne-eqb (2 ^ 32 - suc n) 0 (λ e. omega arith)
 
 -- what `between` answers of a number that was read
 module _ {lo hi : ℤ} (fits-lo : SFits w32 lo) (fits-hi : SFits w32 hi) (z : ℤ) (fits-z : mag z < 2 ^ 31) where
-  pub between-back : {r : Bool} {x : ℤ} → r ≡ between (toZ w32 (ofZ w32 lo)) (toZ w32 (ofZ w32 hi)) (toZ w32 (ofZ w32 z)) → z ≡ x → r ≡ between lo hi x
+  pub between-back : {r : Bool} {x : ℤ}
+      → r ≡ between (toZ w32 (ofZ w32 lo)) (toZ w32 (ofZ w32 hi)) (toZ w32 (ofZ w32 z)) → z ≡ x → r ≡ between lo hi x
   between-back e q = rw (toZ-ofZ fits-lo, toZ-ofZ fits-hi, back z fits-z, q) at e

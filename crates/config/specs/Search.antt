@@ -1,5 +1,5 @@
--- The search of a trouble code: the first event with the code, or none. It says so of any configuration, also one whose codes
--- repeat, and says nothing of the way to the event. Assumes nothing.
+-- The search of a trouble code: the first event with the code, or none. It says so of any configuration, also one whose
+-- codes repeat, and says nothing of the way to the event. Assumes nothing.
 use mathlib.Core.Bool.{Bool, cond}
 use mathlib.Core.Option.{Option, none, some}
 use Prim.Native.Nat.{ℕ, zero, suc}

@@ -1,11 +1,14 @@
-// Document 01, "The parts the manager works on": reading the configuration, judging it, and the search of a trouble code.
+// Document 01, "The parts the manager works on": reading the configuration, judging it, and the search of a trouble
+// code.
 use manual::EventNumber;
 ghost use mathlib.Core.Path.{_≡_};
 ghost use mathlib.Core.Bool.{true, cond};
 ghost use Prim.Native.Nat.{_<_, _≤_};
 ghost use lib.IntN.{pos};
 ghost use Rattle.manual.specs.Words.{allBelow, between, eqZ, natOf};
-ghost use Rattle.manual.specs.Configuration.{mostEvents, numberAt, events, places, frameBytes, column, codeOf, priorityOf, cycleOf, kindOf, lowOf, highOf, upOf, downOf, jumpsOf, limitsOf, rowOk, configOk};
+ghost use Rattle.manual.specs.Configuration.{mostEvents, numberAt, events, places, frameBytes, column, codeOf};
+ghost use Rattle.manual.specs.Configuration.{priorityOf, cycleOf, kindOf, lowOf, highOf, upOf, downOf, jumpsOf};
+ghost use Rattle.manual.specs.Configuration.{limitsOf, rowOk, configOk};
 ghost use Rattle.config.specs.Rows.{InRow, limitsIs, risesHere, rowFits};
 ghost use Rattle.config.specs.Search.{hasCode, firstWithCode, searchIs};
 
@@ -302,8 +305,8 @@ fn rows_fit(cfg: &[i32], n: usize) -> bool
     fit
 }
 
-// Whether the configuration keeps the table; "2 | configuration breaks the table above" is the answer where it does not.
-// "the length is exactly 3 + 13n" is judged once n is known to be at most 512, since n may be any number.
+// Whether the configuration keeps the table; "2 | configuration breaks the table above" is the answer where it does
+// not. "the length is exactly 3 + 13n" is judged once n is known to be at most 512, since n may be any number.
 pub fn config_ok(cfg: &[i32]) -> bool
     ensures { λ r. ⌜ r ≡ configOk (now (cfg .entry)) ⌝ }
 {
@@ -333,7 +336,8 @@ fn has_code(cfg: &[i32], event: EventNumber, code: u32) -> bool
     code_of(cfg, event) == code as usize
 }
 
-// The first event with this trouble code. Trouble codes are "1 to 16,777,214": 0, FFFFFFh and anything above find nothing.
+// The first event with this trouble code. Trouble codes are "1 to 16,777,214": 0, FFFFFFh and anything above find
+// nothing.
 pub fn find_code(cfg: &[i32], code: u32) -> CodeSearch
     requires { ⌜ configOk (now cfg) ≡ true ⌝ }
     ensures { λ r. ⌜ searchIs r ≡ firstWithCode (now (cfg .entry)) code ⌝ }

@@ -25,7 +25,8 @@ use Rattle.one_event.proofs.TurnsLaws.{turn, ready-at-turn}
 
 -- ---- what a passed judgement gives
 
-module _ (cfg : Configuration) (s : State) (c : ℕ) (wrong : Bool) (z : firstThatApplies (begins cfg s true (fourFive (ltb 3 c) wrong)) ≡ 0) where
+module _ (cfg : Configuration) (s : State) (c : ℕ) (wrong : Bool)
+    (z : firstThatApplies (begins cfg s true (fourFive (ltb 3 c) wrong)) ≡ 0) where
   pub may-stop : MayStop cfg s c
   may-stop = record {
     configured = not-false (configOk cfg) (none-applies _ z refl 0);
@@ -34,13 +35,20 @@ module _ (cfg : Configuration) (s : State) (c : ℕ) (wrong : Bool) (z : firstTh
   }
 
   pub may-start : RecordsFor cfg (s .records) × (c < 4)
-  may-start = (record { accepted = may-stop .configured; as-long = state-tells cfg s (may-stop .formed) .lengths .records }, may-stop .is-cycle)
+  may-start = (
+    record { accepted = may-stop .configured; as-long = state-tells cfg s (may-stop .formed) .lengths .records },
+    may-stop .is-cycle,
+  )
 
-pub record-within : (cfg : Configuration) (records records′ : List ℕ) (e : ℕ) → RecordsFor cfg records → length records′ ≡ length records → e < events cfg
+pub record-within : (cfg : Configuration) (records records′ : List ℕ) (e : ℕ) → RecordsFor cfg records
+    → length records′ ≡ length records → e < events cfg
     → (e < 512) × (recordWidth * e + recordWidth ≤ length records′)
-record-within cfg records records′ e r l h = let most = config-tells cfg (r .accepted) .n-most in let long = r .as-long in (omega arith, omega arith)
+record-within cfg records records′ e r l h =
+    let most = config-tells cfg (r .accepted) .n-most in let long = r .as-long in (omega arith, omega arith)
 
-pub stop-fits : (cfg : Configuration) (s : State) (c : ℕ) → MayStop cfg s c → (i : ℕ) {t : State} → i < events cfg → t ≡ forBelow i (turn (ofCycle cfg c) (stops cfg)) s
+pub stop-fits : (cfg : Configuration) (s : State) (c : ℕ) → MayStop cfg s c → (i : ℕ) {t : State} → i < events cfg
+    → t ≡ forBelow i (turn (ofCycle cfg c) (stops cfg)) s
     → EventFits cfg (t .records) (t .debounce) (t .memory) i
 stop-fits cfg s c m i h q =
-    ready-at-turn (ofCycle cfg c) (stops cfg) cfg s (stops-keep cfg (config-tells cfg (m .configured)) c s) (m .configured) (m .formed) i h q .event
+    ready-at-turn (ofCycle cfg c) (stops cfg) cfg s (stops-keep cfg (config-tells cfg (m .configured)) c s)
+    (m .configured) (m .formed) i h q .event

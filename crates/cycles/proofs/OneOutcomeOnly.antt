@@ -1,5 +1,5 @@
--- The statements of `start` and `stop` allow one outcome only: one result, and of each block that the call may write one content, to the
--- last byte.
+-- The statements of `start` and `stop` allow one outcome only: one result, and of each block that the call may write
+-- one content, to the last byte.
 use mathlib.Core.Path.{_≡_}
 use mathlib.Core.List.{List, []}
 use Prim.Native.Nat.{ℕ}
@@ -14,13 +14,16 @@ use Rattle.manual.proofs.OneOutcomeOnly.{same-returned, same-blocks}
 module _ (cfg : Configuration) (cycle : ℕ) (s : State) (r r′ : Returned) (records records′ : List ℕ) where
   -- `start` is lent the debounce numbers and the memory to be read only
   pub one-start :
-      leaves (ofAnswer (r .answer)) [] alone (lent records (s .debounce) (s .memory) (r .board)) ≡ startCycle cfg cycle alone s
-      → leaves (ofAnswer (r′ .answer)) [] alone (lent records′ (s .debounce) (s .memory) (r′ .board)) ≡ startCycle cfg cycle alone s
+      leaves (ofAnswer (r .answer)) [] alone (lent records (s .debounce) (s .memory) (r .board))
+      ≡ startCycle cfg cycle alone s
+      → leaves (ofAnswer (r′ .answer)) [] alone (lent records′ (s .debounce) (s .memory) (r′ .board))
+      ≡ startCycle cfg cycle alone s
       → (r ≡ r′) × (records ≡ records′)
   one-start p q = (same-returned r r′ p q, same-blocks p q .0)
 
   pub one-stop : (debounce debounce′ : List ℤ) (memory memory′ : List ℕ)
       → leaves (ofAnswer (r .answer)) [] alone (lent records debounce memory (r .board)) ≡ stopCycle cfg cycle alone s
-      → leaves (ofAnswer (r′ .answer)) [] alone (lent records′ debounce′ memory′ (r′ .board)) ≡ stopCycle cfg cycle alone s
+      → leaves (ofAnswer (r′ .answer)) [] alone (lent records′ debounce′ memory′ (r′ .board))
+      ≡ stopCycle cfg cycle alone s
       → (r ≡ r′) × ((records ≡ records′) × ((debounce ≡ debounce′) × (memory ≡ memory′)))
   one-stop debounce debounce′ memory memory′ p q = (same-returned r r′ p q, same-blocks p q)

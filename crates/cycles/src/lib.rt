@@ -52,7 +52,10 @@ fn judge(
     cycle: u32,
     wrong: bool,
 ) -> Check
-    ensures { λ r. ⌜ checkNumber r ≡ firstThatApplies (begins (now (cfg .entry)) (lent (now (records .entry)) (now (debounce .entry)) (now (memory .entry)) board) true (fourFive (ltb 3 cycle) wrong)) ⌝ }
+    ensures { λ r. ⌜ checkNumber r
+        ≡ firstThatApplies
+        (begins (now (cfg .entry)) (lent (now (records .entry)) (now (debounce .entry)) (now (memory .entry)) board)
+        true (fourFive (ltb 3 cycle) wrong)) ⌝ }
 {
     match judgement::begin(cfg, records, debounce, memory, board, true) {
         Check::Go => four_five(LAST_CYCLE < cycle, wrong),
@@ -62,7 +65,9 @@ fn judge(
 
 // "A refusal changes nothing lent and hands back the board it was given"
 fn refused(refusal: Refusal, given: Board) -> Returned
-    ensures { λ r. ⌜ ((records : List ℕ) (d : List ℤ) (m : List ℕ) → leaves (ofAnswer (r .answer)) [] alone (lent records d m (r .board)) ≡ refused (numberOf refusal) alone (lent records d m given)) ⌝ }
+    ensures { λ r. ⌜ ((records : List ℕ) (d : List ℤ) (m : List ℕ)
+        → leaves (ofAnswer (r .answer)) [] alone (lent records d m (r .board))
+        ≡ refused (numberOf refusal) alone (lent records d m given)) ⌝ }
 {
     Returned {
         answer: Answer::Refused(refusal),
@@ -72,7 +77,9 @@ fn refused(refusal: Refusal, given: Board) -> Returned
 
 // "0 | done"
 fn done(board: Board) -> Returned
-    ensures { λ r. ⌜ ((records : List ℕ) (d : List ℤ) (m : List ℕ) → leaves (ofAnswer (r .answer)) [] alone (lent records d m (r .board)) ≡ done alone (lent records d m board)) ⌝ }
+    ensures { λ r. ⌜ ((records : List ℕ) (d : List ℤ) (m : List ℕ)
+        → leaves (ofAnswer (r .answer)) [] alone (lent records d m (r .board))
+        ≡ done alone (lent records d m board)) ⌝ }
 {
     Returned {
         answer: Answer::Done,
@@ -93,7 +100,8 @@ fn of_cycle(cfg: &[i32], cycle: usize, event: EventNumber) -> bool
 // The board with the cycle turned on or off.
 fn turned(board: Board, cycle: usize, on: bool) -> Board
     requires { ⌜ cycle < 4 ⌝ }
-    ensures { λ r. ⌜ ((records : List ℕ) (d : List ℤ) (m : List ℕ) → lent records d m r ≡ withCycle cycle on (lent records d m board)) ⌝ }
+    ensures { λ r. ⌜ ((records : List ℕ) (d : List ℤ) (m : List ℕ)
+        → lent records d m r ≡ withCycle cycle on (lent records d m board)) ⌝ }
 {
     let mut running = board.running;
     running[cycle] = on;
@@ -108,7 +116,11 @@ fn turned(board: Board, cycle: usize, on: bool) -> Board
 // The event, where it is one of the cycle.
 fn start_event(cfg: &[i32], records: &mut [u8], cycle: usize, event: EventNumber)
     requires { ⌜ (event .0 < mostEvents) × (recordWidth * event .0 + recordWidth ≤ length (now records)) ⌝ }
-    ensures { λ _. ⌜ ((d : List ℤ) (m : List ℕ) (b : Board) → lent (now (records .exit)) d m b ≡ cond (ofCycle (now (cfg .entry)) cycle (event .0)) (happens (now (cfg .entry)) start (event .0) (lent (now (records .entry)) d m b)) (lent (now (records .entry)) d m b)) ⌝ }
+    ensures { λ _. ⌜ ((d : List ℤ) (m : List ℕ) (b : Board)
+        → lent (now (records .exit)) d m b
+        ≡ cond (ofCycle (now (cfg .entry)) cycle (event .0))
+        (happens (now (cfg .entry)) start (event .0) (lent (now (records .entry)) d m b))
+        (lent (now (records .entry)) d m b)) ⌝ }
 {
     if of_cycle(cfg, cycle, event) {
         one_event::starts(records, event);
@@ -118,7 +130,11 @@ fn start_event(cfg: &[i32], records: &mut [u8], cycle: usize, event: EventNumber
 // "Start of a stopped cycle: for its events clears 1, sets 6."
 fn accept_start(cfg: &[i32], records: &mut [u8], board: Board, cycle: usize) -> Board
     requires { ⌜ (RecordsFor (now cfg) (now records)) × (cycle < 4) ⌝ }
-    ensures { λ r. ⌜ ((d : List ℤ) (m : List ℕ) → lent (now (records .exit)) d m r ≡ withCycle cycle true (forThose (now (cfg .entry)) (ofCycle (now (cfg .entry)) cycle) (happens (now (cfg .entry)) start) (lent (now (records .entry)) d m board))) ⌝ }
+    ensures { λ r. ⌜ ((d : List ℤ) (m : List ℕ)
+        → lent (now (records .exit)) d m r
+        ≡ withCycle cycle true
+        (forThose (now (cfg .entry)) (ofCycle (now (cfg .entry)) cycle) (happens (now (cfg .entry)) start)
+        (lent (now (records .entry)) d m board))) ⌝ }
 {
     for event in 0..config::events(cfg) {
         start_event(cfg, records, cycle, EventNumber(event));
@@ -135,7 +151,10 @@ pub fn start(
     board: Board,
     cycle: u32,
 ) -> Returned
-    ensures { λ r. ⌜ leaves (ofAnswer (r .answer)) [] alone (lent (now (records .exit)) (now (debounce .entry)) (now (memory .entry)) (r .board)) ≡ startCycle (now (cfg .entry)) cycle alone (lent (now (records .entry)) (now (debounce .entry)) (now (memory .entry)) board) ⌝ }
+    ensures { λ r. ⌜ leaves (ofAnswer (r .answer)) [] alone
+        (lent (now (records .exit)) (now (debounce .entry)) (now (memory .entry)) (r .board))
+        ≡ startCycle (now (cfg .entry)) cycle alone
+        (lent (now (records .entry)) (now (debounce .entry)) (now (memory .entry)) board) ⌝ }
 {
     let wrong = judgement::runs(board, cycle as usize);
     match judge(cfg, records, debounce, memory, board, cycle, wrong) {
@@ -156,7 +175,12 @@ fn stop_event(
     event: EventNumber,
 )
     requires { ⌜ EventFits (now cfg) (now records) (now debounce) (now memory) (event .0) ⌝ }
-    ensures { λ _. ⌜ ((b : Board) → lent (now (records .exit)) (now (debounce .exit)) (now (memory .exit)) b ≡ cond (ofCycle (now (cfg .entry)) cycle (event .0)) (stops (now (cfg .entry)) (event .0) (lent (now (records .entry)) (now (debounce .entry)) (now (memory .entry)) b)) (lent (now (records .entry)) (now (debounce .entry)) (now (memory .entry)) b)) ⌝ }
+    ensures { λ _. ⌜ ((b : Board)
+        → lent (now (records .exit)) (now (debounce .exit)) (now (memory .exit)) b
+        ≡ cond (ofCycle (now (cfg .entry)) cycle (event .0))
+        (stops (now (cfg .entry)) (event .0)
+        (lent (now (records .entry)) (now (debounce .entry)) (now (memory .entry)) b))
+        (lent (now (records .entry)) (now (debounce .entry)) (now (memory .entry)) b)) ⌝ }
 {
     if of_cycle(cfg, cycle, event) {
         one_event::stops(cfg, records, debounce, memory, event);
@@ -173,7 +197,10 @@ fn accept_stop(
     cycle: usize,
 ) -> Board
     requires { ⌜ MayStop (now cfg) (lent (now records) (now debounce) (now memory) board) cycle ⌝ }
-    ensures { λ r. ⌜ lent (now (records .exit)) (now (debounce .exit)) (now (memory .exit)) r ≡ withCycle cycle false (forThose (now (cfg .entry)) (ofCycle (now (cfg .entry)) cycle) (stops (now (cfg .entry))) (lent (now (records .entry)) (now (debounce .entry)) (now (memory .entry)) board)) ⌝ }
+    ensures { λ r. ⌜ lent (now (records .exit)) (now (debounce .exit)) (now (memory .exit)) r
+        ≡ withCycle cycle false
+        (forThose (now (cfg .entry)) (ofCycle (now (cfg .entry)) cycle) (stops (now (cfg .entry)))
+        (lent (now (records .entry)) (now (debounce .entry)) (now (memory .entry)) board)) ⌝ }
 {
     for event in 0..config::events(cfg) {
         stop_event(cfg, records, debounce, memory, cycle, EventNumber(event));
@@ -190,7 +217,10 @@ pub fn stop(
     board: Board,
     cycle: u32,
 ) -> Returned
-    ensures { λ r. ⌜ leaves (ofAnswer (r .answer)) [] alone (lent (now (records .exit)) (now (debounce .exit)) (now (memory .exit)) (r .board)) ≡ stopCycle (now (cfg .entry)) cycle alone (lent (now (records .entry)) (now (debounce .entry)) (now (memory .entry)) board) ⌝ }
+    ensures { λ r. ⌜ leaves (ofAnswer (r .answer)) [] alone
+        (lent (now (records .exit)) (now (debounce .exit)) (now (memory .exit)) (r .board))
+        ≡ stopCycle (now (cfg .entry)) cycle alone
+        (lent (now (records .entry)) (now (debounce .entry)) (now (memory .entry)) board) ⌝ }
 {
     let wrong = !judgement::runs(board, cycle as usize);
     match judge(cfg, records, debounce, memory, board, cycle, wrong) {

@@ -15,13 +15,16 @@ use Rattle.debounce.specs.declared.Debounced.{Debounced}
 use Rattle.debounce.specs.Rows.{RowOf, answered, reportedBy, tickedBy}
 use Rattle.debounce.proofs.RowsLaws.{reported-is, ticked-is}
 
-module _ (cfg : Configuration) (e : ℕ) (row : Row) (o : RowOf cfg e row) (ok : configOk cfg ≡ true) (h : e < events cfg) (b : Board) (r : runs b (cycleOf cfg e) ≡ true) where
-  pub report-stays : (code : ℕ) (d : ℤ) (x : Debounced) → answered x ≡ reportedBy row code d → DOk cfg b e d ≡ true → DOk cfg b e (x .number) ≡ true
+module _ (cfg : Configuration) (e : ℕ) (row : Row) (o : RowOf cfg e row) (ok : configOk cfg ≡ true) (h : e < events cfg)
+    (b : Board) (r : runs b (cycleOf cfg e) ≡ true) where
+  pub report-stays : (code : ℕ) (d : ℤ) (x : Debounced) → answered x ≡ reportedBy row code d → DOk cfg b e d ≡ true
+      → DOk cfg b e (x .number) ≡ true
   report-stays code d x q f =
       let n = ap (λ (y : manual.Debounced). y .number) (q ∙ reported-is cfg e row o code d) in
       rw n (report-ok cfg b e (config-tells cfg ok .row e h .range) r code d f)
 
-  pub tick-stays : isTime cfg e ≡ true → (ms : ℕ) (d : ℤ) (x : Debounced) → answered x ≡ tickedBy row ms d → DOk cfg b e d ≡ true → DOk cfg b e (x .number) ≡ true
+  pub tick-stays : isTime cfg e ≡ true → (ms : ℕ) (d : ℤ) (x : Debounced) → answered x ≡ tickedBy row ms d
+      → DOk cfg b e d ≡ true → DOk cfg b e (x .number) ≡ true
   tick-stays t ms d x q f =
       let n = ap (λ (y : manual.Debounced). y .number) (q ∙ ticked-is cfg e row o ms d) in
       rw n (tick-ok cfg b e (config-tells cfg ok .row e h .range) r t ms d f)

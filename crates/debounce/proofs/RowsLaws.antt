@@ -1,5 +1,5 @@
--- Laws of specs/Rows.antt, in its order: what the manual says of a row alone it says of every event that has the row, and the
--- numbers of an accepted row and of a well-formed state are small.
+-- Laws of specs/Rows.antt, in its order: what the manual says of a row alone it says of every event that has the row,
+-- and the numbers of an accepted row and of a well-formed state are small.
 use mathlib.Core.Path.{_≡_}
 use mathlib.Core.Bool.{Bool, true, not, _||_}
 use Prim.Native.Nat.{ℕ, _≤_, _<_}
@@ -9,8 +9,10 @@ use lib.IntN.{ℤ, pos, negsuc, natAbs}
 use mir.Syntax.{w32}
 use mir.Val.{toZ, ofZ}
 use Rattle.history.proofs.WordsLaws.{part}
-use Rattle.manual.specs.Configuration.{Configuration, events, column, isInternal, isCounter, lowOf, highOf, upOf, downOf, rowOk, configOk}
-use Rattle.manual.specs.Debouncing.{top, bottom, verdictAt, leavesAt, internalReport, counterUp, counterDown, counterReport, timeReport, reported, ticked}
+use Rattle.manual.specs.Configuration.{Configuration, events, column, isInternal, isCounter}
+use Rattle.manual.specs.Configuration.{lowOf, highOf, upOf, downOf, rowOk, configOk}
+use Rattle.manual.specs.Debouncing.{top, bottom, verdictAt, leavesAt, internalReport, counterUp}
+use Rattle.manual.specs.Debouncing.{counterDown, counterReport, timeReport, reported, ticked}
 use Rattle.manual.specs.WellFormed.{DFits}
 use Rattle.manual.proofs.WordsLaws.{by, all-below-at}
 use Rattle.debounce.specs.declared.Row.{Row}
@@ -29,7 +31,8 @@ module _ (cfg : Configuration) (e : ℕ) (row : Row) (o : RowOf cfg e row) where
   bottom-is = rw (← o .kind-is, ← o .low-is)
 
   pub reported-is : (code : ℕ) (d : ℤ) → reportedBy row code d ≡ reported cfg e code d
-  unfolding reported internalReport leavesAt verdictAt top bottom counterReport counterUp counterDown timeReport alone column
+  unfolding reported internalReport leavesAt verdictAt top bottom counterReport counterUp counterDown timeReport alone
+      column
   reported-is code d = rw (← o .kind-is, ← o .low-is, ← o .high-is, ← o .up-is, ← o .down-is, ← o .jumps-is)
 
   pub ticked-is : (ms : ℕ) (d : ℤ) → tickedBy row ms d ≡ ticked cfg e ms d
@@ -55,15 +58,19 @@ module _ {row : Row} (s : SmallRow row) where
   -- its ends are small
   pub top-small : natAbs (top (alone row) 0) ≤ 30001
   unfolding top alone column
-  top-small = by (eqb (row .kind) 2) (λ z. natAbs z ≤ 30001) (λ t. omega (arith, abs-add (row .high) (pos 1))) (λ t. omega arith)
+  top-small =
+      by (eqb (row .kind) 2) (λ z. natAbs z ≤ 30001) (λ t. omega (arith, abs-add (row .high) (pos 1)))
+      (λ t. omega arith)
 
   pub bottom-small : natAbs (bottom (alone row) 0) ≤ 30001
   unfolding bottom alone column
-  bottom-small = by (eqb (row .kind) 2) (λ z. natAbs z ≤ 30001) (λ t. omega (arith, abs-sub (row .low) (pos 1))) (λ t. omega arith)
+  bottom-small =
+      by (eqb (row .kind) 2) (λ z. natAbs z ≤ 30001) (λ t. omega (arith, abs-sub (row .low) (pos 1))) (λ t. omega arith)
 
 -- ---- a row of an accepted configuration, and a D of a well-formed state
 
-module _ (cfg : Configuration) (e : ℕ) (row : Row) (o : RowOf cfg e row) (ok : configOk cfg ≡ true) (h : e < events cfg) where
+module _ (cfg : Configuration) (e : ℕ) (row : Row) (o : RowOf cfg e row) (ok : configOk cfg ≡ true)
+    (h : e < events cfg) where
   row-ok : rowOk cfg e ≡ true
   unfolding configOk
   row-ok = all-below-at (events cfg) (rowOk cfg) (part _ ok 5) e h
@@ -72,10 +79,22 @@ module _ (cfg : Configuration) (e : ℕ) (row : Row) (o : RowOf cfg e row) (ok :
   pub small-row : SmallRow row
   unfolding rowOk
   small-row = record {
-    low = rw (o .low-is) (zero-or-between (isInternal cfg e) (negsuc 29999) (negsuc 0) (lowOf cfg e) 30000 (omega arith) (omega arith) (part _ row-ok 4));
-    high = rw (o .high-is) (zero-or-between (isInternal cfg e) (pos 1) (pos 30000) (highOf cfg e) 30000 (omega arith) (omega arith) (part _ row-ok 5));
-    up = rw (o .up-is) (between-or-zero (isCounter cfg e) (pos 1) (pos 30000) (upOf cfg e) 30000 (omega arith) (omega arith) (part _ row-ok 6));
-    down = rw (o .down-is) (between-or-zero (isCounter cfg e) (pos 1) (pos 30000) (downOf cfg e) 30000 (omega arith) (omega arith) (part _ row-ok 7));
+    low =
+        rw (o .low-is)
+        (zero-or-between (isInternal cfg e) (negsuc 29999) (negsuc 0) (lowOf cfg e) 30000 (omega arith) (omega arith)
+        (part _ row-ok 4));
+    high =
+        rw (o .high-is)
+        (zero-or-between (isInternal cfg e) (pos 1) (pos 30000) (highOf cfg e) 30000 (omega arith) (omega arith)
+        (part _ row-ok 5));
+    up =
+        rw (o .up-is)
+        (between-or-zero (isCounter cfg e) (pos 1) (pos 30000) (upOf cfg e) 30000 (omega arith) (omega arith)
+        (part _ row-ok 6));
+    down =
+        rw (o .down-is)
+        (between-or-zero (isCounter cfg e) (pos 1) (pos 30000) (downOf cfg e) 30000 (omega arith) (omega arith)
+        (part _ row-ok 7));
   }
 
   module _ (running : Bool) (d : ℤ) (f : DFits cfg running e d ≡ true) where

@@ -1,4 +1,5 @@
--- Laws of signed numbers: how far from 0 they lie, what lies on the other side of 0, and that 32 bits hold a small one unchanged.
+-- Laws of signed numbers: how far from 0 they lie, what lies on the other side of 0, and that 32 bits hold a small one
+-- unchanged.
 use mathlib.Core.Path.{_≡_, refl, sym, ap, _∙_}
 use mathlib.Core.Bool.{Bool, true, false, cond}
 use Prim.Native.Nat.{ℕ, _+_, _^_, _≤_, _<_}
@@ -51,11 +52,13 @@ abs-zero : (z : ℤ) (k : ℕ) → eqZ z (pos 0) ≡ true → natAbs z ≤ k
 abs-zero z k t = rw (eqZ-true z (pos 0) t) (omega arith)
 
 -- the table's "… to …, else 0", and the same the other way round
-pub between-or-zero : (b : Bool) (lo hi z : ℤ) (k : ℕ) → natAbs lo ≤ k → natAbs hi ≤ k → cond b (between lo hi z) (eqZ z (pos 0)) ≡ true → natAbs z ≤ k
+pub between-or-zero : (b : Bool) (lo hi z : ℤ) (k : ℕ) → natAbs lo ≤ k → natAbs hi ≤ k
+    → cond b (between lo hi z) (eqZ z (pos 0)) ≡ true → natAbs z ≤ k
 between-or-zero true lo hi z k h g t = abs-between lo hi z k h g t
 between-or-zero false lo hi z k h g t = abs-zero z k t
 
-pub zero-or-between : (b : Bool) (lo hi z : ℤ) (k : ℕ) → natAbs lo ≤ k → natAbs hi ≤ k → cond b (eqZ z (pos 0)) (between lo hi z) ≡ true → natAbs z ≤ k
+pub zero-or-between : (b : Bool) (lo hi z : ℤ) (k : ℕ) → natAbs lo ≤ k → natAbs hi ≤ k
+    → cond b (eqZ z (pos 0)) (between lo hi z) ≡ true → natAbs z ≤ k
 zero-or-between true lo hi z k h g t = abs-zero z k t
 zero-or-between false lo hi z k h g t = abs-between lo hi z k h g t
 
@@ -72,11 +75,14 @@ neg-smaller a b =
 -- "the larger of D−d and P−1", by the waited time
 pub waited-is : (d end : ℤ) (ms : ℕ) → negℤ (smaller (negℤ d +ℤ pos ms) (negℤ end)) ≡ larger (d -ℤ pos ms) end
 waited-is d end ms =
-    let e : negℤ d +ℤ pos ms ≡ negℤ (d -ℤ pos ms) = omega (signed, add-is (negℤ d) (pos ms), neg-is d, neg-is (d -ℤ pos ms), minus-is d (pos ms)) in
+    let e : negℤ d +ℤ pos ms ≡ negℤ (d -ℤ pos ms) =
+    omega (signed, add-is (negℤ d) (pos ms), neg-is d, neg-is (d -ℤ pos ms), minus-is d (pos ms)) in
     rw e (neg-smaller (d -ℤ pos ms) end)
 
-pub waited-small : (d end : ℤ) (ms : ℕ) → natAbs d ≤ 30001 → natAbs end ≤ 30001 → ms ≤ 60000 → natAbs (smaller (negℤ d +ℤ pos ms) (negℤ end)) ≤ 200000
-waited-small d end ms h k m = omega (arith, abs-smaller (negℤ d +ℤ pos ms) (negℤ end), abs-add (negℤ d) (pos ms), abs-neg d, abs-neg end)
+pub waited-small : (d end : ℤ) (ms : ℕ) → natAbs d ≤ 30001 → natAbs end ≤ 30001 → ms ≤ 60000
+    → natAbs (smaller (negℤ d +ℤ pos ms) (negℤ end)) ≤ 200000
+waited-small d end ms h k m =
+    omega (arith, abs-smaller (negℤ d +ℤ pos ms) (negℤ end), abs-add (negℤ d) (pos ms), abs-neg d, abs-neg end)
 
 -- ---- 32 bits
 
@@ -104,5 +110,6 @@ both-ways false false f g = refl
 pub bits-same : {a b : ℤ} → SFits w32 a → SFits w32 b → eqb (ofZ w32 a) (ofZ w32 b) ≡ eqZ a b
 bits-same {a} {b} f g =
     both-ways (eqb (ofZ w32 a) (ofZ w32 b)) (eqZ a b)
-    (λ t. let e : a ≡ b = sym (toZ-ofZ f) ∙ ap (toZ w32) (eqb-true (ofZ w32 a) (ofZ w32 b) t) ∙ toZ-ofZ g in rw e (same-self b))
+    (λ t. let e : a ≡ b = sym (toZ-ofZ f) ∙ ap (toZ w32) (eqb-true (ofZ w32 a) (ofZ w32 b) t)
+    ∙ toZ-ofZ g in rw e (same-self b))
     (λ t. eq-eqb (ofZ w32 a) (ofZ w32 b) (ap (ofZ w32) (eqZ-true a b t)))

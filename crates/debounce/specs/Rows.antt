@@ -18,8 +18,8 @@ pub record RowOf (cfg : Configuration) (e : ℕ) (row : Row) : Type 0 where
   pub down-is : row .down ≡ downOf cfg e
   pub jumps-is : row .jumps ≡ jumpsOf cfg e
 
--- the row alone: a configuration whose one event, number 0, has it. What the manual says of this event it says of every event
--- that has the row (proofs/RowsLaws.antt), so no rule is written a second time for rows.
+-- the row alone: a configuration whose one event, number 0, has it. What the manual says of this event it says of every
+-- event that has the row (proofs/RowsLaws.antt), so no rule is written a second time for rows.
 unfoldable pub alone : Row → Configuration
 alone row =
     pos 1 ∷ pos 1 ∷ pos 0

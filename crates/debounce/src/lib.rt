@@ -6,8 +6,10 @@ ghost use Prim.Native.Nat.{_+_, _≤_, _<_};
 ghost use lib.IntN.{pos, natAbs, _+ℤ_, _-ℤ_};
 ghost use Rattle.manual.specs.Configuration.{mostEvents};
 ghost use Rattle.manual.specs.Words.{smaller, larger};
-ghost use Rattle.manual.specs.Debouncing.{top, bottom, verdictAt, leavesAt, internalReport, counterUp, counterDown, counterReport, timeReport};
-ghost use Rattle.debounce.specs.Rows.{RowOf, alone, answered, reportedBy, tickedBy, SmallRow, SmallReport, SmallTick};
+ghost use Rattle.manual.specs.Debouncing.{top, bottom, verdictAt, leavesAt, internalReport, counterUp};
+ghost use Rattle.manual.specs.Debouncing.{counterDown, counterReport, timeReport};
+ghost use Rattle.debounce.specs.Rows.{RowOf, alone, answered, reportedBy, tickedBy};
+ghost use Rattle.debounce.specs.Rows.{SmallRow, SmallReport, SmallTick};
 use manual::EventNumber;
 use manual::Verdict;
 
@@ -44,7 +46,8 @@ pub struct Debounced {
     pub verdict: Verdict,
 }
 
-// "Codes: 0 passed, 1 failed, 2 pre-passed, 3 pre-failed." No other is accepted: a match on these three leaves pre-passed.
+// "Codes: 0 passed, 1 failed, 2 pre-passed, 3 pre-failed." No other is accepted: a match on these three leaves
+// pre-passed.
 pub const PASSED: u32 = 0;
 
 pub const FAILED: u32 = 1;
@@ -73,7 +76,8 @@ pub fn bottom(row: Row) -> i32
     row.low
 }
 
-// "Verdict, kinds 1 and 2: failed if the report leaves D at its top (Q, Q+1), passed if at its bottom (P, P−1), else none."
+// "Verdict, kinds 1 and 2: failed if the report leaves D at its top (Q, Q+1), passed if at its bottom (P, P−1), else
+// none."
 fn verdict_at(row: Row, d: i32) -> Verdict
     requires { ⌜ SmallRow row ⌝ }
     ensures { λ r. ⌜ r ≡ verdictAt (alone row) 0 d ⌝ }
@@ -98,7 +102,8 @@ fn leaves_at(row: Row, d: i32) -> Debounced
     }
 }
 
-// "Kind 0: passed and failed are the verdict; D stays 0." No number of the row plays a part, so the contract names no row.
+// "Kind 0: passed and failed are the verdict; D stays 0." No number of the row plays a part, so the contract names no
+// row.
 fn internal_report(code: u32, d: i32) -> Debounced
     ensures { λ r. ⌜ answered r ≡ internalReport [] 0 code d ⌝ }
 {
@@ -143,7 +148,8 @@ fn counter_up(row: Row, d: i32) -> i32
     signed::smaller(sum, row.high)
 }
 
-// "Pre-passed: start from D, or from 0 if jump down is on and D > 0; subtract down; hold at P." Jumps "2 = jump down, 3 = both".
+// "Pre-passed: start from D, or from 0 if jump down is on and D > 0; subtract down; hold at P." Jumps "2 = jump down, 3
+// = both".
 fn counter_down(row: Row, d: i32) -> i32
     requires { ⌜ SmallReport row d ⌝ }
     ensures { λ r. ⌜ r ≡ counterDown (alone row) 0 d ⌝ }
@@ -166,8 +172,8 @@ fn counter_report(row: Row, code: u32, d: i32) -> i32
     }
 }
 
-// "Kind 2: failed sets D = Q+1, passed D = P−1. Pre-failed: D = 1 if D ≤ 0, else unchanged. Pre-passed: D = −1 if D ≥ 0, else
-// unchanged."
+// "Kind 2: failed sets D = Q+1, passed D = P−1. Pre-failed: D = 1 if D ≤ 0, else unchanged. Pre-passed: D = −1 if D ≥
+// 0, else unchanged."
 fn time_report(row: Row, code: u32, d: i32) -> i32
     requires { ⌜ SmallRow row ⌝ }
     ensures { λ r. ⌜ r ≡ timeReport (alone row) 0 code d ⌝ }
@@ -209,7 +215,8 @@ fn tick_up(row: Row, ms: u32, d: i32) -> i32
     goes_on(d, ms, top(row))
 }
 
-// "P−1 < D < 0 the larger of D−d and P−1": the waited time is −D and its end −(P−1), and what it comes to is negated back.
+// "P−1 < D < 0 the larger of D−d and P−1": the waited time is −D and its end −(P−1), and what it comes to is negated
+// back.
 fn tick_down(row: Row, ms: u32, d: i32) -> i32
     requires { ⌜ SmallTick row ms d ⌝ }
     ensures { λ r. ⌜ r ≡ larger (d -ℤ pos ms) (bottom (alone row) 0) ⌝ }
@@ -219,7 +226,8 @@ fn tick_down(row: Row, ms: u32, d: i32) -> i32
     signed::negated(goes_on(waited, ms, end))
 }
 
-// "Tick of d ms": the new D of an event with this row, and the verdict. A D of 0, at its top or at its bottom stays, with no verdict.
+// "Tick of d ms": the new D of an event with this row, and the verdict. A D of 0, at its top or at its bottom stays,
+// with no verdict.
 pub fn tick_step(row: Row, ms: u32, d: i32) -> Debounced
     requires { ⌜ SmallTick row ms d ⌝ }
     ensures { λ r. ⌜ answered r ≡ tickedBy row ms d ⌝ }

@@ -1,5 +1,5 @@
-// Small functions on signed numbers, each with its meaning in ℤ, so that no caller reasons about bits. No sum of debouncing lies
-// farther than 200,000 from 0.
+// Small functions on signed numbers, each with its meaning in ℤ, so that no caller reasons about bits. No sum of
+// debouncing lies farther than 200,000 from 0.
 ghost use mathlib.Core.Path.{_≡_};
 ghost use Prim.Native.Nat.{_+_, _≤_};
 ghost use lib.IntN.{natAbs, negℤ, _+ℤ_, _-ℤ_};

@@ -14,7 +14,8 @@ use Rattle.manual.specs.State.{State}
 use Rattle.manual.specs.WellFormed.{wellFormed}
 use Rattle.manual.specs.Answers.{lentRoom, Outcome, firstThatApplies, ofLength, leaves}
 use Rattle.manual.specs.Calls.{unknownCode, cleared}
-use Rattle.manual.specs.Diagnostics.{positive, negative, replyBytes, served, service19, service14, servedBy, sent, replied, requestRules}
+use Rattle.manual.specs.Diagnostics.{positive, negative, replyBytes, served, service19}
+use Rattle.manual.specs.Diagnostics.{service14, servedBy, sent, replied, requestRules}
 use Rattle.manual.proofs.AnswersLaws.{none-applies}
 use Rattle.writing.specs.Writing.{written, append}
 use Rattle.writing.proofs.WritingLaws.{append-next}
@@ -35,19 +36,25 @@ module _ (cfg : Configuration) (request : List ℕ) (s : State) where
     unfolding service14
     clear-unknown u = rw (eq-eqb _ _ four, ← c, u)
 
-    pub clear-known : unknownCode cfg code ≡ false → served (positive (0x54 ∷ [])) (cleared cfg code s) ≡ service14 cfg request s
+    pub clear-known : unknownCode cfg code ≡ false
+        → served (positive (0x54 ∷ [])) (cleared cfg code s) ≡ service14 cfg request s
     unfolding service14
     clear-known u = rw (eq-eqb _ _ four, ← c, u)
 
 -- its reply, and the state after it
 module _ (cfg : Configuration) (request room : List ℕ) (s : State) where
-  pub replies-54 : (code : ℕ) {size : ℕ} {after : List ℕ} → 3 ≤ length room → written size after ≡ append (0x54 ∷ []) (written 0 room) → served (positive (0x54 ∷ [])) (cleared cfg code s) ≡ service14 cfg request s → sentIs 1 after (cleared cfg code s) ≡ replied cfg 0x14 (lentRoom room) (service14 cfg request s)
+  pub replies-54 : (code : ℕ) {size : ℕ} {after : List ℕ} → 3 ≤ length room
+      → written size after ≡ append (0x54 ∷ []) (written 0 room)
+      → served (positive (0x54 ∷ [])) (cleared cfg code s) ≡ service14 cfg request s
+      → sentIs 1 after (cleared cfg code s) ≡ replied cfg 0x14 (lentRoom room) (service14 cfg request s)
   replies-54 code {after} h e p =
       ap (λ k. sentIs k after (cleared cfg code s)) (sym (append-next (0x54 ∷ []) (written 0 room) e))
       ∙ written-is-sent cfg (0x54 ∷ []) room (cleared cfg code s) (omega arith) e
       ∙ ap (replied cfg 0x14 (lentRoom room)) p
 
-  pub replies-negative : (code : ℕ) {o : Outcome} → o ≡ sent cfg (replyBytes 0x14 (negative code)) (lentRoom room) s → served (negative code) s ≡ service14 cfg request s → o ≡ replied cfg 0x14 (lentRoom room) (service14 cfg request s)
+  pub replies-negative : (code : ℕ) {o : Outcome} → o ≡ sent cfg (replyBytes 0x14 (negative code)) (lentRoom room) s
+      → served (negative code) s ≡ service14 cfg request s
+      → o ≡ replied cfg 0x14 (lentRoom room) (service14 cfg request s)
   replies-negative code e p = e ∙ ap (replied cfg 0x14 (lentRoom room)) p
 
 -- ---- the service
@@ -58,7 +65,8 @@ module _ (cfg : Configuration) (request room : List ℕ) (s : State) where
   Serves o = o ≡ replied cfg (getD request 0 0) (lentRoom room) (servedBy cfg request (length room) s)
 
   module _ {o : Outcome} {service : ℕ} (first : service ≡ getD request 0 0) where
-    pub serves-19 : service ≡ 0x19 → o ≡ replied cfg 0x19 (lentRoom room) (served (service19 cfg request (length room) s) s) → Serves o
+    pub serves-19 : service ≡ 0x19
+        → o ≡ replied cfg 0x19 (lentRoom room) (served (service19 cfg request (length room) s) s) → Serves o
     unfolding servedBy
     serves-19 e p = rw (← first, e) p
 
@@ -66,7 +74,8 @@ module _ (cfg : Configuration) (request room : List ℕ) (s : State) where
     unfolding servedBy
     serves-14 e p = rw (← first, e) p
 
-    pub serves-no-other : service ≢ 0x19 → service ≢ 0x14 → o ≡ sent cfg (replyBytes service (negative 0x11)) (lentRoom room) s → Serves o
+    pub serves-no-other : service ≢ 0x19 → service ≢ 0x14
+        → o ≡ sent cfg (replyBytes service (negative 0x11)) (lentRoom room) s → Serves o
     unfolding servedBy
     serves-no-other a b p = rw (← first, ne-eqb _ _ a, ne-eqb _ _ b) p
 
@@ -74,15 +83,20 @@ module _ (cfg : Configuration) (request room : List ℕ) (s : State) where
 
 module _ (cfg : Configuration) (request room : List ℕ) (s : State) where
   -- a request that nothing refuses: its reply
-  pub replied-is : {after : List ℕ} (size : ℕ) {service : Service} → service ≡ Replied size → Serves cfg request room s (serviceIs cfg service after s) → Serves cfg request room s (leaves (ofLength (Written size)) [] (lentRoom after) s)
+  pub replied-is : {after : List ℕ} (size : ℕ) {service : Service} → service ≡ Replied size
+      → Serves cfg request room s (serviceIs cfg service after s)
+      → Serves cfg request room s (leaves (ofLength (Written size)) [] (lentRoom after) s)
   replied-is {after} size e p = ap (λ (k : Service). serviceIs cfg k after s) (sym e) ∙ p
 
   -- and the clear that service 14 asks for
-  pub cleared-is : {after : List ℕ} (code : ℕ) {service : Service} {t : State} → service ≡ Clear code → t ≡ cleared cfg code s → Serves cfg request room s (serviceIs cfg service after s) → Serves cfg request room s (leaves (ofLength (Written 1)) [] (lentRoom after) t)
+  pub cleared-is : {after : List ℕ} (code : ℕ) {service : Service} {t : State} → service ≡ Clear code
+      → t ≡ cleared cfg code s → Serves cfg request room s (serviceIs cfg service after s)
+      → Serves cfg request room s (leaves (ofLength (Written 1)) [] (lentRoom after) t)
   cleared-is {after} code e q p = ap (sentIs 1 after) q ∙ ap (λ (k : Service). serviceIs cfg k after s) (sym e) ∙ p
 
   -- what it may count on
-  pub may-serve : firstThatApplies (requestRules cfg request (lentRoom room) s) ≡ 0 → Accepted cfg room × (wellFormed cfg s ≡ true)
+  pub may-serve : firstThatApplies (requestRules cfg request (lentRoom room) s) ≡ 0
+      → Accepted cfg room × (wellFormed cfg s ≡ true)
   unfolding requestRules
   may-serve z = (
     record {

@@ -1,4 +1,5 @@
--- What the functions of this crate ask and answer, in the words of the manual's specs/Diagnostics.antt. Assumes nothing.
+-- What the functions of this crate ask and answer, in the words of the manual's specs/Diagnostics.antt. Assumes
+-- nothing.
 use mathlib.Core.Path.{_≡_}
 use mathlib.Core.Bool.{Bool, true, false, not, cond}
 use mathlib.Core.List.{List, [], _∷_}
@@ -13,7 +14,8 @@ use Rattle.manual.specs.Configuration.{Configuration, events, configOk}
 use Rattle.manual.specs.State.{State, lent, allStopped}
 use Rattle.manual.specs.Answers.{lentRoom, Outcome}
 use Rattle.manual.specs.Calls.{cleared}
-use Rattle.manual.specs.Diagnostics.{Reply, positive, negative, Served, served, SubFunction, subFunction, matches, line, lines, suppresses, subFunctionReply, replied}
+use Rattle.manual.specs.Diagnostics.{Reply, positive, negative, Served, served, SubFunction, subFunction}
+use Rattle.manual.specs.Diagnostics.{matches, line, lines, suppresses, subFunctionReply, replied}
 use Rattle.diagnostics.specs.declared.Asked.{Asked}
 use Rattle.diagnostics.specs.declared.Asked.the-variants.{All, Matching}
 use Rattle.diagnostics.specs.declared.Turn.{Turn}
@@ -72,14 +74,17 @@ module _ (cfg : Configuration) where
 
   -- what a sub-function leaves
   abbrev pub subFunctionOutcome : SubFunction → List ℕ → List ℕ → State → Outcome
-  subFunctionOutcome f request room s = replied cfg 0x19 (lentRoom room) (served (subFunctionReply cfg (some f) request (length room) s) s)
+  subFunctionOutcome f request room s =
+      replied cfg 0x19 (lentRoom room) (served (subFunctionReply cfg (some f) request (length room) s) s)
 
   -- a sub-function whose reply lists the events that are asked for
   abbrev pub listing : ℕ → ℕ → Asked → SubFunction
-  listing number size asked = subFunction number size (λ request s. positive (0x59 ∷ number ∷ 0xFF ∷ linesAsked asked s))
+  listing number size asked =
+      subFunction number size (λ request s. positive (0x59 ∷ number ∷ 0xFF ∷ linesAsked asked s))
 
   -- the tests that a sub-function's reply goes by, where these are the bytes of its positive reply
-  pub record Tests (f : SubFunction) (request : List ℕ) (room : ℕ) (s : State) (bytes : List ℕ) (wrong suppressed long : Bool) : Type 0 where
+  pub record Tests (f : SubFunction) (request : List ℕ) (room : ℕ) (s : State) (bytes : List ℕ)
+      (wrong suppressed long : Bool) : Type 0 where
     pub length-is : wrong ≡ not (eqb (length request) (f .size))
     pub suppressed-is : suppressed ≡ suppresses cfg request
     pub bytes-are : f .reply request s ≡ positive bytes

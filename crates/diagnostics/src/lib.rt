@@ -15,10 +15,14 @@ ghost use Rattle.manual.specs.Configuration.{Configuration, mostEvents, events,
 ghost use Rattle.manual.specs.State.{State, lent};
 ghost use Rattle.manual.specs.WellFormed.{wellFormed};
 ghost use Rattle.manual.specs.Answers.{lentRoom, _if_, firstThatApplies, ofLength, leaves};
-ghost use Rattle.manual.specs.Diagnostics.{negative, replyBytes, served, subFunction, line, maskOf, suppresses, numberByMask, listByMask, listAll, service19, service14, servedBy, sent, replied, requestRules, requestReply};
+ghost use Rattle.manual.specs.Diagnostics.{negative, replyBytes, served, subFunction, line, maskOf, suppresses};
+ghost use Rattle.manual.specs.Diagnostics.{numberByMask, listByMask, listAll, service19, service14, servedBy, sent};
+ghost use Rattle.manual.specs.Diagnostics.{replied, requestRules, requestReply};
 ghost use Rattle.judgement.specs.Checks.{checkNumber};
 ghost use Rattle.writing.specs.Writing.{written, append};
-ghost use Rattle.diagnostics.specs.Replies.{InStatesWith, holding, sentIs, asks, lineIfAsked, linesAsked, EventFits, BytesFit, Accepted, subFunctionOutcome, listing, TurnBy, clearRequestIs, serviceIs};
+ghost use Rattle.diagnostics.specs.Replies.{InStatesWith, holding, sentIs, asks, lineIfAsked, linesAsked};
+ghost use Rattle.diagnostics.specs.Replies.{EventFits, BytesFit, Accepted, subFunctionOutcome, listing, TurnBy};
+ghost use Rattle.diagnostics.specs.Replies.{clearRequestIs, serviceIs};
 
 // The events that a reply lists or counts: all, or those that match a mask.
 enum Asked {
@@ -39,8 +43,8 @@ enum ClearRequest {
     Negative(u8),
 }
 
-// What is left to do once the reply stands in the room: nothing, and this is its length; or its length is 1, and the events of this
-// trouble code are still to be cleared.
+// What is left to do once the reply stands in the room: nothing, and this is its length; or its length is 1, and the
+// events of this trouble code are still to be cleared.
 enum Service {
     Replied(usize),
     Clear(u32),
@@ -100,7 +104,8 @@ fn code_in(request: &[u8]) -> u32
 
 // "An event matches if status and mask share a set bit."
 fn is_asked(records: &[u8], debounce: &[i32], event: EventNumber, asked: Asked) -> bool
-    ensures { λ r. ⌜ ((cfg : Configuration) → r ≡ asks cfg asked (holding (now (records .entry)) (now (debounce .entry))) (event .0)) ⌝ }
+    ensures { λ r. ⌜ ((cfg : Configuration)
+        → r ≡ asks cfg asked (holding (now (records .entry)) (now (debounce .entry))) (event .0)) ⌝ }
 {
     let status = status::status_of(records, event);
     match asked {
@@ -120,7 +125,9 @@ fn one_more_if(test: bool, number: usize) -> usize
 // The number of events that are asked for.
 fn number_asked(cfg: &[i32], records: &[u8], debounce: &[i32], asked: Asked) -> usize
     requires { ⌜ configOk (now cfg) ≡ true ⌝ }
-    ensures { λ r. ⌜ r ≡ countBelow (events (now (cfg .entry))) (asks (now (cfg .entry)) asked (holding (now (records .entry)) (now (debounce .entry)))) ⌝ }
+    ensures { λ r. ⌜ r
+        ≡ countBelow (events (now (cfg .entry)))
+        (asks (now (cfg .entry)) asked (holding (now (records .entry)) (now (debounce .entry)))) ⌝ }
 {
     let n = config::events(cfg);
     let mut number = 0;
@@ -138,7 +145,9 @@ fn number_asked(cfg: &[i32], records: &[u8], debounce: &[i32], asked: Asked) -> 
 // "Negative reply: 7F, request's first byte, code"
 fn negative(service: u8, code: u8, room: &mut [u8]) -> usize
     requires { ⌜ 3 ≤ length (now room) ⌝ }
-    ensures { λ r. ⌜ ((cfg : Configuration) (s : State) → sentIs r (now (room .exit)) s ≡ sent cfg (replyBytes service (negative code)) (lentRoom (now (room .entry))) s) ⌝ }
+    ensures { λ r. ⌜ ((cfg : Configuration) (s : State)
+        → sentIs r (now (room .exit)) s
+        ≡ sent cfg (replyBytes service (negative code)) (lentRoom (now (room .entry))) s) ⌝ }
 {
     writing::write(room, 0, &[0x7F, service, code])
 }
@@ -154,8 +163,11 @@ fn write_line(
     room: &mut [u8],
     at: usize,
 ) -> usize
-    requires { ⌜ EventFits (now cfg) (event .0) at (line (now cfg) (holding (now records) (now debounce)) (event .0)) (now room) ⌝ }
-    ensures { λ r. ⌜ written r (now (room .exit)) ≡ append (line (now (cfg .entry)) (holding (now (records .entry)) (now (debounce .entry))) (event .0)) (written at (now (room .entry))) ⌝ }
+    requires { ⌜ EventFits (now cfg) (event .0) at (line (now cfg) (holding (now records) (now debounce)) (event .0))
+        (now room) ⌝ }
+    ensures { λ r. ⌜ written r (now (room .exit))
+        ≡ append (line (now (cfg .entry)) (holding (now (records .entry)) (now (debounce .entry))) (event .0))
+        (written at (now (room .entry))) ⌝ }
 {
     let code = config::code_of(cfg, event);
     let high = (code / 65536) as u8;
@@ -175,8 +187,12 @@ fn write_line_if_asked(
     room: &mut [u8],
     at: usize,
 ) -> usize
-    requires { ⌜ EventFits (now cfg) (event .0) at (lineIfAsked (now cfg) asked (holding (now records) (now debounce)) (event .0)) (now room) ⌝ }
-    ensures { λ r. ⌜ written r (now (room .exit)) ≡ append (lineIfAsked (now (cfg .entry)) asked (holding (now (records .entry)) (now (debounce .entry))) (event .0)) (written at (now (room .entry))) ⌝ }
+    requires { ⌜ EventFits (now cfg) (event .0) at
+        (lineIfAsked (now cfg) asked (holding (now records) (now debounce)) (event .0)) (now room) ⌝ }
+    ensures { λ r. ⌜ written r (now (room .exit))
+        ≡ append
+        (lineIfAsked (now (cfg .entry)) asked (holding (now (records .entry)) (now (debounce .entry))) (event .0))
+        (written at (now (room .entry))) ⌝ }
 {
     if is_asked(records, debounce, event, asked) {
         return write_line(cfg, records, debounce, event, room, at);
@@ -193,8 +209,11 @@ fn write_lines(
     room: &mut [u8],
     at: usize,
 ) -> usize
-    requires { ⌜ BytesFit (now cfg) at (linesAsked (now cfg) asked (holding (now records) (now debounce))) (now room) ⌝ }
-    ensures { λ r. ⌜ written r (now (room .exit)) ≡ append (linesAsked (now (cfg .entry)) asked (holding (now (records .entry)) (now (debounce .entry)))) (written at (now (room .entry))) ⌝ }
+    requires { ⌜ BytesFit (now cfg) at
+        (linesAsked (now cfg) asked (holding (now records) (now debounce))) (now room) ⌝ }
+    ensures { λ r. ⌜ written r (now (room .exit))
+        ≡ append (linesAsked (now (cfg .entry)) asked (holding (now (records .entry)) (now (debounce .entry))))
+        (written at (now (room .entry))) ⌝ }
 {
     let n = config::events(cfg);
     let mut next = at;
@@ -214,8 +233,8 @@ fn write_lines(
 
 // ---- service 19, a function for each sub-function
 
-// The order in which these tests count. "Length must be 3, 3, 2: else 13. … With the top bit set a positive reply has length 0 and the
-// room stays untouched. Otherwise one longer than the room: code 14."
+// The order in which these tests count. "Length must be 3, 3, 2: else 13. … With the top bit set a positive reply has
+// length 0 and the room stays untouched. Otherwise one longer than the room: code 14."
 fn turn_of(wrong_length: bool, suppressed: bool, too_long: bool) -> Turn
     ensures { λ r. ⌜ TurnBy «wrong_length» suppressed «too_long» r ⌝ }
 {
@@ -245,7 +264,8 @@ fn number_by_mask(
         ⌜
         InStatesWith (now (records .entry)) (now (debounce .entry)) (now (memory .entry))
         (λ s. sentIs r (now (room .exit)) s
-        ≡ subFunctionOutcome (now (cfg .entry)) (subFunction 0x01 3 (numberByMask (now (cfg .entry)))) (now (request .entry)) (now (room .entry)) s)
+        ≡ subFunctionOutcome (now (cfg .entry)) (subFunction 0x01 3 (numberByMask (now (cfg .entry))))
+        (now (request .entry)) (now (room .entry)) s)
         ⌝ }
 {
     match turn_of(request.len() != 3, suppresses(request), room.len() < 6) {
@@ -260,8 +280,8 @@ fn number_by_mask(
     }
 }
 
-// `59`, the sub-function, `FF`, "then per matching event trouble code (3 bytes high first) and status, rising", or "all events
-// likewise".
+// `59`, the sub-function, `FF`, "then per matching event trouble code (3 bytes high first) and status, rising", or "all
+// events likewise".
 fn list_asked(
     cfg: &[i32],
     records: &[u8],
@@ -278,7 +298,8 @@ fn list_asked(
         ⌜
         InStatesWith (now (records .entry)) (now (debounce .entry)) (now (memory .entry))
         (λ s. sentIs r (now (room .exit)) s
-        ≡ subFunctionOutcome (now (cfg .entry)) (listing (now (cfg .entry)) «sub_function» size asked) (now (request .entry)) (now (room .entry)) s)
+        ≡ subFunctionOutcome (now (cfg .entry)) (listing (now (cfg .entry)) «sub_function» size asked)
+        (now (request .entry)) (now (room .entry)) s)
         ⌝ }
 {
     let too_long = room.len() < 3 + LINE_WIDTH * number_asked(cfg, records, debounce, asked);
@@ -306,7 +327,8 @@ fn list_by_mask(
         ⌜
         InStatesWith (now (records .entry)) (now (debounce .entry)) (now (memory .entry))
         (λ s. sentIs r (now (room .exit)) s
-        ≡ subFunctionOutcome (now (cfg .entry)) (subFunction 0x02 3 (listByMask (now (cfg .entry)))) (now (request .entry)) (now (room .entry)) s)
+        ≡ subFunctionOutcome (now (cfg .entry)) (subFunction 0x02 3 (listByMask (now (cfg .entry))))
+        (now (request .entry)) (now (room .entry)) s)
         ⌝ }
 {
     let asked = Asked::Matching(mask_of(request));
@@ -337,7 +359,8 @@ fn list_all(
         ⌜
         InStatesWith (now (records .entry)) (now (debounce .entry)) (now (memory .entry))
         (λ s. sentIs r (now (room .exit)) s
-        ≡ subFunctionOutcome (now (cfg .entry)) (subFunction 0x0A 2 (listAll (now (cfg .entry)))) (now (request .entry)) (now (room .entry)) s)
+        ≡ subFunctionOutcome (now (cfg .entry)) (subFunction 0x0A 2 (listAll (now (cfg .entry)))) (now (request .entry))
+        (now (room .entry)) s)
         ⌝ }
 {
     list_asked(
@@ -367,7 +390,8 @@ fn reply_19(
         ⌜
         InStatesWith (now (records .entry)) (now (debounce .entry)) (now (memory .entry))
         (λ s. sentIs r (now (room .exit)) s
-        ≡ replied (now (cfg .entry)) 0x19 (lentRoom (now (room .entry))) (served (service19 (now (cfg .entry)) (now (request .entry)) (length (now (room .entry))) s) s))
+        ≡ replied (now (cfg .entry)) 0x19 (lentRoom (now (room .entry)))
+        (served (service19 (now (cfg .entry)) (now (request .entry)) (length (now (room .entry))) s) s))
         ⌝ }
 {
     if request.len() == 1 {
@@ -387,7 +411,8 @@ fn reply_19(
 // "14: length must be 4 (else 13); the three bytes are a trouble code; unknown: code 31; else clear and `54`."
 fn clear_request(cfg: &[i32], request: &[u8]) -> ClearRequest
     requires { ⌜ configOk (now cfg) ≡ true ⌝ }
-    ensures { λ r. ⌜ ((s : State) → clearRequestIs (now (cfg .entry)) r s ≡ service14 (now (cfg .entry)) (now (request .entry)) s) ⌝ }
+    ensures { λ r. ⌜ ((s : State)
+        → clearRequestIs (now (cfg .entry)) r s ≡ service14 (now (cfg .entry)) (now (request .entry)) s) ⌝ }
 {
     if request.len() != 4 {
         return ClearRequest::Negative(0x13);
@@ -406,7 +431,8 @@ fn reply_14(cfg: &[i32], request: &[u8], room: &mut [u8]) -> Service
         ⌜
         ((s : State)
         → serviceIs (now (cfg .entry)) r (now (room .exit)) s
-        ≡ replied (now (cfg .entry)) 0x14 (lentRoom (now (room .entry))) (service14 (now (cfg .entry)) (now (request .entry)) s))
+        ≡ replied (now (cfg .entry)) 0x14 (lentRoom (now (room .entry)))
+        (service14 (now (cfg .entry)) (now (request .entry)) s))
         ⌝ }
 {
     match clear_request(cfg, request) {
@@ -456,12 +482,15 @@ fn accept(
     request: &[u8],
     room: &mut [u8],
 ) -> RequestReturned
-    requires { ⌜ Accepted (now cfg) (now room) × (wellFormed (now cfg) (lent (now records) (now debounce) (now memory) board) ≡ true) ⌝ }
+    requires { ⌜ Accepted (now cfg) (now room) ×
+        (wellFormed (now cfg) (lent (now records) (now debounce) (now memory) board) ≡ true) ⌝ }
     ensures { λ r.
         ⌜
-        leaves (ofLength (r .answer)) [] (lentRoom (now (room .exit))) (lent (now (records .exit)) (now (debounce .exit)) (now (memory .exit)) (r .board))
+        leaves (ofLength (r .answer)) [] (lentRoom (now (room .exit)))
+        (lent (now (records .exit)) (now (debounce .exit)) (now (memory .exit)) (r .board))
         ≡ replied (now (cfg .entry)) (getD (now (request .entry)) 0 0) (lentRoom (now (room .entry)))
-        (servedBy (now (cfg .entry)) (now (request .entry)) (length (now (room .entry))) (lent (now (records .entry)) (now (debounce .entry)) (now (memory .entry)) board))
+        (servedBy (now (cfg .entry)) (now (request .entry)) (length (now (room .entry)))
+        (lent (now (records .entry)) (now (debounce .entry)) (now (memory .entry)) board))
         ⌝ }
 {
     match serve(cfg, records, debounce, memory, request, room) {
@@ -481,7 +510,9 @@ fn accept(
 
 // The call's own refusals: "diagnostic request 7, 1".
 fn judge_sizes(request: &[u8], room: &[u8]) -> Check
-    ensures { λ r. ⌜ checkNumber r ≡ firstThatApplies ((7 if ltb (length (now (room .entry))) 3) ∷ (1 if eqb (length (now (request .entry))) 0) ∷ []) ⌝ }
+    ensures { λ r. ⌜ checkNumber r
+        ≡ firstThatApplies
+        ((7 if ltb (length (now (room .entry))) 3) ∷ (1 if eqb (length (now (request .entry))) 0) ∷ []) ⌝ }
 {
     if room.len() < 3 {
         return Check::Stop(Refusal::RoomTooSmall);
@@ -502,7 +533,10 @@ fn judge(
     request: &[u8],
     room: &[u8],
 ) -> Check
-    ensures { λ r. ⌜ checkNumber r ≡ firstThatApplies (requestRules (now (cfg .entry)) (now (request .entry)) (lentRoom (now (room .entry))) (lent (now (records .entry)) (now (debounce .entry)) (now (memory .entry)) board)) ⌝ }
+    ensures { λ r. ⌜ checkNumber r
+        ≡ firstThatApplies
+        (requestRules (now (cfg .entry)) (now (request .entry)) (lentRoom (now (room .entry)))
+        (lent (now (records .entry)) (now (debounce .entry)) (now (memory .entry)) board)) ⌝ }
 {
     match judgement::begin(cfg, records, debounce, memory, board, true) {
         Check::Go => judge_sizes(request, room),
@@ -520,7 +554,10 @@ pub fn request(
     request: &[u8],
     room: &mut [u8],
 ) -> RequestReturned
-    ensures { λ r. ⌜ leaves (ofLength (r .answer)) [] (lentRoom (now (room .exit))) (lent (now (records .exit)) (now (debounce .exit)) (now (memory .exit)) (r .board)) ≡ requestReply (now (cfg .entry)) (now (request .entry)) (lentRoom (now (room .entry))) (lent (now (records .entry)) (now (debounce .entry)) (now (memory .entry)) board) ⌝ }
+    ensures { λ r. ⌜ leaves (ofLength (r .answer)) [] (lentRoom (now (room .exit)))
+        (lent (now (records .exit)) (now (debounce .exit)) (now (memory .exit)) (r .board))
+        ≡ requestReply (now (cfg .entry)) (now (request .entry)) (lentRoom (now (room .entry)))
+        (lent (now (records .entry)) (now (debounce .entry)) (now (memory .entry)) board) ⌝ }
 {
     match judge(cfg, records, debounce, memory, board, request, room) {
         Check::Go => accept(cfg, records, debounce, memory, board, request, room),

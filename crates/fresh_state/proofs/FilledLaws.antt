@@ -36,9 +36,12 @@ module _ {A : Type 0} (x : A) where
     unfolding filledTo filledFrom
     fill-none = mix-from (filledFrom x from m) m from (take-at (take from m) _ from front)
 
-    pub fill-more : (i : ℕ) → from ≤ i → i < length m → {l : List A} → l ≡ filledTo from m i → set l i x ≡ filledTo from m (i + 1)
+    pub fill-more : (i : ℕ) → from ≤ i → i < length m → {l : List A} → l ≡ filledTo from m i
+        → set l i x ≡ filledTo from m (i + 1)
     unfolding filledTo
-    fill-more i h k p = ap (λ (l : List A). set l i x) p ∙ mix-more x (filledFrom x from m) m i x filled-length k (sym (filled-at i h k))
+    fill-more i h k p =
+        ap (λ (l : List A). set l i x) p
+        ∙ mix-more x (filledFrom x from m) m i x filled-length k (sym (filled-at i h k))
 
     pub fill-all : {i : ℕ} → i ≡ length m → {l : List A} → l ≡ filledTo from m i → l ≡ filledFrom x from m
     unfolding filledTo

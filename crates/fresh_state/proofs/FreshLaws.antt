@@ -26,7 +26,8 @@ module _ (g m : List ℕ) (as-long : length g ≡ length m) where
   one-byte : (k k′ v : ℕ) → k + 1 ≡ k′ → k < length m → v ≡ getD g k 0 → set (mix k g m) k v ≡ mix k′ g m
   one-byte k k′ v e h q = mix-more 0 g m k v as-long h q ∙ ap (λ (j : ℕ). mix j g m) e
 
-  pub record-more : (e : ℕ) (r : Stored) → recordWidth * e + recordWidth ≤ length m → storedAt e g ≡ r → withStored e r (mix (recordWidth * e) g m) ≡ mix (recordWidth * (e + 1)) g m
+  pub record-more : (e : ℕ) (r : Stored) → recordWidth * e + recordWidth ≤ length m → storedAt e g ≡ r
+      → withStored e r (mix (recordWidth * e) g m) ≡ mix (recordWidth * (e + 1)) g m
   unfolding withStored storedAt
   record-more e r h q =
       let at : ℕ = recordWidth * e in
@@ -34,7 +35,8 @@ module _ (g m : List ℕ) (as-long : length g ≡ length m) where
         one-byte at (at + 1) (r .status) refl (omega arith) (ap (λ (x : Stored). x .status) (sym q)),
         one-byte (at + 1) (at + 2) (r .K) (omega arith) (omega arith) (ap (λ (x : Stored). x .K) (sym q)),
         one-byte (at + 2) (at + 3) (r .h) (omega arith) (omega arith) (ap (λ (x : Stored). x .h) (sym q)),
-        one-byte (at + 3) (recordWidth * (e + 1)) (r .g) (omega arith) (omega arith) (ap (λ (x : Stored). x .g) (sym q)),
+        one-byte (at + 3) (recordWidth * (e + 1)) (r .g) (omega arith) (omega arith)
+            (ap (λ (x : Stored). x .g) (sym q)),
       )
 
 module _ (cfg : Configuration) (m : List ℕ) where
@@ -51,11 +53,13 @@ module _ (cfg : Configuration) (m : List ℕ) where
     unfolding freshState
     as-long = fresh-follows cfg .sized .records ∙ sym fits
 
-    pub fresh-more : (i : ℕ) → i < events cfg → {l l′ : List ℕ} → l ≡ freshTo i → l′ ≡ withStored i (stored freshRecord) l → l′ ≡ freshTo (i + 1)
+    pub fresh-more : (i : ℕ) → i < events cfg → {l l′ : List ℕ} → l ≡ freshTo i
+        → l′ ≡ withStored i (stored freshRecord) l → l′ ≡ freshTo (i + 1)
     unfolding freshTo freshState recordAfter
     fresh-more i h p q =
         q ∙ ap (withStored i (stored freshRecord)) p
-        ∙ record-more (freshRecords (events cfg)) m as-long i (stored freshRecord) (omega arith) (fresh-follows cfg .records i h)
+        ∙ record-more (freshRecords (events cfg)) m as-long i (stored freshRecord) (omega arith)
+        (fresh-follows cfg .records i h)
 
     pub fresh-all : {i : ℕ} → i ≡ events cfg → {l : List ℕ} → l ≡ freshTo i → l ≡ freshRecords (events cfg)
     unfolding freshTo
@@ -63,7 +67,8 @@ module _ (cfg : Configuration) (m : List ℕ) where
 
 -- ---- the state
 
-module _ (cfg : Configuration) (records : List ℕ) (debounce : List ℤ) (memory : List ℕ) (fits : (b : Board) → lengthsFit cfg (lent records debounce memory b) ≡ true) where
+module _ (cfg : Configuration) (records : List ℕ) (debounce : List ℤ) (memory : List ℕ)
+    (fits : (b : Board) → lengthsFit cfg (lent records debounce memory b) ≡ true) where
   abbrev stopped : Board
   stopped = record { running = allStopped; overflow = false }
 
@@ -73,7 +78,8 @@ module _ (cfg : Configuration) (records : List ℕ) (debounce : List ℤ) (memor
   pub records-fit : length records ≡ recordWidth * events cfg
   records-fit = lengths .records
 
-  pub state-fresh : {records′ : List ℕ} {debounce′ : List ℤ} {memory′ : List ℕ} {board : Board} → records′ ≡ freshRecords (events cfg) → debounce′ ≡ replicate (length debounce) (pos 0)
+  pub state-fresh : {records′ : List ℕ} {debounce′ : List ℤ} {memory′ : List ℕ} {board : Board}
+      → records′ ≡ freshRecords (events cfg) → debounce′ ≡ replicate (length debounce) (pos 0)
       → memory′ ≡ filledFrom 0 0 memory → board ≡ stopped → lent records′ debounce′ memory′ board ≡ freshState cfg
   unfolding freshState
   state-fresh r d m b =

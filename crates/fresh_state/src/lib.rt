@@ -75,7 +75,8 @@ pub fn stopped_board(overflow: bool) -> Board
 // The fresh state, made of any blocks whose lengths fit.
 fn make_fresh(cfg: &[i32], records: &mut [u8], debounce: &mut [i32], memory: &mut [u8]) -> Board
     requires { ⌜ ((b : Board) → lengthsFit (now cfg) (lent (now records) (now debounce) (now memory) b) ≡ true) ⌝ }
-    ensures { λ r. ⌜ lent (now (records .exit)) (now (debounce .exit)) (now (memory .exit)) r ≡ freshState (now (cfg .entry)) ⌝ }
+    ensures { λ r. ⌜ lent (now (records .exit)) (now (debounce .exit)) (now (memory .exit)) r
+        ≡ freshState (now (cfg .entry)) ⌝ }
 {
     fresh_records(cfg, records);
     reset_numbers(debounce);
@@ -91,7 +92,10 @@ pub fn fresh(
     memory: &mut [u8],
     board: Board,
 ) -> Returned
-    ensures { λ r. ⌜ leaves (ofAnswer (r .answer)) [] alone (lent (now (records .exit)) (now (debounce .exit)) (now (memory .exit)) (r .board)) ≡ fresh (now (cfg .entry)) alone (lent (now (records .entry)) (now (debounce .entry)) (now (memory .entry)) board) ⌝ }
+    ensures { λ r. ⌜ leaves (ofAnswer (r .answer)) [] alone
+        (lent (now (records .exit)) (now (debounce .exit)) (now (memory .exit)) (r .board))
+        ≡ fresh (now (cfg .entry)) alone
+        (lent (now (records .entry)) (now (debounce .entry)) (now (memory .entry)) board) ⌝ }
 {
     match judgement::begin_with_lengths(cfg, records, debounce, memory, true) {
         Check::Go => {

@@ -1,5 +1,5 @@
--- The statement of each of the eleven calls allows one outcome only: one result, and of every block that the call may write one content,
--- to the last byte.
+-- The statement of each of the eleven calls allows one outcome only: one result, and of every block that the call may
+-- write one content, to the last byte.
 use mathlib.Core.Path.{_≡_, refl}
 use mathlib.Core.List.{List}
 use Prim.Native.Nat.{ℕ}
@@ -19,10 +19,12 @@ use Rattle.grelpicado.specs.declared.PanelStatus.{PanelStatus}
 use Rattle.grelpicado.specs.declared.PanelFrame.{PanelFrame}
 use Rattle.grelpicado.specs.declared.PanelLength.{PanelLength}
 use Rattle.grelpicado.specs.declared.PanelRequest.{PanelRequest}
-use Rattle.grelpicado.specs.Panel.{boardOf, Crossing, crosses, crossesWithoutBoard, crossesWithFrame, withAnswer, withReport, withStatus, withFrame, withLength, withRequest}
+use Rattle.grelpicado.specs.Panel.{boardOf, Crossing, crosses, crossesWithoutBoard, crossesWithFrame, withAnswer}
+use Rattle.grelpicado.specs.Panel.{withReport, withStatus, withFrame, withLength, withRequest}
 
 -- the blocks that cross
-same-blocks : {o y y′ : Crossing} → y ≡ o → y′ ≡ o → (y .records ≡ y′ .records) × ((y .debounce ≡ y′ .debounce) × (y .memory ≡ y′ .memory))
+same-blocks : {o y y′ : Crossing} → y ≡ o → y′ ≡ o
+    → (y .records ≡ y′ .records) × ((y .debounce ≡ y′ .debounce) × (y .memory ≡ y′ .memory))
 same-blocks p q = (
   one-outcome (λ (y : Crossing). y .records) refl refl p q,
   (one-outcome (λ (y : Crossing). y .debounce) refl refl p q, one-outcome (λ (y : Crossing). y .memory) refl refl p q),
@@ -97,9 +99,11 @@ module _ (cfg : Configuration) (records₀ : List ℕ) (debounce₀ : List ℤ) 
     -- the room too
     pub one-request : (request before room room′ : List ℕ) (r r′ : PanelRequest)
         → withRequest records debounce memory room r ≡ crosses (requestReply cfg request (lentRoom before) given) board
-        → withRequest records′ debounce′ memory′ room′ r′ ≡ crosses (requestReply cfg request (lentRoom before) given) board
+        → withRequest records′ debounce′ memory′ room′ r′
+        ≡ crosses (requestReply cfg request (lentRoom before) given) board
         → (r ≡ r′) × (((records ≡ records′) × ((debounce ≡ debounce′) × (memory ≡ memory′))) × (room ≡ room′))
-    one-request request before room room′ r r′ p q = (one-outcome requestIn refl refl p q, (same-blocks p q, same-room p q))
+    one-request request before room room′ r r′ p q =
+        (one-outcome requestIn refl refl p q, (same-blocks p q, same-room p q))
 
   -- ---- start may write the records alone
 
@@ -125,7 +129,9 @@ module _ (cfg : Configuration) (records₀ : List ℕ) (debounce₀ : List ℤ) 
 
   -- save writes the room
   pub one-save : (before room room′ : List ℕ) (r r′ : PanelLength)
-      → withLength records₀ debounce₀ memory₀ room board r ≡ crossesWithoutBoard (save cfg (lentRoom before) given) board
-      → withLength records₀ debounce₀ memory₀ room′ board r′ ≡ crossesWithoutBoard (save cfg (lentRoom before) given) board
+      → withLength records₀ debounce₀ memory₀ room board r
+      ≡ crossesWithoutBoard (save cfg (lentRoom before) given) board
+      → withLength records₀ debounce₀ memory₀ room′ board r′
+      ≡ crossesWithoutBoard (save cfg (lentRoom before) given) board
       → (r ≡ r′) × (room ≡ room′)
   one-save before room room′ r r′ p q = (one-outcome lengthIn refl refl p q, same-room p q)

@@ -19,7 +19,8 @@ use Rattle.manual.specs.State.{State}
 use Rattle.manual.specs.Answers.{lentRoom, Answered, ofAnswer, ofReport, ofStatus, ofFrame, ofLength, leaves}
 use Rattle.queries.specs.Reading.{startIn, lengthIn, says}
 use Rattle.grelpicado.specs.declared.PanelBoard.{PanelBoard}
-use Rattle.grelpicado.specs.Panel.{boardOf, bytesOf, verdictNumber, Crossing, crosses, crossesWithoutBoard, crossesWithFrame, made}
+use Rattle.grelpicado.specs.Panel.{boardOf, bytesOf, verdictNumber, Crossing, crosses}
+use Rattle.grelpicado.specs.Panel.{crossesWithoutBoard, crossesWithFrame, made}
 
 -- ---- what an answer does not have is 0
 
@@ -51,7 +52,8 @@ length-verdict (LengthAnswer.Refused r) = refl
 
 module _ (x : Answered) (room : List ℕ) (s : State) (found : PanelBoard) {n v k : ℕ} where
   -- with the board that is handed back
-  pub crossed : {back : PanelBoard} → n ≡ x .number → v ≡ verdictNumber (x .verdict) → k ≡ x .value → back ≡ cond (eqb n 0) (bytesOf (s .board)) found
+  pub crossed : {back : PanelBoard} → n ≡ x .number → v ≡ verdictNumber (x .verdict) → k ≡ x .value
+      → back ≡ cond (eqb n 0) (bytesOf (s .board)) found
       → made n v k 0 (s .records) (s .debounce) (s .memory) room back ≡ crosses (leaves x [] (lentRoom room) s) found
   unfolding crosses
   crossed number verdict value back =
@@ -60,17 +62,22 @@ module _ (x : Answered) (room : List ℕ) (s : State) (found : PanelBoard) {n v 
 
   -- with none
   pub crossed-without-board : n ≡ x .number → v ≡ verdictNumber (x .verdict) → k ≡ x .value
-      → made n v k 0 (s .records) (s .debounce) (s .memory) room found ≡ crossesWithoutBoard (leaves x [] (lentRoom room) s) found
+      → made n v k 0 (s .records) (s .debounce) (s .memory) room found
+      ≡ crossesWithoutBoard (leaves x [] (lentRoom room) s) found
   unfolding crossesWithoutBoard
-  crossed-without-board number verdict value = λ i. made (number i) (verdict i) (value i) 0 (s .records) (s .debounce) (s .memory) room found
+  crossed-without-board number verdict value =
+      λ i. made (number i) (verdict i) (value i) 0 (s .records) (s .debounce) (s .memory) room found
 
-pub crossed-with-frame : (a : FrameAnswer) (s : State) (found : PanelBoard) {n start size : ℕ} → n ≡ ofFrame a .number → start ≡ startIn a → size ≡ lengthIn a
+pub crossed-with-frame : (a : FrameAnswer) (s : State) (found : PanelBoard) {n start size : ℕ} → n ≡ ofFrame a .number
+    → start ≡ startIn a → size ≡ lengthIn a
     → made n 0 size start (s .records) (s .debounce) (s .memory) [] found ≡ crossesWithFrame (says a s) found
 unfolding crossesWithFrame
-crossed-with-frame a s found number start size = λ i. made (number i) (frame-verdict a i) (size i) (start i) (s .records) (s .debounce) (s .memory) [] found
+crossed-with-frame a s found number start size =
+    λ i. made (number i) (frame-verdict a i) (size i) (start i) (s .records) (s .debounce) (s .memory) [] found
 
 -- ---- a call made on the board that the bytes stand for
 
-pub through : {A : Type 0} (over : A → PanelBoard → Crossing) (call : Board → A) (found : PanelBoard) {x : Crossing} {o : A} {b : Board}
+pub through : {A : Type 0} (over : A → PanelBoard → Crossing) (call : Board → A) (found : PanelBoard) {x : Crossing}
+    {o : A} {b : Board}
     → x ≡ over o found → o ≡ call b → b ≡ boardOf found → x ≡ over (call (boardOf found)) found
 through over call found crossed made read = crossed ∙ ap (λ o. over o found) (made ∙ ap call read)

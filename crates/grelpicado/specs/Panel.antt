@@ -1,4 +1,5 @@
--- The calls for a caller in C: what crosses as plain numbers and bytes. Each call's outcome is the manual's. Assumes nothing.
+-- The calls for a caller in C: what crosses as plain numbers and bytes. Each call's outcome is the manual's. Assumes
+-- nothing.
 use mathlib.Core.Bool.{Bool, not, cond}
 use mathlib.Core.List.{List, [], _∷_}
 use Prim.Native.Nat.{ℕ}
@@ -32,7 +33,9 @@ flagByte flag = cond flag 1 0
 -- the board that these bytes stand for
 abbrev pub boardOf : PanelBoard → Board
 boardOf b = record {
-  running = yes (getD (b .running) 0 0) ∷ yes (getD (b .running) 1 0) ∷ yes (getD (b .running) 2 0) ∷ yes (getD (b .running) 3 0) ∷ [];
+  running =
+      yes (getD (b .running) 0 0) ∷ yes (getD (b .running) 1 0) ∷ yes (getD (b .running) 2 0)
+      ∷ yes (getD (b .running) 3 0) ∷ [];
   overflow = yes (b .overflow);
 }
 
@@ -51,8 +54,8 @@ verdictNumber None = 0
 verdictNumber Passed = 1
 verdictNumber Failed = 2
 
--- All that crosses, back to the caller: the answer's number; a report's verdict; the status or length; where the frame part starts;
--- every lent block as the call leaves it; the output room; the board.
+-- All that crosses, back to the caller: the answer's number; a report's verdict; the status or length; where the frame
+-- part starts; every lent block as the call leaves it; the output room; the board.
 pub record Crossing : Type 0 where
   pub number : ℕ
   pub verdict : ℕ
@@ -64,7 +67,8 @@ pub record Crossing : Type 0 where
   pub room : List ℕ
   pub board : PanelBoard
 
--- "A refusal changes nothing lent and hands back the board it was given": its very bytes; a call that is done, the new board
+-- "A refusal changes nothing lent and hands back the board it was given": its very bytes; a call that is done, the new
+-- board
 abbrev pub handedBack : Outcome → PanelBoard → PanelBoard
 handedBack o found = cond (eqb (o .answer) 0) (bytesOf (o .state .board)) found
 
@@ -85,7 +89,8 @@ made number verdict value start records debounce memory room board = record {
 -- a call's outcome, with this value, this start, and this board for the caller
 abbrev pub crossing : Outcome → ℕ → ℕ → PanelBoard → Crossing
 crossing o value start board =
-    made (o .answer) (verdictNumber (o .verdict)) value start (o .state .records) (o .state .debounce) (o .state .memory) (o .beside .room) board
+    made (o .answer) (verdictNumber (o .verdict)) value start (o .state .records) (o .state .debounce)
+    (o .state .memory) (o .beside .room) board
 
 -- the outcome of a call that hands back a board, where these bytes were given
 unfoldable pub crosses : Outcome → PanelBoard → Crossing

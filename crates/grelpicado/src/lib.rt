@@ -1,5 +1,5 @@
-// The eleven calls for a caller in C, as grelpicado.h declares them. Each reads the board's bytes, makes the call of document 01, and
-// hands back its numbers and the board.
+// The eleven calls for a caller in C, as grelpicado.h declares them. Each reads the board's bytes, makes the call of
+// document 01, and hands back its numbers and the board.
 use diagnostics::RequestReturned;
 use manual::Board;
 use manual::EventNumber;
@@ -21,7 +21,9 @@ ghost use Rattle.manual.specs.Calls.{fresh, report, tick, startCycle, stopCycle
 ghost use Rattle.manual.specs.Image.{save, restore};
 ghost use Rattle.manual.specs.Diagnostics.{requestReply};
 ghost use Rattle.queries.specs.Reading.{startIn, lengthIn, says, frameRead};
-ghost use Rattle.grelpicado.specs.Panel.{yes, flagByte, boardOf, bytesOf, verdictNumber, crosses, crossesWithoutBoard, crossesWithFrame, withAnswer, withReport, withStatus, withFrame, withLength, withRequest};
+ghost use Rattle.grelpicado.specs.Panel.{yes, flagByte, boardOf, bytesOf, verdictNumber, crosses};
+ghost use Rattle.grelpicado.specs.Panel.{crossesWithoutBoard, crossesWithFrame, withAnswer, withReport};
+ghost use Rattle.grelpicado.specs.Panel.{withStatus, withFrame, withLength, withRequest};
 
 // ---- what crosses by value
 
@@ -172,7 +174,10 @@ fn frame_length(answer: FrameAnswer) -> usize
 
 // Fresh, tick, start, stop, clear and restore.
 pub(crate) fn answer_of(returned: Returned, found: PanelBoard) -> PanelAnswer
-    ensures { λ r. ⌜ ((records : List ℕ) (debounce : List ℤ) (memory : List ℕ) → withAnswer records debounce memory r ≡ crosses (leaves (ofAnswer (returned .answer)) [] alone (lent records debounce memory (returned .board))) found) ⌝ }
+    ensures { λ r. ⌜ ((records : List ℕ) (debounce : List ℤ) (memory : List ℕ)
+        → withAnswer records debounce memory r
+        ≡ crosses (leaves (ofAnswer (returned .answer)) [] alone (lent records debounce memory (returned .board)))
+        found) ⌝ }
 {
     let answer = returned.answer;
     let after = returned.board;
@@ -185,7 +190,10 @@ pub(crate) fn answer_of(returned: Returned, found: PanelBoard) -> PanelAnswer
 
 // A report.
 pub(crate) fn report_of(returned: ReportReturned, found: PanelBoard) -> PanelReport
-    ensures { λ r. ⌜ ((records : List ℕ) (debounce : List ℤ) (memory : List ℕ) → withReport records debounce memory r ≡ crosses (leaves (ofReport (returned .answer)) [] alone (lent records debounce memory (returned .board))) found) ⌝ }
+    ensures { λ r. ⌜ ((records : List ℕ) (debounce : List ℤ) (memory : List ℕ)
+        → withReport records debounce memory r
+        ≡ crosses (leaves (ofReport (returned .answer)) [] alone (lent records debounce memory (returned .board)))
+        found) ⌝ }
 {
     let answer = returned.answer;
     let after = returned.board;
@@ -199,7 +207,11 @@ pub(crate) fn report_of(returned: ReportReturned, found: PanelBoard) -> PanelRep
 
 // A diagnostic request.
 pub(crate) fn request_of(returned: RequestReturned, found: PanelBoard) -> PanelRequest
-    ensures { λ r. ⌜ ((records : List ℕ) (debounce : List ℤ) (memory room : List ℕ) → withRequest records debounce memory room r ≡ crosses (leaves (ofLength (returned .answer)) [] (lentRoom room) (lent records debounce memory (returned .board))) found) ⌝ }
+    ensures { λ r. ⌜ ((records : List ℕ) (debounce : List ℤ) (memory room : List ℕ)
+        → withRequest records debounce memory room r
+        ≡ crosses
+        (leaves (ofLength (returned .answer)) [] (lentRoom room) (lent records debounce memory (returned .board)))
+        found) ⌝ }
 {
     let answer = returned.answer;
     let after = returned.board;
@@ -213,7 +225,9 @@ pub(crate) fn request_of(returned: RequestReturned, found: PanelBoard) -> PanelR
 
 // Read status hands back no board.
 pub(crate) fn status_of(answer: StatusAnswer) -> PanelStatus
-    ensures { λ r. ⌜ ((s : State) (found : PanelBoard) → withStatus (s .records) (s .debounce) (s .memory) found r ≡ crossesWithoutBoard (leaves (ofStatus answer) [] alone s) found) ⌝ }
+    ensures { λ r. ⌜ ((s : State) (found : PanelBoard)
+        → withStatus (s .records) (s .debounce) (s .memory) found r
+        ≡ crossesWithoutBoard (leaves (ofStatus answer) [] alone s) found) ⌝ }
 {
     PanelStatus {
         number: answers::status_number(answer),
@@ -223,7 +237,8 @@ pub(crate) fn status_of(answer: StatusAnswer) -> PanelStatus
 
 // Read frame hands back no board.
 pub(crate) fn frame_of(answer: FrameAnswer) -> PanelFrame
-    ensures { λ r. ⌜ ((s : State) (found : PanelBoard) → withFrame (s .records) (s .debounce) (s .memory) found r ≡ crossesWithFrame (says answer s) found) ⌝ }
+    ensures { λ r. ⌜ ((s : State) (found : PanelBoard)
+        → withFrame (s .records) (s .debounce) (s .memory) found r ≡ crossesWithFrame (says answer s) found) ⌝ }
 {
     PanelFrame {
         number: answers::frame_number(answer),
@@ -234,7 +249,9 @@ pub(crate) fn frame_of(answer: FrameAnswer) -> PanelFrame
 
 // Save hands back no board.
 pub(crate) fn length_of(answer: LengthAnswer) -> PanelLength
-    ensures { λ r. ⌜ ((s : State) (room : List ℕ) (found : PanelBoard) → withLength (s .records) (s .debounce) (s .memory) room found r ≡ crossesWithoutBoard (leaves (ofLength answer) [] (lentRoom room) s) found) ⌝ }
+    ensures { λ r. ⌜ ((s : State) (room : List ℕ) (found : PanelBoard)
+        → withLength (s .records) (s .debounce) (s .memory) room found r
+        ≡ crossesWithoutBoard (leaves (ofLength answer) [] (lentRoom room) s) found) ⌝ }
 {
     PanelLength {
         number: answers::length_number(answer),
@@ -254,7 +271,10 @@ pub extern "C" fn grelpicado_fresh(
     board: PanelBoard,
 ) -> PanelAnswer
     ensures { λ r. ⌜ withAnswer (now (records .exit)) (now (debounce .exit)) (now (memory .exit)) r
-        ≡ crosses (fresh (now (cfg .entry)) alone (lent (now (records .entry)) (now (debounce .entry)) (now (memory .entry)) (boardOf board))) board ⌝ }
+        ≡ crosses
+        (fresh (now (cfg .entry)) alone
+        (lent (now (records .entry)) (now (debounce .entry)) (now (memory .entry)) (boardOf board)))
+        board ⌝ }
 {
     let given = board_of(board);
     let returned = fresh_state::fresh(cfg, records, debounce, memory, given);
@@ -274,7 +294,10 @@ pub extern "C" fn grelpicado_report(
     frame: &[u8],
 ) -> PanelReport
     ensures { λ r. ⌜ withReport (now (records .exit)) (now (debounce .exit)) (now (memory .exit)) r
-        ≡ crosses (report (now (cfg .entry)) event code (now (frame .entry)) alone (lent (now (records .entry)) (now (debounce .entry)) (now (memory .entry)) (boardOf board))) board ⌝ }
+        ≡ crosses
+        (report (now (cfg .entry)) event code (now (frame .entry)) alone
+        (lent (now (records .entry)) (now (debounce .entry)) (now (memory .entry)) (boardOf board)))
+        board ⌝ }
 {
     let given = board_of(board);
     let returned = reporting::report(
@@ -302,7 +325,10 @@ pub extern "C" fn grelpicado_tick(
     frame: &[u8],
 ) -> PanelAnswer
     ensures { λ r. ⌜ withAnswer (now (records .exit)) (now (debounce .exit)) (now (memory .exit)) r
-        ≡ crosses (tick (now (cfg .entry)) ms (now (frame .entry)) alone (lent (now (records .entry)) (now (debounce .entry)) (now (memory .entry)) (boardOf board))) board ⌝ }
+        ≡ crosses
+        (tick (now (cfg .entry)) ms (now (frame .entry)) alone
+        (lent (now (records .entry)) (now (debounce .entry)) (now (memory .entry)) (boardOf board)))
+        board ⌝ }
 {
     let given = board_of(board);
     let returned = reporting::tick(cfg, records, debounce, memory, given, ms, frame);
@@ -320,7 +346,10 @@ pub extern "C" fn grelpicado_start(
     cycle: u32,
 ) -> PanelAnswer
     ensures { λ r. ⌜ withAnswer (now (records .exit)) (now (debounce .entry)) (now (memory .entry)) r
-        ≡ crosses (startCycle (now (cfg .entry)) cycle alone (lent (now (records .entry)) (now (debounce .entry)) (now (memory .entry)) (boardOf board))) board ⌝ }
+        ≡ crosses
+        (startCycle (now (cfg .entry)) cycle alone
+        (lent (now (records .entry)) (now (debounce .entry)) (now (memory .entry)) (boardOf board)))
+        board ⌝ }
 {
     let given = board_of(board);
     let returned = cycles::start(cfg, records, debounce, memory, given, cycle);
@@ -338,7 +367,10 @@ pub extern "C" fn grelpicado_stop(
     cycle: u32,
 ) -> PanelAnswer
     ensures { λ r. ⌜ withAnswer (now (records .exit)) (now (debounce .exit)) (now (memory .exit)) r
-        ≡ crosses (stopCycle (now (cfg .entry)) cycle alone (lent (now (records .entry)) (now (debounce .entry)) (now (memory .entry)) (boardOf board))) board ⌝ }
+        ≡ crosses
+        (stopCycle (now (cfg .entry)) cycle alone
+        (lent (now (records .entry)) (now (debounce .entry)) (now (memory .entry)) (boardOf board)))
+        board ⌝ }
 {
     let given = board_of(board);
     let returned = cycles::stop(cfg, records, debounce, memory, given, cycle);
@@ -356,7 +388,10 @@ pub extern "C" fn grelpicado_clear(
     code: u32,
 ) -> PanelAnswer
     ensures { λ r. ⌜ withAnswer (now (records .exit)) (now (debounce .exit)) (now (memory .exit)) r
-        ≡ crosses (clearCode (now (cfg .entry)) code alone (lent (now (records .entry)) (now (debounce .entry)) (now (memory .entry)) (boardOf board))) board ⌝ }
+        ≡ crosses
+        (clearCode (now (cfg .entry)) code alone
+        (lent (now (records .entry)) (now (debounce .entry)) (now (memory .entry)) (boardOf board)))
+        board ⌝ }
 {
     let given = board_of(board);
     let returned = clearing::clear(cfg, records, debounce, memory, given, code);
@@ -374,7 +409,10 @@ pub extern "C" fn grelpicado_read_status(
     event: usize,
 ) -> PanelStatus
     ensures { λ r. ⌜ withStatus (now (records .entry)) (now (debounce .entry)) (now (memory .entry)) board r
-        ≡ crossesWithoutBoard (readStatus (now (cfg .entry)) event alone (lent (now (records .entry)) (now (debounce .entry)) (now (memory .entry)) (boardOf board))) board ⌝ }
+        ≡ crossesWithoutBoard
+        (readStatus (now (cfg .entry)) event alone
+        (lent (now (records .entry)) (now (debounce .entry)) (now (memory .entry)) (boardOf board)))
+        board ⌝ }
 {
     let given = board_of(board);
     let answer = queries::read_status(cfg, records, debounce, memory, given, EventNumber(event));
@@ -392,7 +430,10 @@ pub extern "C" fn grelpicado_read_frame(
     event: usize,
 ) -> PanelFrame
     ensures { λ r. ⌜ withFrame (now (records .entry)) (now (debounce .entry)) (now (memory .entry)) board r
-        ≡ crossesWithFrame (frameRead (now (cfg .entry)) event (lent (now (records .entry)) (now (debounce .entry)) (now (memory .entry)) (boardOf board))) board ⌝ }
+        ≡ crossesWithFrame
+        (frameRead (now (cfg .entry)) event
+        (lent (now (records .entry)) (now (debounce .entry)) (now (memory .entry)) (boardOf board)))
+        board ⌝ }
 {
     let given = board_of(board);
     let answer = queries::read_frame(cfg, records, debounce, memory, given, EventNumber(event));
@@ -409,8 +450,12 @@ pub extern "C" fn grelpicado_save(
     board: PanelBoard,
     room: &mut [u8],
 ) -> PanelLength
-    ensures { λ r. ⌜ withLength (now (records .entry)) (now (debounce .entry)) (now (memory .entry)) (now (room .exit)) board r
-        ≡ crossesWithoutBoard (save (now (cfg .entry)) (lentRoom (now (room .entry))) (lent (now (records .entry)) (now (debounce .entry)) (now (memory .entry)) (boardOf board))) board ⌝ }
+    ensures { λ r. ⌜
+        withLength (now (records .entry)) (now (debounce .entry)) (now (memory .entry)) (now (room .exit)) board r
+        ≡ crossesWithoutBoard
+        (save (now (cfg .entry)) (lentRoom (now (room .entry)))
+        (lent (now (records .entry)) (now (debounce .entry)) (now (memory .entry)) (boardOf board)))
+        board ⌝ }
 {
     let given = board_of(board);
     let answer = image::save(cfg, records, debounce, memory, given, room);
@@ -428,7 +473,10 @@ pub extern "C" fn grelpicado_restore(
     image: &[u8],
 ) -> PanelAnswer
     ensures { λ r. ⌜ withAnswer (now (records .exit)) (now (debounce .exit)) (now (memory .exit)) r
-        ≡ crosses (restore (now (cfg .entry)) (now (image .entry)) alone (lent (now (records .entry)) (now (debounce .entry)) (now (memory .entry)) (boardOf board))) board ⌝ }
+        ≡ crosses
+        (restore (now (cfg .entry)) (now (image .entry)) alone
+        (lent (now (records .entry)) (now (debounce .entry)) (now (memory .entry)) (boardOf board)))
+        board ⌝ }
 {
     let given = board_of(board);
     let returned = image::restore(cfg, records, debounce, memory, given, image);
@@ -447,7 +495,10 @@ pub extern "C" fn grelpicado_request(
     room: &mut [u8],
 ) -> PanelRequest
     ensures { λ r. ⌜ withRequest (now (records .exit)) (now (debounce .exit)) (now (memory .exit)) (now (room .exit)) r
-        ≡ crosses (requestReply (now (cfg .entry)) (now (request .entry)) (lentRoom (now (room .entry))) (lent (now (records .entry)) (now (debounce .entry)) (now (memory .entry)) (boardOf board))) board ⌝ }
+        ≡ crosses
+        (requestReply (now (cfg .entry)) (now (request .entry)) (lentRoom (now (room .entry)))
+        (lent (now (records .entry)) (now (debounce .entry)) (now (memory .entry)) (boardOf board)))
+        board ⌝ }
 {
     let given = board_of(board);
     let returned = diagnostics::request(cfg, records, debounce, memory, given, request, room);

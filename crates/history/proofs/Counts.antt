@@ -1,4 +1,5 @@
--- After a legal history bits 3 and 7 of the record are those of the reading; g and h count what the newest stretch counts, where the bit is set.
+-- After a legal history bits 3 and 7 of the record are those of the reading; g and h count what the newest stretch
+-- counts, where the bit is set.
 use mathlib.Core.Path.{_≡_, refl, sym, ap, _∙_}
 use mathlib.Core.Bool.{Bool, true, false, not, _&&_, _||_, cond, true≢false}
 use mathlib.Core.List.{List, [], _∷_}
@@ -8,11 +9,14 @@ use lib.Dec.{T, leb, eqb}
 use borrow.Author.Tests.{leb-true, leb-false, le-leb, lt-leb, eq-eqb, ne-eqb, not-true}
 use Rattle.history.specs.Words.{countOf}
 use Rattle.history.specs.StatusByte.{confirmedDTC, warningIndicatorRequested, Limits, confirms}
-use Rattle.history.specs.History.{passed, failed, start, stop, clear, History, recordAfter, Moment, moments, sinceL, failureFree, clean, sinceCleanStop, confirming, countedForAgeing, countedForHealing, notAged, notHealed, standing, reading, Allowed}
+use Rattle.history.specs.History.{passed, failed, start, stop, clear, History, recordAfter, Moment, moments}
+use Rattle.history.specs.History.{sinceL, failureFree, clean, sinceCleanStop, confirming, countedForAgeing}
+use Rattle.history.specs.History.{countedForHealing, notAged, notHealed, standing, reading, Allowed}
 use Rattle.history.specs.Legal.{legal}
 use Rattle.history.proofs.WordsLaws.{and-true, and-false, and-assoc}
 use Rattle.history.proofs.Runs.{moment, healing-is, ageing-is, failedRunsNow, legal-before, K-is}
-use Rattle.history.proofs.Standing.{newest, standing-newest, standing-failed, standing-stop, standing-passed, standing-start}
+use Rattle.history.proofs.Standing.{newest, standing-newest, standing-failed, standing-stop}
+use Rattle.history.proofs.Standing.{standing-passed, standing-start}
 
 -- ---- counts and limits
 
@@ -52,7 +56,8 @@ both-mono true false b b′ e k = cc
 both-mono false a′ b b′ e k = refl
 
 -- ---- what a stop does to bits 3 and 7, g and h, over the readings:
--- f and c say that it counts for ageing and for healing; r and q are bits 3 and 7 before it; fs and cs are what the newest stretch counts
+-- f and c say that it counts for ageing and for healing; r and q are bits 3 and 7 before it; fs and cs are what the
+-- newest stretch counts
 
 either : {X : Type 0} (b : Bool) (x : X) → cond b x x ≡ x
 either true x = refl
@@ -63,13 +68,15 @@ left-true true v e = refl
 left-true false v e = sym e
 
 -- "at N", for a count that runs while the bit r is set and the stop counts, f
-at-N : (N c : ℕ) (f r : Bool) → r ≡ r && not (leb N c) → (f && r) && eqb (suc (cond r c 0)) N ≡ (f && r) && leb N (suc c)
+at-N : (N c : ℕ) (f r : Bool) → r ≡ r && not (leb N c)
+    → (f && r) && eqb (suc (cond r c 0)) N ≡ (f && r) && leb N (suc c)
 at-N N c true true e = at-limit N c (not-true (leb N c) (sym e))
 at-N N c true false e = refl
 at-N N c false r e = refl
 
 module _ (A fs : ℕ) where
-  stop-bit3 : (f r : Bool) → r ≡ r && not (leb A fs) → cond ((f && r) && leb A (suc fs)) false r ≡ r && not (leb A (cond f (suc fs) fs))
+  stop-bit3 : (f r : Bool) → r ≡ r && not (leb A fs)
+      → cond ((f && r) && leb A (suc fs)) false r ≡ r && not (leb A (cond f (suc fs) fs))
   stop-bit3 true true e = flip (leb A (suc fs))
     where
       flip : (b : Bool) → cond b false true ≡ not b
@@ -80,7 +87,8 @@ module _ (A fs : ℕ) where
   stop-bit3 false false e = refl
 
   stop-g : (f r : Bool) → r ≡ r && not (leb A fs)
-      → cond ((f && r) && leb A (suc fs)) 0 (cond (f && r) (suc (cond r fs 0)) (cond r fs 0)) ≡ cond (r && not (leb A (cond f (suc fs) fs))) (cond f (suc fs) fs) 0
+      → cond ((f && r) && leb A (suc fs)) 0 (cond (f && r) (suc (cond r fs 0)) (cond r fs 0))
+      ≡ cond (r && not (leb A (cond f (suc fs) fs))) (cond f (suc fs) fs) 0
   stop-g true true e = flip (leb A (suc fs))
     where
       flip : (b : Bool) → cond b 0 (suc fs) ≡ cond (not b) (suc fs) 0
@@ -113,7 +121,8 @@ module _ (A fs : ℕ) where
     stop-bit7 false false true true x y e = e
 
     stop-h : (f c q r : Bool) → c ≡ c && f → q ≡ q && r → q ≡ q && (not (leb H cs) && not (leb A fs))
-        → cond ((f && r) && leb A (suc fs)) 0 (cond ((c && q) && leb H (suc cs)) 0 (cond (c && q) (suc (cond q cs 0)) (cond q cs 0)))
+        → cond ((f && r) && leb A (suc fs)) 0
+        (cond ((c && q) && leb H (suc cs)) 0 (cond (c && q) (suc (cond q cs 0)) (cond q cs 0)))
         ≡ cond (q && (not (leb H (cond c (suc cs) cs)) && not (leb A (cond f (suc fs) fs)))) (cond c (suc cs) cs) 0
     stop-h f true false r x y e = either ((f && r) && leb A (suc fs)) 0
     stop-h f false false r x y e = either ((f && r) && leb A (suc fs)) 0
@@ -134,7 +143,8 @@ module _ (A fs : ℕ) where
     stop-h false false true true x y e = rw (← e)
 
 -- a stop that counts for healing counts for ageing
-healing-ages : (l : History) → countedForHealing (moment stop l) ≡ countedForHealing (moment stop l) && countedForAgeing (moment stop l)
+healing-ages : (l : History)
+    → countedForHealing (moment stop l) ≡ countedForHealing (moment stop l) && countedForAgeing (moment stop l)
 unfolding clean
 healing-ages l = table (failureFree (moment stop l)) _
   where
@@ -156,7 +166,9 @@ module _ (n : Limits) (a : Allowed n) where
 
   lasting-mono : (m : Moment) (s : List Moment) → lasting (m ∷ s) ≡ lasting (m ∷ s) && lasting s
   unfolding lasting
-  lasting-mono m s = both-mono (notHealed n (m ∷ s)) (notHealed n s) (notAged n (m ∷ s)) (notAged n s) (few-mono (n .H) (countOf countedForHealing s) (countedForHealing m)) (not-aged-mono m s)
+  lasting-mono m s =
+      both-mono (notHealed n (m ∷ s)) (notHealed n s) (notAged n (m ∷ s)) (notAged n s)
+      (few-mono (n .H) (countOf countedForHealing s) (countedForHealing m)) (not-aged-mono m s)
 
   lasting-empty : lasting [] ≡ true
   unfolding lasting
@@ -193,7 +205,8 @@ module _ (n : Limits) (a : Allowed n) where
   unfolding reading confirmingNow
   r3-failed l = standing-failed (n .C) (notAged n) not-aged-empty not-aged-mono l
 
-  r3-stop : (l : History) → r3 (stop ∷ l) ≡ r3 l && not (leb (n .A) (cond (countedForAgeing (moment stop l)) (suc (agedBy l)) (agedBy l)))
+  r3-stop : (l : History)
+      → r3 (stop ∷ l) ≡ r3 l && not (leb (n .A) (cond (countedForAgeing (moment stop l)) (suc (agedBy l)) (agedBy l)))
   unfolding reading agedBy
   r3-stop l = standing-stop (n .C) (notAged n) not-aged-empty not-aged-mono l
 
@@ -220,20 +233,28 @@ module _ (n : Limits) (a : Allowed n) where
 
   r7-newest : (l : History) → r7 l ≡ r7 l && (not (leb (n .H) (healedBy l)) && not (leb (n .A) (agedBy l)))
   unfolding reading agedBy healedBy lasting
-  r7-newest l = with-indicator (standing-newest (n .C) lasting lasting-empty lasting-mono l) ∙ and-assoc (n .indicator) (standing (n .C) lasting l) (lasting (newest l))
+  r7-newest l =
+      with-indicator (standing-newest (n .C) lasting lasting-empty lasting-mono l)
+      ∙ and-assoc (n .indicator) (standing (n .C) lasting l) (lasting (newest l))
 
   r7-failed : (l : History) → r7 (failed ∷ l) ≡ (n .indicator && confirmingNow l) || r7 l
   unfolding reading confirmingNow lasting
-  r7-failed l = with-indicator (standing-failed (n .C) lasting lasting-empty lasting-mono l) ∙ table (n .indicator) (confirmingNow l) (standing (n .C) lasting l)
+  r7-failed l =
+      with-indicator (standing-failed (n .C) lasting lasting-empty lasting-mono l)
+      ∙ table (n .indicator) (confirmingNow l) (standing (n .C) lasting l)
     where
       table : (a b c : Bool) → a && (b || c) ≡ (a && b) || (a && c)
       table true b c = refl
       table false b c = refl
 
   r7-stop : (l : History) → r7 (stop ∷ l)
-      ≡ r7 l && (not (leb (n .H) (cond (countedForHealing (moment stop l)) (suc (healedBy l)) (healedBy l))) && not (leb (n .A) (cond (countedForAgeing (moment stop l)) (suc (agedBy l)) (agedBy l))))
+      ≡ r7 l
+      && (not (leb (n .H) (cond (countedForHealing (moment stop l)) (suc (healedBy l)) (healedBy l)))
+      && not (leb (n .A) (cond (countedForAgeing (moment stop l)) (suc (agedBy l)) (agedBy l))))
   unfolding reading agedBy healedBy lasting
-  r7-stop l = with-indicator (standing-stop (n .C) lasting lasting-empty lasting-mono l) ∙ and-assoc (n .indicator) (standing (n .C) lasting l) (lasting (moment stop l ∷ newest l))
+  r7-stop l =
+      with-indicator (standing-stop (n .C) lasting lasting-empty lasting-mono l)
+      ∙ and-assoc (n .indicator) (standing (n .C) lasting l) (lasting (moment stop l ∷ newest l))
 
   r7-passed : (l : History) → r7 (passed ∷ l) ≡ r7 l
   unfolding reading failureFree clean lasting
@@ -267,15 +288,36 @@ module _ (n : Limits) (a : Allowed n) where
 
   known-clear : (l : History) → Known (clear ∷ l)
   unfolding recordAfter
-  known-clear l = record { at3 = rw (r3-clear l); atg = rw (r3-clear l); at7 = rw (r7-clear l); ath = rw (r7-clear l); only = rw (r7-clear l) }
+  known-clear l =
+      record {
+        at3 = rw (r3-clear l);
+        atg = rw (r3-clear l);
+        at7 = rw (r7-clear l);
+        ath = rw (r7-clear l);
+        only = rw (r7-clear l);
+      }
 
   known-passed : (l : History) → Known l → Known (passed ∷ l)
   unfolding recordAfter agedBy healedBy sinceL moments clean failureFree
-  known-passed l k = record { at3 = rw (r3-passed l) (k .at3); atg = rw (r3-passed l) (k .atg); at7 = rw (r7-passed l) (k .at7); ath = rw (r7-passed l) (k .ath); only = rw (r7-passed l, r3-passed l) (k .only) }
+  known-passed l k =
+      record {
+        at3 = rw (r3-passed l) (k .at3);
+        atg = rw (r3-passed l) (k .atg);
+        at7 = rw (r7-passed l) (k .at7);
+        ath = rw (r7-passed l) (k .ath);
+        only = rw (r7-passed l, r3-passed l) (k .only);
+      }
 
   known-start : (l : History) → Known l → Known (start ∷ l)
   unfolding recordAfter agedBy healedBy sinceL moments clean failureFree
-  known-start l k = record { at3 = rw (r3-start l) (k .at3); atg = rw (r3-start l) (k .atg); at7 = rw (r7-start l) (k .at7); ath = rw (r7-start l) (k .ath); only = rw (r7-start l, r3-start l) (k .only) }
+  known-start l k =
+      record {
+        at3 = rw (r3-start l) (k .at3);
+        atg = rw (r3-start l) (k .atg);
+        at7 = rw (r7-start l) (k .at7);
+        ath = rw (r7-start l) (k .ath);
+        only = rw (r7-start l, r3-start l) (k .only);
+      }
 
   known-failed : (l : History) → T (legal (failed ∷ l)) → Known l → Known (failed ∷ l)
   unfolding recordAfter agedBy healedBy sinceL moments
@@ -298,9 +340,18 @@ module _ (n : Limits) (a : Allowed n) where
   known-stop l k = record {
     at3 = rw (r3-stop l, ageing-is n l, k .at3, k .atg, at-A) (stop-bit3 (n .A) (agedBy l) ages (r3 l) (r3-newest l));
     atg = rw (r3-stop l, ageing-is n l, k .at3, k .atg, at-A) (stop-g (n .A) (agedBy l) ages (r3 l) (r3-newest l));
-    at7 = rw (r7-stop l, healing-is n l, ageing-is n l, k .at3, k .atg, k .at7, k .ath, at-A, at-H) (stop-bit7 (n .A) (agedBy l) (n .H) (healedBy l) ages heals (r7 l) (r3 l) (healing-ages l) (k .only) (r7-newest l));
-    ath = rw (r7-stop l, healing-is n l, ageing-is n l, k .at3, k .atg, k .at7, k .ath, at-A, at-H) (stop-h (n .A) (agedBy l) (n .H) (healedBy l) ages heals (r7 l) (r3 l) (healing-ages l) (k .only) (r7-newest l));
-    only = rw (r7-stop l, r3-stop l) (table (r7 l) (r3 l) (not (leb (n .H) (cond heals (suc (healedBy l)) (healedBy l)))) (not (leb (n .A) (cond ages (suc (agedBy l)) (agedBy l)))) (k .only));
+    at7 =
+        rw (r7-stop l, healing-is n l, ageing-is n l, k .at3, k .atg, k .at7, k .ath, at-A, at-H)
+        (stop-bit7 (n .A) (agedBy l) (n .H) (healedBy l) ages heals (r7 l) (r3 l) (healing-ages l) (k .only)
+        (r7-newest l));
+    ath =
+        rw (r7-stop l, healing-is n l, ageing-is n l, k .at3, k .atg, k .at7, k .ath, at-A, at-H)
+        (stop-h (n .A) (agedBy l) (n .H) (healedBy l) ages heals (r7 l) (r3 l) (healing-ages l)
+        (k .only) (r7-newest l));
+    only =
+        rw (r7-stop l, r3-stop l)
+        (table (r7 l) (r3 l) (not (leb (n .H) (cond heals (suc (healedBy l)) (healedBy l))))
+        (not (leb (n .A) (cond ages (suc (agedBy l)) (agedBy l)))) (k .only));
   }
     where
       ages : Bool
@@ -309,7 +360,8 @@ module _ (n : Limits) (a : Allowed n) where
       heals : Bool
       heals = countedForHealing (moment stop l)
 
-      at-A : (ages && r3 l) && eqb (suc (cond (r3 l) (agedBy l) 0)) (n .A) ≡ (ages && r3 l) && leb (n .A) (suc (agedBy l))
+      at-A : (ages && r3 l) && eqb (suc (cond (r3 l) (agedBy l) 0)) (n .A)
+          ≡ (ages && r3 l) && leb (n .A) (suc (agedBy l))
       at-A = at-N (n .A) (agedBy l) ages (r3 l) (r3-newest l)
 
       first : (q x y : Bool) → q ≡ q && (x && y) → q ≡ q && x
@@ -317,8 +369,11 @@ module _ (n : Limits) (a : Allowed n) where
       first true false y e = e
       first false x y e = refl
 
-      at-H : (heals && r7 l) && eqb (suc (cond (r7 l) (healedBy l) 0)) (n .H) ≡ (heals && r7 l) && leb (n .H) (suc (healedBy l))
-      at-H = at-N (n .H) (healedBy l) heals (r7 l) (first (r7 l) (not (leb (n .H) (healedBy l))) (not (leb (n .A) (agedBy l))) (r7-newest l))
+      at-H : (heals && r7 l) && eqb (suc (cond (r7 l) (healedBy l) 0)) (n .H)
+          ≡ (heals && r7 l) && leb (n .H) (suc (healedBy l))
+      at-H =
+          at-N (n .H) (healedBy l) heals (r7 l)
+          (first (r7 l) (not (leb (n .H) (healedBy l))) (not (leb (n .A) (agedBy l))) (r7-newest l))
 
       table : (q r u v : Bool) → q ≡ q && r → q && (u && v) ≡ (q && (u && v)) && (r && v)
       table true true true true e = refl
@@ -338,5 +393,6 @@ module _ (n : Limits) (a : Allowed n) where
   pub bit3 : (l : History) → T (legal l) → recordAfter n l .status confirmedDTC ≡ reading n l confirmedDTC
   bit3 l t = known l t .at3
 
-  pub bit7 : (l : History) → T (legal l) → recordAfter n l .status warningIndicatorRequested ≡ reading n l warningIndicatorRequested
+  pub bit7 : (l : History) → T (legal l)
+      → recordAfter n l .status warningIndicatorRequested ≡ reading n l warningIndicatorRequested
   bit7 l t = known l t .at7

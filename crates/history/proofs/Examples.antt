@@ -5,7 +5,9 @@ use mathlib.Core.List.{List, [], _∷_}
 use Prim.Native.Nat.{ℕ}
 use lib.Dec.{eqb}
 use Rattle.history.specs.StatusByte.{byteOf, Limits}
-use Rattle.history.specs.History.{Token, passed, failed, start, stop, clear, History, recordAfter, moments, sinceL, sinceW, failureFree, clean, sinceCleanStop, confirming, confirmingWith, standing, reading}
+use Rattle.history.specs.History.{Token, passed, failed, start, stop, clear, History, recordAfter, moments}
+use Rattle.history.specs.History.{sinceL, sinceW, failureFree, clean, sinceCleanStop, confirming, confirmingWith}
+use Rattle.history.specs.History.{standing, reading}
 
 -- what happens, and the byte after it
 record Row : Type 0 where

@@ -6,8 +6,11 @@ use Prim.Native.Nat.{ℕ, suc, min}
 use native.Mathlib.Omega.{arith}
 use lib.Dec.{T}
 use Rattle.history.specs.Words.{anyOf, since, someWith}
-use Rattle.history.specs.StatusByte.{testFailedThisOperationCycle, pendingDTC, Limits, cleanCycle, countsForAgeing, countsForHealing}
-use Rattle.history.specs.History.{Token, passed, failed, start, stop, clear, History, recordAfter, Moment, moments, isPassed, isFailed, isResult, sinceL, sinceW, failureFree, clean, sinceCleanStop, edge, failedRuns, countedForAgeing, countedForHealing, reading}
+use Rattle.history.specs.StatusByte.{testFailedThisOperationCycle, pendingDTC, Limits}
+use Rattle.history.specs.StatusByte.{cleanCycle, countsForAgeing, countsForHealing}
+use Rattle.history.specs.History.{Token, passed, failed, start, stop, clear, History, recordAfter, Moment}
+use Rattle.history.specs.History.{moments, isPassed, isFailed, isResult, sinceL, sinceW, failureFree, clean}
+use Rattle.history.specs.History.{sinceCleanStop, edge, failedRuns, countedForAgeing, countedForHealing, reading}
 use Rattle.history.specs.Legal.{running, legal}
 use Rattle.history.proofs.Truth.{both-left, both-right, yes-so}
 use Rattle.history.proofs.WordsLaws.{and-false, someWith-cong, someWith-none, parts-other, parts-more}
@@ -28,7 +31,8 @@ results (m ∷ w) = rw (results w) (table (isPassed m) (isFailed m) (anyOf isPas
     table false false c d = refl
 
 module _ (n : Limits) (l : History) where
-  -- the rules take a stop for clean, for one that counts for healing, for one that counts for ageing, exactly where the reading does
+  -- the rules take a stop for clean, for one that counts for healing, for one that counts for ageing, exactly where the
+  -- reading does
   pub clean-cycle-is : cleanCycle (recordAfter n l .status) ≡ clean (moment stop l)
   unfolding clean failureFree reading
   clean-cycle-is =
@@ -64,7 +68,8 @@ unfoldable pub failedRunsNow : History → ℕ
 failedRunsNow l = failedRuns (sinceCleanStop l)
 
 runs-failed : (n : Limits) (l : History) → running l ≡ true
-    → failedRunsNow (failed ∷ l) ≡ cond (reading n l testFailedThisOperationCycle) (failedRunsNow l) (suc (failedRunsNow l))
+    → failedRunsNow (failed ∷ l)
+    ≡ cond (reading n l testFailedThisOperationCycle) (failedRunsNow l) (suc (failedRunsNow l))
 unfolding failedRunsNow sinceCleanStop moments clean failureFree
 runs-failed n l e = rw (← (this-run n l e)) (parts-more edge isFailed (moment failed l) (sinceCleanStop l) refl refl)
 
@@ -80,7 +85,8 @@ runs-stop : (l : History) → failedRunsNow (stop ∷ l) ≡ cond (clean (moment
 unfolding failedRunsNow sinceCleanStop moments
 runs-stop l = go (clean (moment stop l))
   where
-    go : (b : Bool) → failedRuns (cond b [] (moment stop l ∷ sinceCleanStop l)) ≡ cond b 0 (failedRuns (sinceCleanStop l))
+    go : (b : Bool)
+        → failedRuns (cond b [] (moment stop l ∷ sinceCleanStop l)) ≡ cond b 0 (failedRuns (sinceCleanStop l))
     go true = refl
     go false = refl
 
@@ -118,7 +124,8 @@ K-is n (failed ∷ l) t =
     table false r = omega arith
 K-is n (start ∷ l) t = rw (runs-start l) (K-is n l (legal-before start l t))
 K-is n (stop ∷ l) t =
-    rw (runs-stop l, clean-cycle-is n l, K-is n l (legal-before stop l t)) (table (clean (moment stop l)) (failedRunsNow l))
+    rw (runs-stop l, clean-cycle-is n l, K-is n l (legal-before stop l t))
+    (table (clean (moment stop l)) (failedRunsNow l))
   where
     table : (b : Bool) (r : ℕ) → cond b 0 (min 255 r) ≡ min 255 (cond b 0 r)
     table true r = refl
@@ -126,8 +133,12 @@ K-is n (stop ∷ l) t =
 K-is n (clear ∷ l) t = rw (runs-clear l)
 
 -- a clean stop ends the pending of every failed result before it
-pending : (b : Bool) (ms : List Moment) → someWith (λ after m. isFailed m && not (b || anyOf clean after)) ms ≡ cond b false (someWith (λ after m. isFailed m && not (anyOf clean after)) ms)
-pending true ms = someWith-cong (λ after m. isFailed m && false) (λ after m. false) ms (λ a x r q. and-false (isFailed x)) ∙ someWith-none ms
+pending : (b : Bool) (ms : List Moment)
+    → someWith (λ after m. isFailed m && not (b || anyOf clean after)) ms
+    ≡ cond b false (someWith (λ after m. isFailed m && not (anyOf clean after)) ms)
+pending true ms =
+    someWith-cong (λ after m. isFailed m && false) (λ after m. false) ms (λ a x r q. and-false (isFailed x))
+    ∙ someWith-none ms
 pending false ms = refl
 
 pub bit2 : (n : Limits) (l : History) → recordAfter n l .status pendingDTC ≡ reading n l pendingDTC

@@ -5,7 +5,10 @@ use Prim.Native.Nat.{ℕ, zero, suc, _+_, _*_, _/_, _%_, _<_}
 use native.Mathlib.Omega.{arith}
 use lib.Dec.{T, eqb}
 use Rattle.history.specs.Words.{same}
-use Rattle.history.specs.StatusByte.{Bit, testFailed, testFailedThisOperationCycle, pendingDTC, confirmedDTC, testNotCompletedSinceLastClear, testFailedSinceLastClear, testNotCompletedThisOperationCycle, warningIndicatorRequested, Status, byteOf, statusOf}
+use Rattle.history.specs.StatusByte.{Bit, testFailed, testFailedThisOperationCycle, pendingDTC, confirmedDTC}
+use Rattle.history.specs.StatusByte.{testNotCompletedSinceLastClear, testFailedSinceLastClear}
+use Rattle.history.specs.StatusByte.{testNotCompletedThisOperationCycle, warningIndicatorRequested, Status}
+use Rattle.history.specs.StatusByte.{byteOf, statusOf}
 use Rattle.history.proofs.Truth.{Row, always, truth, same-eq}
 
 -- eight tests as a status, and back
@@ -20,8 +23,25 @@ eight b0 b1 b2 b3 b4 b5 b6 b7 testNotCompletedThisOperationCycle = b6
 eight b0 b1 b2 b3 b4 b5 b6 b7 warningIndicatorRequested = b7
 
 abbrev pub rowOf : Status → Row 8
-rowOf s =
-    (s testFailed, (s testFailedThisOperationCycle, (s pendingDTC, (s confirmedDTC, (s testNotCompletedSinceLastClear, (s testFailedSinceLastClear, (s testNotCompletedThisOperationCycle, (s warningIndicatorRequested, tt))))))))
+rowOf s = (
+  s testFailed,
+  (
+    s testFailedThisOperationCycle,
+    (
+      s pendingDTC,
+      (
+        s confirmedDTC,
+        (
+          s testNotCompletedSinceLastClear,
+          (
+            s testFailedSinceLastClear,
+            (s testNotCompletedThisOperationCycle, (s warningIndicatorRequested, tt)),
+          ),
+        ),
+      ),
+    ),
+  ),
+)
 
 -- a fact on each bit, by the eight
 pub each-bit : (P : Bit → Type 0)
@@ -46,14 +66,20 @@ each-bit P p0 p1 p2 p3 p4 p5 p6 p7 warningIndicatorRequested = p7
 
 -- the bit b of the byte of eight tests is the test
 abbrev recovers : Bit → Bool → Bool → Bool → Bool → Bool → Bool → Bool → Bool → Bool
-recovers b b0 b1 b2 b3 b4 b5 b6 b7 = same (statusOf (byteOf (eight b0 b1 b2 b3 b4 b5 b6 b7)) b) (eight b0 b1 b2 b3 b4 b5 b6 b7 b)
+recovers b b0 b1 b2 b3 b4 b5 b6 b7 =
+    same (statusOf (byteOf (eight b0 b1 b2 b3 b4 b5 b6 b7)) b) (eight b0 b1 b2 b3 b4 b5 b6 b7 b)
 
 pub status-of-byte : (s : Status) (b : Bit) → statusOf (byteOf s) b ≡ s b
 status-of-byte s = each-bit (λ b. statusOf (byteOf s) b ≡ s b)
     (by testFailed tt) (by testFailedThisOperationCycle tt) (by pendingDTC tt) (by confirmedDTC tt)
-    (by testNotCompletedSinceLastClear tt) (by testFailedSinceLastClear tt) (by testNotCompletedThisOperationCycle tt) (by warningIndicatorRequested tt)
+    (by testNotCompletedSinceLastClear tt) (by testFailedSinceLastClear tt) (by testNotCompletedThisOperationCycle tt)
+    (by warningIndicatorRequested tt)
   where
-    by : (b : Bit) → T (always 8 (recovers b)) → statusOf (byteOf s) b ≡ eight (s testFailed) (s testFailedThisOperationCycle) (s pendingDTC) (s confirmedDTC) (s testNotCompletedSinceLastClear) (s testFailedSinceLastClear) (s testNotCompletedThisOperationCycle) (s warningIndicatorRequested) b
+    by : (b : Bit) → T (always 8 (recovers b))
+        → statusOf (byteOf s) b
+        ≡ eight (s testFailed) (s testFailedThisOperationCycle) (s pendingDTC) (s confirmedDTC)
+        (s testNotCompletedSinceLastClear) (s testFailedSinceLastClear) (s testNotCompletedThisOperationCycle)
+        (s warningIndicatorRequested) b
     by b t = same-eq _ _ (truth 8 (recovers b) t (rowOf s))
 
 pub status-of-byte-whole : (s : Status) → statusOf (byteOf s) ≡ s
@@ -79,6 +105,16 @@ halves s d0 d1 d2 d3 d4 d5 d6 d7 q1 q2 q3 q4 q5 q6 q7 e0 e1 e2 e3 e4 e5 e6 e7 = 
 
 pub byte-of-status : (s : ℕ) → s < 256 → byteOf (statusOf s) ≡ s
 byte-of-status s h =
-    rw (weighed-digit (s / 1 % 2) 1 (omega arith), weighed-digit (s / 2 % 2) 2 (omega arith), weighed-digit (s / 4 % 2) 4 (omega arith), weighed-digit (s / 8 % 2) 8 (omega arith), weighed-digit (s / 16 % 2) 16 (omega arith), weighed-digit (s / 32 % 2) 32 (omega arith), weighed-digit (s / 64 % 2) 64 (omega arith), weighed-digit (s / 128 % 2) 128 (omega arith))
-    (halves s (s / 1 % 2) (s / 2 % 2) (s / 4 % 2) (s / 8 % 2) (s / 16 % 2) (s / 32 % 2) (s / 64 % 2) (s / 128 % 2) (s / 2) (s / 4) (s / 8) (s / 16) (s / 32) (s / 64) (s / 128)
+    rw (
+      weighed-digit (s / 1 % 2) 1 (omega arith),
+      weighed-digit (s / 2 % 2) 2 (omega arith),
+      weighed-digit (s / 4 % 2) 4 (omega arith),
+      weighed-digit (s / 8 % 2) 8 (omega arith),
+      weighed-digit (s / 16 % 2) 16 (omega arith),
+      weighed-digit (s / 32 % 2) 32 (omega arith),
+      weighed-digit (s / 64 % 2) 64 (omega arith),
+      weighed-digit (s / 128 % 2) 128 (omega arith),
+    )
+    (halves s (s / 1 % 2) (s / 2 % 2) (s / 4 % 2) (s / 8 % 2) (s / 16 % 2) (s / 32 % 2) (s / 64 % 2) (s / 128 % 2)
+    (s / 2) (s / 4) (s / 8) (s / 16) (s / 32) (s / 64) (s / 128)
     (omega arith) (omega arith) (omega arith) (omega arith) (omega arith) (omega arith) (omega arith) (omega arith))

@@ -68,11 +68,15 @@ parts (b ∷ bs) e = both b (holds bs) (e .0) (parts bs (e .1))
 module _ {A : Type 0} where
   -- ---- someWith
 
-  pub someWith-cong : (P Q : List A → A → Bool) (l : List A) → ((a : List A) (x : A) (r : List A) → l ≡ a ++ x ∷ r → P a x ≡ Q a x) → someWith P l ≡ someWith Q l
+  pub someWith-cong : (P Q : List A → A → Bool) (l : List A)
+      → ((a : List A) (x : A) (r : List A) → l ≡ a ++ x ∷ r → P a x ≡ Q a x) → someWith P l ≡ someWith Q l
   someWith-cong P Q [] e = refl
-  someWith-cong P Q (x ∷ l) e = ap₂ _||_ (e [] x l refl) (someWith-cong (λ a. P (x ∷ a)) (λ a. Q (x ∷ a)) l (λ a y r q. e (x ∷ a) y r (ap (λ z. x ∷ z) q)))
+  someWith-cong P Q (x ∷ l) e =
+      ap₂ _||_ (e [] x l refl)
+      (someWith-cong (λ a. P (x ∷ a)) (λ a. Q (x ∷ a)) l (λ a y r q. e (x ∷ a) y r (ap (λ z. x ∷ z) q)))
 
-  pub someWith-and : (P : List A → A → Bool) (c : Bool) (l : List A) → someWith (λ a x. P a x && c) l ≡ someWith P l && c
+  pub someWith-and : (P : List A → A → Bool) (c : Bool) (l : List A)
+      → someWith (λ a x. P a x && c) l ≡ someWith P l && c
   someWith-and P c [] = refl
   someWith-and P c (x ∷ l) = rw (someWith-and (λ a. P (x ∷ a)) c l) (or-and (P [] x) (someWith (λ a. P (x ∷ a)) l) c)
 
@@ -94,22 +98,30 @@ module _ {A : Type 0} where
   cutAt-newest p [] = refl
   cutAt-newest p (x ∷ l) = go (p x) (cutAt-newest p l)
     where
-      go : (b : Bool) → cutAt p l ≡ since p l ∷ tail (cutAt p l) → cond b ([] ∷ cutAt p l) (joined x (cutAt p l)) ≡ cond b [] (x ∷ since p l) ∷ tail (cond b ([] ∷ cutAt p l) (joined x (cutAt p l)))
+      go : (b : Bool) → cutAt p l ≡ since p l ∷ tail (cutAt p l)
+          → cond b ([] ∷ cutAt p l) (joined x (cutAt p l))
+          ≡ cond b [] (x ∷ since p l) ∷ tail (cond b ([] ∷ cutAt p l) (joined x (cutAt p l)))
       go true e = refl
       go false e = rw e
 
   module _ (p : A → Bool) (ok : List A → Bool) where
     -- one element more that is no cut, for a test that a longer part passes only where the shorter does
-    pub allOf-cutAt : (m : A) (a : List A) → p m ≡ false → ((s : List A) → ok (m ∷ s) ≡ ok (m ∷ s) && ok s) → allOf ok (cutAt p (m ∷ a)) ≡ allOf ok (cutAt p a) && ok (m ∷ since p a)
-    allOf-cutAt m a e mono = rw (e, cutAt-newest p a) (swapped (ok (m ∷ since p a)) (ok (since p a)) (allOf ok (tail (cutAt p a))) (mono (since p a)))
+    pub allOf-cutAt : (m : A) (a : List A) → p m ≡ false → ((s : List A) → ok (m ∷ s) ≡ ok (m ∷ s) && ok s)
+        → allOf ok (cutAt p (m ∷ a)) ≡ allOf ok (cutAt p a) && ok (m ∷ since p a)
+    allOf-cutAt m a e mono =
+        rw (e, cutAt-newest p a)
+        (swapped (ok (m ∷ since p a)) (ok (since p a)) (allOf ok (tail (cutAt p a))) (mono (since p a)))
 
   module _ (p f : A → Bool) where
     -- how many parts hold an element that passes f, after one element more
 
-    pub parts-other : (m : A) (a : List A) → p m ≡ false → f m ≡ false → countOf (anyOf f) (cutAt p (m ∷ a)) ≡ countOf (anyOf f) (cutAt p a)
+    pub parts-other : (m : A) (a : List A) → p m ≡ false → f m ≡ false
+        → countOf (anyOf f) (cutAt p (m ∷ a)) ≡ countOf (anyOf f) (cutAt p a)
     parts-other m a e k = rw (e, cutAt-newest p a, k)
 
-    pub parts-more : (m : A) (a : List A) → p m ≡ false → f m ≡ true → countOf (anyOf f) (cutAt p (m ∷ a)) ≡ cond (anyOf f (since p a)) (countOf (anyOf f) (cutAt p a)) (suc (countOf (anyOf f) (cutAt p a)))
+    pub parts-more : (m : A) (a : List A) → p m ≡ false → f m ≡ true
+        → countOf (anyOf f) (cutAt p (m ∷ a))
+        ≡ cond (anyOf f (since p a)) (countOf (anyOf f) (cutAt p a)) (suc (countOf (anyOf f) (cutAt p a)))
     parts-more m a e k = rw (e, cutAt-newest p a, k) (go (anyOf f (since p a)) (countOf (anyOf f) (tail (cutAt p a))))
       where
         go : (b : Bool) (c : ℕ) → suc c ≡ cond b (cond b (suc c) c) (suc (cond b (suc c) c))

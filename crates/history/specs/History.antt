@@ -1,14 +1,18 @@
--- Document 01, "The same byte, read off the history": one event's history, the newest first, and the eight bits read off it.
--- No status, K, h or g runs along here: each reading looks at the whole history. Assumes nothing.
+-- Document 01, "The same byte, read off the history": one event's history, the newest first, and the eight bits read
+-- off it. No status, K, h or g runs along here: each reading looks at the whole history. Assumes nothing.
 use mathlib.Core.Bool.{Bool, not, _&&_, _||_}
 use mathlib.Core.List.{List, [], _∷_}
 use Prim.Native.Nat.{ℕ, _≤_}
 use lib.Dec.{leb, eqb}
 use Rattle.history.specs.Words.{anyOf, allOf, countOf, since, someWith, lastOf, cutAt}
-use Rattle.history.specs.StatusByte.{testFailed, testFailedThisOperationCycle, pendingDTC, confirmedDTC, testNotCompletedSinceLastClear, testFailedSinceLastClear, testNotCompletedThisOperationCycle, warningIndicatorRequested, Status, EventRecord, Limits, freshRecord, onPassed, onFailed, onStart, onStop, onClear}
+use Rattle.history.specs.StatusByte.{testFailed, testFailedThisOperationCycle, pendingDTC, confirmedDTC}
+use Rattle.history.specs.StatusByte.{testNotCompletedSinceLastClear, testFailedSinceLastClear}
+use Rattle.history.specs.StatusByte.{testNotCompletedThisOperationCycle, warningIndicatorRequested, Status}
+use Rattle.history.specs.StatusByte.{EventRecord, Limits, freshRecord, onPassed, onFailed, onStart, onStop}
+use Rattle.history.specs.StatusByte.{onClear}
 
--- An event's history is all its qualified results, its cycle's starts and stops, and its clears since the fresh state, the newest
--- first; a token is one of these.
+-- An event's history is all its qualified results, its cycle's starts and stops, and its clears since the fresh state,
+-- the newest first; a token is one of these.
 pub data Token : Type 0 where
   passed failed start stop clear : Token
 
@@ -67,7 +71,8 @@ sinceL l = since (is clear) (moments l)
 unfoldable pub sinceW : History → List Moment
 sinceW l = since (λ m. is clear m || is start m) (moments l)
 
--- "A stop is failure-free if no failed result lies after the later of its run's start and the last clear before the stop"
+-- "A stop is failure-free if no failed result lies after the later of its run's start and the last clear before the
+-- stop"
 unfoldable pub failureFree : Moment → Bool
 failureFree m = is stop m && not (anyOf isFailed (sinceW (m .before)))
 
@@ -83,8 +88,9 @@ sinceCleanStop l = since (λ m. is clear m || clean m) (moments l)
 abbrev pub edge : Moment → Bool
 edge m = is start m || is stop m
 
--- the parts between these: the runs, and between a stop and the next start what lies in no run, which in a legal history holds no
--- result (specs/Legal.antt). "A run begun before L counts only by its failed results after L": of such a run the oldest part is left.
+-- the parts between these: the runs, and between a stop and the next start what lies in no run, which in a legal
+-- history holds no result (specs/Legal.antt). "A run begun before L counts only by its failed results after L": of such
+-- a run the oldest part is left.
 abbrev pub runsIn : List Moment → List (List Moment)
 runsIn = cutAt edge
 
@@ -92,13 +98,13 @@ runsIn = cutAt edge
 abbrev pub failedRuns : List Moment → ℕ
 failedRuns ms = countOf (anyOf isFailed) (runsIn ms)
 
--- what confirms: "A failed result is confirming if the number of runs holding failed results that lie after the later of L
--- and the last clean stop before it, and no later than it, its own run included, is at least C."
+-- what confirms: "A failed result is confirming if the number of runs holding failed results that lie after the later
+-- of L and the last clean stop before it, and no later than it, its own run included, is at least C."
 unfoldable pub confirming : ℕ → Moment → Bool
 confirming C m = isFailed m && leb C (failedRuns (m ∷ sinceCleanStop (m .before)))
 
--- "stretch (from it or a later failed result to the next failed result or now)": the parts into which the failed results cut
--- what lies after a failed result
+-- "stretch (from it or a later failed result to the next failed result or now)": the parts into which the failed
+-- results cut what lies after a failed result
 abbrev pub stretches : List Moment → List (List Moment)
 stretches = cutAt isFailed
 
@@ -145,7 +151,8 @@ reading n l pendingDTC = someWith (λ after m. isFailed m && not (anyOf clean af
 -- "3: since L there is a confirming result after which no stretch … holds A failure-free stops."
 reading n l confirmedDTC = standing (n .C) (notAged n) l
 -- "7: indicator 1, and since L a confirming result after which no stretch holds H clean stops or A failure-free stops."
-reading n l warningIndicatorRequested = n .indicator && standing (n .C) (λ stretch. notHealed n stretch && notAged n stretch) l
+reading n l warningIndicatorRequested =
+    n .indicator && standing (n .C) (λ stretch. notHealed n stretch && notAged n stretch) l
 
 -- ---- what the configuration's table gives: "C confirm, H heal, A age | 1 to 255", as far as the reading needs it
 pub record Allowed (n : Limits) : Type 0 where

@@ -1,4 +1,5 @@
--- Which histories the calls of document 01 can make: results and stops lie in a run, starts between runs. Assumes nothing.
+-- Which histories the calls of document 01 can make: results and stops lie in a run, starts between runs. Assumes
+-- nothing.
 use mathlib.Core.Bool.{Bool, true, false, not, _&&_}
 use mathlib.Core.List.{[], _∷_}
 use Rattle.history.specs.History.{passed, failed, start, stop, clear, History}

@@ -89,7 +89,8 @@ freshRecord = record { status = statusOf 0x50; K = 0; h = 0; g = 0 }
 -- "Passed: clears 0, 4, 6."
 abbrev pub onPassed : EventRecord → EventRecord
 onPassed r = record {
-  status = clearBits (testFailed ∷ testNotCompletedSinceLastClear ∷ testNotCompletedThisOperationCycle ∷ []) (r .status);
+  status =
+      clearBits (testFailed ∷ testNotCompletedSinceLastClear ∷ testNotCompletedThisOperationCycle ∷ []) (r .status);
   K = r .K;
   h = r .h;
   g = r .g;
@@ -123,7 +124,8 @@ freshFailure r = not (r .status testFailed)
 -- "Start of a stopped cycle: for its events clears 1, sets 6."
 abbrev pub onStart : EventRecord → EventRecord
 onStart r = record {
-  status = setBits (testNotCompletedThisOperationCycle ∷ []) (clearBits (testFailedThisOperationCycle ∷ []) (r .status));
+  status =
+      setBits (testNotCompletedThisOperationCycle ∷ []) (clearBits (testFailedThisOperationCycle ∷ []) (r .status));
   K = r .K;
   h = r .h;
   g = r .g;
@@ -144,9 +146,13 @@ heals n r = countsForHealing (r .status) && r .status warningIndicatorRequested 
 -- "(a) if 1 and 6 are clear: bit 2 clear, K = 0, and if bit 7 is set h rises by one; at H, bit 7 clear and h = 0."
 abbrev pub stopA : Limits → EventRecord → EventRecord
 stopA n r = record {
-  status = clearBitsIf (heals n r) (warningIndicatorRequested ∷ []) (clearBitsIf (cleanCycle (r .status)) (pendingDTC ∷ []) (r .status));
+  status =
+      clearBitsIf (heals n r) (warningIndicatorRequested ∷ [])
+      (clearBitsIf (cleanCycle (r .status)) (pendingDTC ∷ []) (r .status));
   K = cond (cleanCycle (r .status)) 0 (r .K);
-  h = cond (heals n r) 0 (cond (countsForHealing (r .status) && r .status warningIndicatorRequested) (suc (r .h)) (r .h));
+  h =
+      cond (heals n r) 0
+      (cond (countsForHealing (r .status) && r .status warningIndicatorRequested) (suc (r .h)) (r .h));
   g = r .g;
 }
 
@@ -158,7 +164,8 @@ countsForAgeing s = not (s testFailedThisOperationCycle)
 abbrev pub ages : Limits → EventRecord → Bool
 ages n r = countsForAgeing (r .status) && r .status confirmedDTC && eqb (suc (r .g)) (n .A)
 
--- "(b) then, if 1 is clear and 3 is set: g rises by one; at A the event ages: 3 and 7 clear, h = g = 0, its entry leaves memory."
+-- "(b) then, if 1 is clear and 3 is set: g rises by one; at A the event ages: 3 and 7 clear, h = g = 0, its entry
+-- leaves memory."
 abbrev pub stopB : Limits → EventRecord → EventRecord
 stopB n r = record {
   status = clearBitsIf (ages n r) (confirmedDTC ∷ warningIndicatorRequested ∷ []) (r .status);

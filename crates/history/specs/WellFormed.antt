@@ -1,10 +1,13 @@
--- Document 01, "A state is well formed when …, and for each event: …": what it asks of the event's record, a line for each clause.
--- Assumes nothing.
+-- Document 01, "A state is well formed when …, and for each event: …": what it asks of the event's record, a line for
+-- each clause. Assumes nothing.
 use mathlib.Core.Bool.{Bool, not, _&&_, _||_}
 use mathlib.Core.List.{[], _∷_}
 use lib.Dec.{eqb, leb, ltb}
 use Rattle.history.specs.Words.{implies, same, holds}
-use Rattle.history.specs.StatusByte.{testFailed, testFailedThisOperationCycle, pendingDTC, confirmedDTC, testNotCompletedSinceLastClear, testFailedSinceLastClear, testNotCompletedThisOperationCycle, warningIndicatorRequested, Status, byteOf, EventRecord, Limits}
+use Rattle.history.specs.StatusByte.{testFailed, testFailedThisOperationCycle, pendingDTC, confirmedDTC}
+use Rattle.history.specs.StatusByte.{testNotCompletedSinceLastClear, testFailedSinceLastClear}
+use Rattle.history.specs.StatusByte.{testNotCompletedThisOperationCycle, warningIndicatorRequested, Status}
+use Rattle.history.specs.StatusByte.{byteOf, EventRecord, Limits}
 
 -- "bit 4 set means status is exactly 50h"
 abbrev pub untestedIsFresh : Status → Bool
@@ -16,7 +19,8 @@ faultyHasFailed s = implies (s testFailed || s pendingDTC || s confirmedDTC) (s 
 
 -- "bit 1 set means bit 2 set and bit 6 clear"
 abbrev pub failedIsPending : Status → Bool
-failedIsPending s = implies (s testFailedThisOperationCycle) (s pendingDTC && not (s testNotCompletedThisOperationCycle))
+failedIsPending s =
+    implies (s testFailedThisOperationCycle) (s pendingDTC && not (s testNotCompletedThisOperationCycle))
 
 -- "bit 7 set means bit 3 set and indicator 1"
 abbrev pub warningIsConfirmed : Limits → Status → Bool

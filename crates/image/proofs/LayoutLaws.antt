@@ -22,15 +22,19 @@ use Rattle.image.specs.Ready.{Counted}
 
 module _ (cfg : Configuration) (image : List ℕ) where
   rest-is : {start : ℕ} → start ≡ memoryAt cfg → take (length image - start) (drop start image) ≡ afterRecords cfg image
-  rest-is {start} e = take-all (length image - start) (drop start image) (omega (arith, length-drop start image)) ∙ ap (λ (k : ℕ). drop k image) e
+  rest-is {start} e =
+      take-all (length image - start) (drop start image) (omega (arith, length-drop start image))
+      ∙ ap (λ (k : ℕ). drop k image) e
 
   pub too-short : {start : ℕ} → start ≡ memoryAt cfg → length image ≤ start → lengthOk cfg image ≡ false
   unfolding lengthOk
   too-short e h =
-      ap (λ (b : Bool). leb (entryCount (afterRecords cfg image)) (places cfg) && b) (ne-eqb (length image) (memoryAt cfg + usedIn cfg image + 1) (λ q. omega arith))
+      ap (λ (b : Bool). leb (entryCount (afterRecords cfg image)) (places cfg) && b)
+      (ne-eqb (length image) (memoryAt cfg + usedIn cfg image + 1) (λ q. omega arith))
       ∙ and-false (leb (entryCount (afterRecords cfg image)) (places cfg))
 
-  module _ {start count : ℕ} (e : start ≡ memoryAt cfg) (q : count ≡ entryCount (take (length image - start) (drop start image))) where
+  module _ {start count : ℕ} (e : start ≡ memoryAt cfg)
+      (q : count ≡ entryCount (take (length image - start) (drop start image))) where
     count-is : count ≡ entryCount (afterRecords cfg image)
     count-is = q ∙ ap entryCount (rest-is e)
 
@@ -39,25 +43,31 @@ module _ (cfg : Configuration) (image : List ℕ) where
     too-many h = rw (lt-leb (entryCount (afterRecords cfg image)) (places cfg) (omega (arith, count-is)))
 
     module _ (h : count ≤ places cfg) where
-      pub counted : configOk cfg ≡ true → start < length image → Counted cfg (take (length image - start) (drop start image))
+      pub counted : configOk cfg ≡ true → start < length image
+          → Counted cfg (take (length image - start) (drop start image))
       counted ok k = record {
         accepted = ok;
-        some = let l = length-take-le (length image - start) (drop start image) (omega (arith, length-drop start image)) in omega arith;
+        some =
+            let l = length-take-le (length image - start) (drop start image) (omega (arith, length-drop start image)) in
+            omega arith;
         few = omega (arith, q);
       }
 
-      module _ {used : ℕ} (u : used ≡ bytesInUse (entryFrames cfg) (entryCount (take (length image - start) (drop start image)))) where
+      module _ {used : ℕ}
+          (u : used ≡ bytesInUse (entryFrames cfg) (entryCount (take (length image - start) (drop start image)))) where
         pub end-most : configOk cfg ≡ true → start + used ≤ 4309
         end-most ok =
             let t = config-tells cfg ok in
             let k = entryCount (take (length image - start) (drop start image)) in
-            omega (arith, e, t .n-most, u, used-most (entryFrames cfg) k (t .payload-most) (omega (arith, q, t .M-most)))
+            omega
+            (arith, e, t .n-most, u, used-most (entryFrames cfg) k (t .payload-most) (omega (arith, q, t .M-most)))
 
         pub few-enough : eqb (length image) (start + used + 1) ≡ lengthOk cfg image
         unfolding lengthOk
         few-enough =
             let is = u ∙ ap (λ (l : List ℕ). bytesInUse (entryFrames cfg) (entryCount l)) (rest-is e) in
-            (λ i. eqb (length image) (e i + is i + 1)) ∙ sym (rw (le-leb (entryCount (afterRecords cfg image)) (places cfg) (omega (arith, count-is))))
+            (λ i. eqb (length image) (e i + is i + 1))
+            ∙ sym (rw (le-leb (entryCount (afterRecords cfg image)) (places cfg) (omega (arith, count-is))))
 
 -- ---- an image cut into its header and its bodies
 
@@ -79,7 +89,9 @@ module _ (cfg : Configuration) (header records used : List ℕ) (flag : ℕ) (fi
   after-header = drop-at header _ headerLength (fits .header-long)
 
   pub records-in : recordsOf cfg image ≡ records
-  records-in = ap (take (recordWidth * events cfg)) after-header ∙ take-at records _ (recordWidth * events cfg) (fits .records-long)
+  records-in =
+      ap (take (recordWidth * events cfg)) after-header
+      ∙ take-at records _ (recordWidth * events cfg) (fits .records-long)
 
   pub rest-in : afterRecords cfg image ≡ used ++ (flag ∷ [])
   rest-in =
@@ -101,18 +113,26 @@ module _ (cfg : Configuration) (header records used : List ℕ) (flag : ℕ) (fi
   pub length-right : lengthOk cfg image ≡ true
   unfolding lengthOk
   length-right =
-      both (leb (entryCount (afterRecords cfg image)) (places cfg)) (eqb (length image) (memoryAt cfg + usedIn cfg image + 1))
-      (le-leb (entryCount (afterRecords cfg image)) (places cfg) (let d = count-in in let e = fits .few in omega arith)) (eq-eqb _ _ length-in)
+      both (leb (entryCount (afterRecords cfg image)) (places cfg))
+      (eqb (length image) (memoryAt cfg + usedIn cfg image + 1))
+      (le-leb (entryCount (afterRecords cfg image)) (places cfg) (let d = count-in in let e = fits .few in omega arith))
+      (eq-eqb _ _ length-in)
 
 -- every image of the right length is one
 module _ (cfg : Configuration) (image : List ℕ) (ok : lengthOk cfg image ≡ true) where
   few-in : entryCount (afterRecords cfg image) ≤ places cfg
   unfolding lengthOk
-  few-in = leb-true _ _ (and-left (leb (entryCount (afterRecords cfg image)) (places cfg)) (eqb (length image) (memoryAt cfg + usedIn cfg image + 1)) ok)
+  few-in =
+      leb-true _ _
+      (and-left (leb (entryCount (afterRecords cfg image)) (places cfg))
+      (eqb (length image) (memoryAt cfg + usedIn cfg image + 1)) ok)
 
   pub length-is : length image ≡ memoryAt cfg + usedIn cfg image + 1
   unfolding lengthOk
-  length-is = eqb-true _ _ (and-right (leb (entryCount (afterRecords cfg image)) (places cfg)) (eqb (length image) (memoryAt cfg + usedIn cfg image + 1)) ok)
+  length-is =
+      eqb-true _ _
+      (and-right (leb (entryCount (afterRecords cfg image)) (places cfg))
+      (eqb (length image) (memoryAt cfg + usedIn cfg image + 1)) ok)
 
   abbrev pub headerPart : List ℕ
   headerPart = take headerLength image
@@ -124,7 +144,9 @@ module _ (cfg : Configuration) (image : List ℕ) (ok : lengthOk cfg image ≡ t
   flagByte = getD image (length image - 1) 0
 
   used-is : length usedPart ≡ usedIn cfg image
-  used-is = length-take-le (usedIn cfg image) (afterRecords cfg image) (let l = length-is in omega (arith, length-drop (memoryAt cfg) image))
+  used-is =
+      length-take-le (usedIn cfg image) (afterRecords cfg image)
+      (let l = length-is in omega (arith, length-drop (memoryAt cfg) image))
 
   same-count : entryCount usedPart ≡ entryCount (afterRecords cfg image)
   same-count = getD-take (usedIn cfg image) (afterRecords cfg image) 0 0 (omega arith)
@@ -132,7 +154,9 @@ module _ (cfg : Configuration) (image : List ℕ) (ok : lengthOk cfg image ≡ t
   pub parts-fit : Fitting cfg headerPart (recordsOf cfg image) usedPart
   parts-fit = record {
     header-long = length-take-le headerLength image (let l = length-is in omega arith);
-    records-long = length-take-le (recordWidth * events cfg) (drop headerLength image) (let l = length-is in omega (arith, length-drop headerLength image));
+    records-long =
+        length-take-le (recordWidth * events cfg) (drop headerLength image)
+        (let l = length-is in omega (arith, length-drop headerLength image));
     used-long = used-is ∙ ap (bytesInUse (entryFrames cfg)) (sym same-count);
     few = let e = same-count in let h = few-in in omega arith;
   }
@@ -155,7 +179,9 @@ module _ (cfg : Configuration) (image : List ℕ) (ok : lengthOk cfg image ≡ t
       let t = config-tells cfg accepted in
       let l = length-is in
       let h = few-in in
-      let u = used-most (entryFrames cfg) (entryCount (afterRecords cfg image)) (t .payload-most) (omega (arith, t .M-most)) in
+      let u =
+      used-most (entryFrames cfg) (entryCount (afterRecords cfg image)) (t .payload-most)
+      (omega (arith, t .M-most)) in
       omega (arith, t .n-most)
 
   pub parts-joined : joined headerPart (recordsOf cfg image) usedPart flagByte ≡ image

@@ -1,5 +1,5 @@
--- The statements of `save` and `restore` allow one outcome only: one result, and of each block or room that the call may write one
--- content, to the last byte.
+-- The statements of `save` and `restore` allow one outcome only: one result, and of each block or room that the call
+-- may write one content, to the last byte.
 use mathlib.Core.Path.{_≡_, ap}
 use mathlib.Core.List.{List, []}
 use Prim.Native.Nat.{ℕ}
@@ -20,8 +20,11 @@ module _ (cfg : Configuration) (s : State) where
       → (r ≡ r′) × (room ≡ room′)
   one-save before r r′ room room′ p q = (same-length r r′ p q, ap (λ (b : Beside). b .room) (same-beside p q))
 
-  pub one-restore : (image : List ℕ) (r r′ : Returned) (records records′ : List ℕ) (debounce debounce′ : List ℤ) (memory memory′ : List ℕ)
+  pub one-restore : (image : List ℕ) (r r′ : Returned) (records records′ : List ℕ) (debounce debounce′ : List ℤ)
+      (memory memory′ : List ℕ)
       → leaves (ofAnswer (r .answer)) [] alone (lent records debounce memory (r .board)) ≡ restore cfg image alone s
-      → leaves (ofAnswer (r′ .answer)) [] alone (lent records′ debounce′ memory′ (r′ .board)) ≡ restore cfg image alone s
+      → leaves (ofAnswer (r′ .answer)) [] alone (lent records′ debounce′ memory′ (r′ .board))
+      ≡ restore cfg image alone s
       → (r ≡ r′) × ((records ≡ records′) × ((debounce ≡ debounce′) × (memory ≡ memory′)))
-  one-restore image r r′ records records′ debounce debounce′ memory memory′ p q = (same-returned r r′ p q, same-blocks p q)
+  one-restore image r r′ records records′ debounce debounce′ memory memory′ p q =
+      (same-returned r r′ p q, same-blocks p q)

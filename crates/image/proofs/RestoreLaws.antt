@@ -28,7 +28,8 @@ use Rattle.writing.specs.Writing.{written, append, filled}
 use Rattle.writing.proofs.WritingLaws.{append-filled}
 use Rattle.image.specs.Layout.{memoryAt, lengthOk}
 use Rattle.image.specs.Ready.{Restorable}
-use Rattle.image.proofs.LayoutLaws.{Fitting, usedPart, flagByte, headerPart, parts-fit, parts-joined, length-least}
+use Rattle.image.proofs.LayoutLaws.{Fitting, usedPart, flagByte, headerPart}
+use Rattle.image.proofs.LayoutLaws.{parts-fit, parts-joined, length-least}
 use Rattle.image.proofs.JudgementLaws.{accepted-length, records-cut, used-cut, state-in}
 use Rattle.fresh_state.specs.Filled.{filledFrom}
 
@@ -42,15 +43,18 @@ module _ (cfg : Configuration) (image records : List ℕ) (debounce : List ℤ) 
     pub begun-accepted : configOk cfg ≡ true
     begun-accepted = begun-with-lengths cfg s true go .0
 
-    pub judged-go : {ok : Bool} → ok ≡ acceptable cfg image → ok ≡ true → 0 ≡ firstThatApplies (restoreRules cfg image s)
+    pub judged-go : {ok : Bool} → ok ≡ acceptable cfg image → ok ≡ true
+        → 0 ≡ firstThatApplies (restoreRules cfg image s)
     unfolding restoreRules firstThatApplies
     judged-go p q = sym (after-lengths-go cfg s true ((8 if not (acceptable cfg image)) ∷ []) go ∙ rw (← p, q))
 
-    pub judged-bad : {ok : Bool} → ok ≡ acceptable cfg image → ok ≡ false → numberOf BadImage ≡ firstThatApplies (restoreRules cfg image s)
+    pub judged-bad : {ok : Bool} → ok ≡ acceptable cfg image → ok ≡ false
+        → numberOf BadImage ≡ firstThatApplies (restoreRules cfg image s)
     unfolding restoreRules firstThatApplies
     judged-bad p q = sym (after-lengths-go cfg s true ((8 if not (acceptable cfg image)) ∷ []) go ∙ rw (← p, q))
 
-  pub judged-stop : (r : Refusal) → numberOf r ≡ firstThatApplies (beginsWithLengths cfg s true []) → numberOf r ≡ firstThatApplies (restoreRules cfg image s)
+  pub judged-stop : (r : Refusal) → numberOf r ≡ firstThatApplies (beginsWithLengths cfg s true [])
+      → numberOf r ≡ firstThatApplies (restoreRules cfg image s)
   unfolding restoreRules
   judged-stop r e = sym (after-lengths-stop cfg s true _ r e)
 
@@ -82,14 +86,17 @@ whole-written xs block h e =
     ∙ append-nil xs
 
 -- a body at the front of a block, and bytes 0 behind it
-pub front-written : (xs block : List ℕ) {next : ℕ} {between after : List ℕ} → length xs ≤ length block → written next between ≡ append xs (written 0 block)
+pub front-written : (xs block : List ℕ) {next : ℕ} {between after : List ℕ} → length xs ≤ length block
+    → written next between ≡ append xs (written 0 block)
     → after ≡ filledFrom 0 next between → after ≡ xs ++ replicate (length block - length xs) 0
 unfolding filled filledFrom
 front-written xs block h e q =
     let w = e ∙ append-filled xs block h in
     q
     ∙ ap (λ (w : writing.Written). take (w .next) (w .room) ++ replicate (length (w .room) - w .next) 0) w
-    ∙ (λ i. take-at xs (drop (length xs) block) (length xs) refl i ++ replicate (ap (λ (k : ℕ). k - length xs) long i) 0)
+    ∙
+    (λ i. take-at xs (drop (length xs) block) (length xs) refl i
+    ++ replicate (ap (λ (k : ℕ). k - length xs) long i) 0)
   where
     long : length (xs ++ drop (length xs) block) ≡ length block
     long = simp (length-append, length-drop) (omega arith)
@@ -112,7 +119,14 @@ module _ (cfg : Configuration) (records : List ℕ) (debounce : List ℤ) (memor
   pub used-fits : length (take (length image - 1 - start) (drop start image)) ≤ length memory
   used-fits =
       let w = entryWidth (entryFrames cfg) in
-      omega (arith, ap length (used-cut cfg image right-length at), fits .used-long, mul-le-mul-left w (fits .few), mul-comm (places cfg) w, r .memory-fits)
+      omega (
+        arith,
+        ap length (used-cut cfg image right-length at),
+        fits .used-long,
+        mul-le-mul-left w (fits .few),
+        mul-comm (places cfg) w,
+        r .memory-fits,
+      )
 
   behind-long : length memory - length used ≡ entryWidth (entryFrames cfg) * (places cfg - entryCount used)
   behind-long =
@@ -124,7 +138,9 @@ module _ (cfg : Configuration) (records : List ℕ) (debounce : List ℤ) (memor
   pub restored-is : {records′ memory′ : List ℕ} {debounce′ : List ℤ} {board′ : Board} {next : ℕ}
       → written next records′ ≡ append (take (start - headerLength) (drop headerLength image)) (written 0 records)
       → debounce′ ≡ replicate (length debounce) (pos 0)
-      → memory′ ≡ take (length image - 1 - start) (drop start image) ++ replicate (length memory - length (take (length image - 1 - start) (drop start image))) 0
+      → memory′
+      ≡ take (length image - 1 - start) (drop start image)
+      ++ replicate (length memory - length (take (length image - 1 - start) (drop start image))) 0
       → board′ ≡ record { running = allStopped; overflow = eqb (getD image (length image - 1) 0) 1 }
       → lent records′ debounce′ memory′ board′ ≡ stateOf cfg image
   restored-is {records′} {memory′} {debounce′} {board′} p d m b =
@@ -132,7 +148,11 @@ module _ (cfg : Configuration) (records : List ℕ) (debounce : List ℤ) (memor
       let body = p ∙ ap (λ (l : List ℕ). append l (written 0 records)) (records-cut cfg image right-length at) in
       let records-are = whole-written (recordsOf cfg image) records (fits .records-long ∙ sym (r .records-fit)) body in
       let numbers-are = d ∙ ap (λ (k : ℕ). replicate k (pos 0)) (r .debounce-fits) in
-      let memory-is = m ∙ (λ i. cut i ++ replicate (length memory - length (cut i)) 0) ∙ ap (λ (k : ℕ). used ++ replicate k 0) behind-long in
+      let memory-is =
+      m ∙ (λ i. cut i ++ replicate (length memory - length (cut i)) 0)
+      ∙ ap (λ (k : ℕ). used ++ replicate k 0) behind-long in
       (λ i. lent (records-are i) (numbers-are i) (memory-is i) (b i))
-      ∙ sym (state-in cfg (headerPart cfg image right-length) (recordsOf cfg image) used (flagByte cfg image right-length) fits)
+      ∙ sym
+      (state-in cfg (headerPart cfg image right-length) (recordsOf cfg image) used (flagByte cfg image right-length)
+      fits)
       ∙ ap (stateOf cfg) (parts-joined cfg image right-length)

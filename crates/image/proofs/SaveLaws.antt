@@ -33,7 +33,8 @@ use Rattle.image.specs.Ready.{Counted, Savable}
 -- ---- the judge
 
 -- "any cycle running", of the four
-pub any-of-four : (l : List Bool) → length l ≡ 4 → getD l 0 false || getD l 1 false || getD l 2 false || getD l 3 false ≡ anyOf (λ r. r) l
+pub any-of-four : (l : List Bool) → length l ≡ 4
+    → getD l 0 false || getD l 1 false || getD l 2 false || getD l 3 false ≡ anyOf (λ r. r) l
 any-of-four [] e = absurd (omega arith)
 any-of-four (a ∷ []) e = absurd (omega arith)
 any-of-four (a ∷ b ∷ []) e = absurd (omega arith)
@@ -61,18 +62,25 @@ module _ (cfg : Configuration) (records memory : List ℕ) (r : Savable cfg reco
   pub size-most : headerLength + length records + used ≤ 4309
   size-most =
       let t = config-tells cfg (r .accepted) in
-      omega (arith, r .records-fit, t .n-most, used-most (entryFrames cfg) (entryCount memory) (t .payload-most) (omega (arith, r .few, t .M-most)))
+      omega (
+        arith,
+        r .records-fit,
+        t .n-most,
+        used-most (entryFrames cfg) (entryCount memory) (t .payload-most) (omega (arith, r .few, t .M-most)),
+      )
 
   -- the bodies that are written are those of the state
   module _ {u : ℕ} (e : u ≡ used) where
     pub cut-long : u ≡ length (take u memory)
     cut-long = e ∙ sym used-long ∙ ap (λ (k : ℕ). length (take k memory)) (sym e)
 
-    pub image-is : (d : List ℤ) (b : Board) → imageFrom records (take u memory) (cond (b .overflow) 1 0 ∷ []) ≡ imageOf cfg (lent records d memory b)
+    pub image-is : (d : List ℤ) (b : Board)
+        → imageFrom records (take u memory) (cond (b .overflow) 1 0 ∷ []) ≡ imageOf cfg (lent records d memory b)
     unfolding imageOf
     image-is d b = ap (λ (k : ℕ). imageFrom records (take k memory) (cond (b .overflow) 1 0 ∷ [])) e
 
-  pub image-length : (d : List ℤ) (b : Board) → length (imageOf cfg (lent records d memory b)) ≡ headerLength + length records + used + 1
+  pub image-length : (d : List ℤ) (b : Board)
+      → length (imageOf cfg (lent records d memory b)) ≡ headerLength + length records + used + 1
   unfolding imageOf imageFrom
   image-length d b = simp length-append (let l = used-long in omega arith)
 
@@ -90,11 +98,14 @@ module _ (cfg : Configuration) (room records : List ℕ) (debounce : List ℤ) (
     begun-savable = let (c, w) = begun cfg s true go in savable c w
 
     pub judged-on : {running : Bool} {size : ℕ} → running ≡ anyRuns b → size ≡ length (imageOf cfg s)
-        → firstThatApplies ((5 if running) ∷ (7 if ltb (length room) size) ∷ []) ≡ firstThatApplies (saveRules cfg (lentRoom room) s)
+        → firstThatApplies ((5 if running) ∷ (7 if ltb (length room) size) ∷ [])
+        ≡ firstThatApplies (saveRules cfg (lentRoom room) s)
     unfolding saveRules
-    judged-on p q = (λ i. firstThatApplies ((5 if p i) ∷ (7 if ltb (length room) (q i)) ∷ [])) ∙ sym (after-go cfg s true _ go)
+    judged-on p q =
+        (λ i. firstThatApplies ((5 if p i) ∷ (7 if ltb (length room) (q i)) ∷ [])) ∙ sym (after-go cfg s true _ go)
 
-  pub judged-stop : (r : Refusal) → numberOf r ≡ firstThatApplies (begins cfg s true []) → numberOf r ≡ firstThatApplies (saveRules cfg (lentRoom room) s)
+  pub judged-stop : (r : Refusal) → numberOf r ≡ firstThatApplies (begins cfg s true [])
+      → numberOf r ≡ firstThatApplies (saveRules cfg (lentRoom room) s)
   unfolding saveRules
   judged-stop r e = sym (after-stop cfg s true _ r e)
 
@@ -103,7 +114,9 @@ module _ (cfg : Configuration) (room records : List ℕ) (debounce : List ℤ) (
   module _ (z : firstThatApplies (saveRules cfg (lentRoom room) s) ≡ 0) where
     pub save-ready : Savable cfg records memory
     unfolding saveRules
-    save-ready = let none = none-applies _ z refl in savable (not-false (configOk cfg) (none 0)) (not-false (wellFormed cfg s) (none 1))
+    save-ready =
+        let none = none-applies _ z refl in savable (not-false (configOk cfg) (none 0))
+        (not-false (wellFormed cfg s) (none 1))
 
     pub save-room : headerLength + length records + bytesInUse (entryFrames cfg) (entryCount memory) + 1 ≤ length room
     unfolding saveRules
@@ -120,7 +133,8 @@ module _ (cfg : Configuration) (room records : List ℕ) (debounce : List ℤ) (
 
 -- ---- the bodies one after the other
 
-module _ (records used room : List ℕ) (flag : ℕ) (h : headerLength + length records + length used + 1 ≤ length room) where
+module _ (records used room : List ℕ) (flag : ℕ)
+    (h : headerLength + length records + length used + 1 ≤ length room) where
   abbrev top : List ℕ
   top = header (length records) (length used) 1
 

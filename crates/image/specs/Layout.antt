@@ -1,5 +1,5 @@
--- Document 01, "Saved image": where the bodies lie in an image, by the configuration and the entry count in it, and how it is judged.
--- Assumes nothing.
+-- Document 01, "Saved image": where the bodies lie in an image, by the configuration and the entry count in it, and how
+-- it is judged. Assumes nothing.
 use mathlib.Core.Bool.{Bool, _&&_}
 use mathlib.Core.List.{List}
 use Prim.Native.Nat.{ℕ, _+_, _*_}
@@ -20,8 +20,11 @@ module _ (cfg : Configuration) where
 
   -- at most M entries, and an image as long as these make it: body 3 is one byte, and nothing follows it
   unfoldable pub lengthOk : List ℕ → Bool
-  lengthOk image = leb (entryCount (afterRecords cfg image)) (places cfg) && eqb (length image) (memoryAt + usedIn cfg image + 1)
+  lengthOk image =
+      leb (entryCount (afterRecords cfg image)) (places cfg) && eqb (length image) (memoryAt + usedIn cfg image + 1)
 
   -- bodies 1 and 2 are as a well-formed state has its records and its entries
   unfoldable pub bodiesOk : List ℕ → List ℕ → Bool
-  bodiesOk records used = allBelow (events cfg) (λ e. recordOk cfg e (opened (storedAt e records))) && usedOk (events cfg) (places cfg) (entryFrames cfg) records used
+  bodiesOk records used =
+      allBelow (events cfg) (λ e. recordOk cfg e (opened (storedAt e records)))
+      && usedOk (events cfg) (places cfg) (entryFrames cfg) records used

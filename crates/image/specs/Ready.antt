@@ -1,4 +1,5 @@
--- What reading an entry count asks for, and what the work of save and of restore asks of a judge that passed. Assumes nothing.
+-- What reading an entry count asks for, and what the work of save and of restore asks of a judge that passed. Assumes
+-- nothing.
 use mathlib.Core.Path.{_≡_}
 use mathlib.Core.Bool.{true}
 use mathlib.Core.List.{List}
@@ -24,7 +25,8 @@ pub record Savable (cfg : Configuration) (records memory : List ℕ) : Type 0 wh
   pub few : entryCount memory ≤ places cfg
 
 -- blocks that fit the configuration, and an image that is accepted
-pub record Restorable (cfg : Configuration) (records : List ℕ) (debounce : List ℤ) (memory image : List ℕ) : Type 0 where
+pub record Restorable (cfg : Configuration) (records : List ℕ) (debounce : List ℤ) (memory image : List ℕ)
+    : Type 0 where
   pub accepted : configOk cfg ≡ true
   pub records-fit : length records ≡ recordWidth * events cfg
   pub debounce-fits : length debounce ≡ events cfg

@@ -17,7 +17,8 @@ ghost use Rattle.manual.specs.Configuration.{entryFrames, configOk};
 ghost use Rattle.manual.specs.State.{lent};
 ghost use Rattle.manual.specs.Memory.{entryCount, bytesInUse};
 ghost use Rattle.manual.specs.Answers.{alone, lentRoom, _if_, firstThatApplies, ofAnswer, ofLength, leaves};
-ghost use Rattle.manual.specs.Image.{headerLength, header, imageFrom, imageOf, stateOf, acceptable, anyRuns, saveRules, save, restoreRules, restore};
+ghost use Rattle.manual.specs.Image.{headerLength, header, imageFrom, imageOf, stateOf, acceptable};
+ghost use Rattle.manual.specs.Image.{anyRuns, saveRules, save, restoreRules, restore};
 ghost use Rattle.judgement.specs.Checks.{checkNumber};
 ghost use Rattle.judgement.specs.Fits.{RecordsFor};
 ghost use Rattle.writing.specs.Writing.{written, filled};
@@ -42,8 +43,8 @@ const KIND_OVERFLOW: u8 = 3;
 
 const OVERFLOW_LENGTH: usize = 1;
 
-// The header of bodies of these lengths and the overflow flag: after the two bytes a row for each body, "kind …, 0, offset (2), length
-// (2)". "Numbers are high byte first", "Bodies follow without gaps".
+// The header of bodies of these lengths and the overflow flag: after the two bytes a row for each body, "kind …, 0,
+// offset (2), length (2)". "Numbers are high byte first", "Bodies follow without gaps".
 fn header(records: usize, memory: usize) -> [u8; HEADER_LENGTH]
     requires { ⌜ headerLength + records + memory < 65536 ⌝ }
     ensures { λ r. ⌜ r ≡ header records memory 1 ⌝ }
@@ -143,7 +144,8 @@ fn bodies_ok(cfg: &[i32], records: &[u8], used: &[u8]) -> bool
     judgement::records_ok(cfg, records) & memory::entries_ok(n, m, f, used, records)
 }
 
-// "Restore accepts exactly the images of well-formed states with all cycles stopped". Any bytes may be judged, of any number.
+// "Restore accepts exactly the images of well-formed states with all cycles stopped". Any bytes may be judged, of any
+// number.
 fn image_ok(cfg: &[i32], image: &[u8]) -> bool
     requires { ⌜ configOk (now cfg) ≡ true ⌝ }
     ensures { λ r. ⌜ r ≡ acceptable (now (cfg .entry)) (now (image .entry)) ⌝ }
@@ -172,7 +174,8 @@ fn any_runs(board: Board) -> bool
 // The length of the image of a state with these records and this memory.
 fn image_length(cfg: &[i32], records: &[u8], memory: &[u8]) -> usize
     requires { ⌜ Savable (now cfg) (now records) (now memory) ⌝ }
-    ensures { λ r. ⌜ ((d : List ℤ) (b : Board) → r ≡ length (imageOf (now (cfg .entry)) (lent (now (records .entry)) d (now (memory .entry)) b))) ⌝ }
+    ensures { λ r. ⌜ ((d : List ℤ) (b : Board)
+        → r ≡ length (imageOf (now (cfg .entry)) (lent (now (records .entry)) d (now (memory .entry)) b))) ⌝ }
 {
     HEADER_LENGTH + records.len() + used_length(cfg, memory) + OVERFLOW_LENGTH
 }
@@ -200,7 +203,9 @@ fn judge_save(
     room: &[u8],
 ) -> Check
     ensures { λ r. ⌜ checkNumber r
-        ≡ firstThatApplies (saveRules (now (cfg .entry)) (lentRoom (now (room .entry))) (lent (now (records .entry)) (now (debounce .entry)) (now (memory .entry)) board)) ⌝ }
+        ≡ firstThatApplies
+        (saveRules (now (cfg .entry)) (lentRoom (now (room .entry)))
+        (lent (now (records .entry)) (now (debounce .entry)) (now (memory .entry)) board)) ⌝ }
 {
     match judgement::begin(cfg, records, debounce, memory, board, true) {
         Check::Go => {
@@ -228,16 +233,20 @@ fn write_image(records: &[u8], used: &[u8], overflow: bool, room: &mut [u8]) -> 
 // Writes the image of the state with these records, this memory and this overflow flag, and answers its length.
 fn accept_save(cfg: &[i32], records: &[u8], memory: &[u8], overflow: bool, room: &mut [u8]) -> usize
     requires { ⌜ (Savable (now cfg) (now records) (now memory))
-        × (headerLength + length (now records) + bytesInUse (entryFrames (now cfg)) (entryCount (now memory)) + 1 ≤ length (now room)) ⌝ }
+        × (headerLength + length (now records) + bytesInUse (entryFrames (now cfg)) (entryCount (now memory)) + 1
+        ≤ length (now room)) ⌝ }
     ensures { λ r. ⌜ ((d : List ℤ) (running : List Bool) → written r (now (room .exit))
-        ≡ filled (imageOf (now (cfg .entry)) (lent (now (records .entry)) d (now (memory .entry)) (record { running = running; overflow = overflow }))) (now (room .entry))) ⌝ }
+        ≡ filled
+        (imageOf (now (cfg .entry))
+        (lent (now (records .entry)) d (now (memory .entry)) (record { running = running; overflow = overflow })))
+        (now (room .entry))) ⌝ }
 {
     let used = used_length(cfg, memory);
     write_image(records, &memory[..used], overflow, room)
 }
 
-// Save: 2, 3, 5 (any cycle running), 7 (the room is smaller than the image). "Save writes the image, no more, and answers its length."
-// A refusal leaves the room as it was, and its length is 0.
+// Save: 2, 3, 5 (any cycle running), 7 (the room is smaller than the image). "Save writes the image, no more, and
+// answers its length." A refusal leaves the room as it was, and its length is 0.
 pub fn save(
     cfg: &[i32],
     records: &[u8],
@@ -246,8 +255,10 @@ pub fn save(
     board: Board,
     room: &mut [u8],
 ) -> LengthAnswer
-    ensures { λ r. ⌜ leaves (ofLength r) [] (lentRoom (now (room .exit))) (lent (now (records .entry)) (now (debounce .entry)) (now (memory .entry)) board)
-        ≡ save (now (cfg .entry)) (lentRoom (now (room .entry))) (lent (now (records .entry)) (now (debounce .entry)) (now (memory .entry)) board) ⌝ }
+    ensures { λ r. ⌜ leaves (ofLength r) [] (lentRoom (now (room .exit)))
+        (lent (now (records .entry)) (now (debounce .entry)) (now (memory .entry)) board)
+        ≡ save (now (cfg .entry)) (lentRoom (now (room .entry)))
+        (lent (now (records .entry)) (now (debounce .entry)) (now (memory .entry)) board) ⌝ }
 {
     match judge_save(cfg, records, debounce, memory, board, room) {
         Check::Go => {
@@ -268,7 +279,9 @@ fn judge_restore(
     image: &[u8],
 ) -> Check
     ensures { λ r. ⌜ ((b : Board) → checkNumber r
-        ≡ firstThatApplies (restoreRules (now (cfg .entry)) (now (image .entry)) (lent (now (records .entry)) (now (debounce .entry)) (now (memory .entry)) b))) ⌝ }
+        ≡ firstThatApplies
+        (restoreRules (now (cfg .entry)) (now (image .entry))
+        (lent (now (records .entry)) (now (debounce .entry)) (now (memory .entry)) b))) ⌝ }
 {
     match judgement::begin_with_lengths(cfg, records, debounce, memory, true) {
         Check::Go => {
@@ -284,7 +297,8 @@ fn judge_restore(
 // Memory of these bytes in use: "the bytes after the last entry are 0".
 fn fill_memory(memory: &mut [u8], used: &[u8])
     requires { ⌜ length (now used) ≤ length (now memory) ⌝ }
-    ensures { λ _. ⌜ now (memory .exit) ≡ now (used .entry) ++ replicate (length (now (memory .entry)) - length (now (used .entry))) 0 ⌝ }
+    ensures { λ _. ⌜ now (memory .exit)
+        ≡ now (used .entry) ++ replicate (length (now (memory .entry)) - length (now (used .entry))) 0 ⌝ }
 {
     let end = writing::write(memory, 0, used);
     fresh_state::zero_from(memory, end);
@@ -299,7 +313,8 @@ fn accept_restore(
     image: &[u8],
 ) -> Board
     requires { ⌜ Restorable (now cfg) (now records) (now debounce) (now memory) (now image) ⌝ }
-    ensures { λ r. ⌜ lent (now (records .exit)) (now (debounce .exit)) (now (memory .exit)) r ≡ stateOf (now (cfg .entry)) (now (image .entry)) ⌝ }
+    ensures { λ r. ⌜ lent (now (records .exit)) (now (debounce .exit)) (now (memory .exit)) r
+        ≡ stateOf (now (cfg .entry)) (now (image .entry)) ⌝ }
 {
     let start = memory_at(cfg);
     let end = image.len() - OVERFLOW_LENGTH;
@@ -309,8 +324,9 @@ fn accept_restore(
     fresh_state::stopped_board(image[end] == 1)
 }
 
-// Restore: 2, 3 (lengths only), 8. "Restore accepts exactly the images of well-formed states with all cycles stopped, and makes that
-// state." The image is judged whole before anything is written; a refusal changes nothing and hands back the board it was given.
+// Restore: 2, 3 (lengths only), 8. "Restore accepts exactly the images of well-formed states with all cycles stopped,
+// and makes that state." The image is judged whole before anything is written; a refusal changes nothing and hands back
+// the board it was given.
 pub fn restore(
     cfg: &[i32],
     records: &mut [u8],
@@ -319,8 +335,10 @@ pub fn restore(
     board: Board,
     image: &[u8],
 ) -> Returned
-    ensures { λ r. ⌜ leaves (ofAnswer (r .answer)) [] alone (lent (now (records .exit)) (now (debounce .exit)) (now (memory .exit)) (r .board))
-        ≡ restore (now (cfg .entry)) (now (image .entry)) alone (lent (now (records .entry)) (now (debounce .entry)) (now (memory .entry)) board) ⌝ }
+    ensures { λ r. ⌜ leaves (ofAnswer (r .answer)) [] alone
+        (lent (now (records .exit)) (now (debounce .exit)) (now (memory .exit)) (r .board))
+        ≡ restore (now (cfg .entry)) (now (image .entry)) alone
+        (lent (now (records .entry)) (now (debounce .entry)) (now (memory .entry)) board) ⌝ }
 {
     match judge_restore(cfg, records, debounce, memory, image) {
         Check::Go => {

@@ -16,14 +16,17 @@ use Rattle.judgement.proofs.BeginLaws.{begun, after-go, after-stop}
 
 -- ---- the check that a call begins with, and what its judge then answers
 
-module _ (cfg : Configuration) (s : State) (fits : Bool) {check : Check} (e : checkNumber check ≡ firstThatApplies (begins cfg s fits [])) where
+module _ (cfg : Configuration) (s : State) (fits : Bool) {check : Check}
+    (e : checkNumber check ≡ firstThatApplies (begins cfg s fits [])) where
   pub begun-by : check ≡ Go → configOk cfg ≡ true
   begun-by g = begun cfg s fits (sym e ∙ ap checkNumber g) .0
 
-  pub judged-by : (rules : List Rule) → check ≡ Go → {number : ℕ} → number ≡ firstThatApplies rules → number ≡ firstThatApplies (begins cfg s fits rules)
+  pub judged-by : (rules : List Rule) → check ≡ Go → {number : ℕ} → number ≡ firstThatApplies rules
+      → number ≡ firstThatApplies (begins cfg s fits rules)
   judged-by rules g p = p ∙ sym (after-go cfg s fits rules (sym e ∙ ap checkNumber g))
 
-  pub stopped-by : (rules : List Rule) (r : Refusal) → check ≡ Stop r → numberOf r ≡ firstThatApplies (begins cfg s fits rules)
+  pub stopped-by : (rules : List Rule) (r : Refusal) → check ≡ Stop r
+      → numberOf r ≡ firstThatApplies (begins cfg s fits rules)
   stopped-by rules r g = sym (after-stop cfg s fits rules r (sym (ap checkNumber g) ∙ e))
 
 -- ---- the judge's answer, and what the call then leaves

@@ -26,18 +26,29 @@ numbersAre cfg b debounce = allBelow (events cfg) (λ e. DOk cfg b e (getD debou
 
 module _ (cfg : Configuration) (records : List ℕ) (debounce : List ℤ) (memory : List ℕ) (b : Board) where
   -- the judgement of a memory block is the manual's, with the block's length
-  pub block-is : blockOk (events cfg) (places cfg) (entryFrames cfg) records memory ≡ memoryFits cfg (lent records debounce memory b) && memoryOk cfg (lent records debounce memory b)
+  pub block-is : blockOk (events cfg) (places cfg) (entryFrames cfg) records memory
+      ≡ memoryFits cfg (lent records debounce memory b) && memoryOk cfg (lent records debounce memory b)
   unfolding blockOk memoryOk holds storedAt
   block-is = refl
 
-  pub not-fitting : lengthsFit cfg (lent records debounce memory b) ≡ false → wellFormed cfg (lent records debounce memory b) ≡ false
+  pub not-fitting : lengthsFit cfg (lent records debounce memory b) ≡ false
+      → wellFormed cfg (lent records debounce memory b) ≡ false
   unfolding wellFormed holds
   not-fitting l = rw l
 
   pub judged-in-passes : lengthsFit cfg (lent records debounce memory b) ≡ true
-      → recordsAre cfg records && numbersAre cfg b debounce && blockOk (events cfg) (places cfg) (entryFrames cfg) records memory ≡ wellFormed cfg (lent records debounce memory b)
+      → recordsAre cfg records && numbersAre cfg b debounce
+      && blockOk (events cfg) (places cfg) (entryFrames cfg) records memory
+      ≡ wellFormed cfg (lent records debounce memory b)
   unfolding wellFormed holds
   judged-in-passes l =
       let s = lent records debounce memory b in
       let fits : memoryFits cfg s ≡ true = eq-eqb _ _ (lengths-tell cfg s l .memory) in
-      rw (block-is, fits, l, all-both (events cfg) (λ e. recordOk cfg e (opened (storedAt e records))) (λ e. DOk cfg b e (getD debounce e (pos 0))), and-true)
+      rw (
+        block-is,
+        fits,
+        l,
+        all-both (events cfg) (λ e. recordOk cfg e (opened (storedAt e records)))
+            (λ e. DOk cfg b e (getD debounce e (pos 0))),
+        and-true,
+      )

@@ -1,4 +1,5 @@
--- What the judgement of one part of a state asks of a caller: an accepted configuration, and a part that fits it. Assumes nothing.
+-- What the judgement of one part of a state asks of a caller: an accepted configuration, and a part that fits it.
+-- Assumes nothing.
 use mathlib.Core.Path.{_≡_}
 use mathlib.Core.Bool.{true}
 use mathlib.Core.List.{List}

@@ -39,7 +39,10 @@ pub fn runs(board: Board, cycle: usize) -> bool
 // "all lengths fit"
 pub fn lengths_fit(cfg: &[i32], records: &[u8], debounce: &[i32], memory: &[u8]) -> bool
     requires { ⌜ configOk (now cfg) ≡ true ⌝ }
-    ensures { λ r. ⌜ ((b : Board) → r ≡ lengthsFit (now (cfg .entry)) (lent (now (records .entry)) (now (debounce .entry)) (now (memory .entry)) b)) ⌝ }
+    ensures { λ r. ⌜ ((b : Board)
+        → r
+        ≡ lengthsFit (now (cfg .entry))
+        (lent (now (records .entry)) (now (debounce .entry)) (now (memory .entry)) b)) ⌝ }
 {
     let n = config::events(cfg);
     let memory_length = memory::memory_length(config::places(cfg), memory::entry_frames(cfg));
@@ -51,7 +54,8 @@ pub fn lengths_fit(cfg: &[i32], records: &[u8], debounce: &[i32], memory: &[u8])
 // The event's record, by the clauses from "bit 4 set means …" to "… g = 0 when bit 3 is clear".
 fn record_ok(cfg: &[i32], records: &[u8], event: EventNumber) -> bool
     requires { ⌜ (event .0 < mostEvents) × (recordWidth * event .0 + recordWidth ≤ length (now records)) ⌝ }
-    ensures { λ r. ⌜ r ≡ recordOk (now (cfg .entry)) (event .0) (opened (storedAt (event .0) (now (records .entry)))) ⌝ }
+    ensures { λ r. ⌜ r
+        ≡ recordOk (now (cfg .entry)) (event .0) (opened (storedAt (event .0) (now (records .entry)))) ⌝ }
 {
     let limits = config::limits_of(cfg, event);
     let record = status::read_record(records, event);
@@ -61,7 +65,9 @@ fn record_ok(cfg: &[i32], records: &[u8], event: EventNumber) -> bool
 // "for each event": the clauses on its record.
 pub fn records_ok(cfg: &[i32], records: &[u8]) -> bool
     requires { ⌜ RecordsFor (now cfg) (now records) ⌝ }
-    ensures { λ r. ⌜ r ≡ allBelow (events (now (cfg .entry))) (λ e. recordOk (now (cfg .entry)) e (opened (storedAt e (now (records .entry))))) ⌝ }
+    ensures { λ r. ⌜ r
+        ≡ allBelow (events (now (cfg .entry)))
+        (λ e. recordOk (now (cfg .entry)) e (opened (storedAt e (now (records .entry))))) ⌝ }
 {
     let mut ok = true;
     for event in 0..config::events(cfg) {
@@ -70,7 +76,8 @@ pub fn records_ok(cfg: &[i32], records: &[u8]) -> bool
     ok
 }
 
-// "D is 0 if the event's cycle is stopped or its kind is 0, else in P..Q (kind 1) or P−1..Q+1 (kind 2)". Any number may be judged.
+// "D is 0 if the event's cycle is stopped or its kind is 0, else in P..Q (kind 1) or P−1..Q+1 (kind 2)". Any number may
+// be judged.
 pub fn number_ok(cfg: &[i32], board: Board, event: EventNumber, d: i32) -> bool
     requires { ⌜ EventIn (now cfg) (event .0) ⌝ }
     ensures { λ r. ⌜ r ≡ DOk (now (cfg .entry)) board (event .0) d ⌝ }
@@ -86,7 +93,9 @@ pub fn number_ok(cfg: &[i32], board: Board, event: EventNumber, d: i32) -> bool
 // "for each event": the clause on its debounce number.
 pub fn numbers_ok(cfg: &[i32], board: Board, debounce: &[i32]) -> bool
     requires { ⌜ NumbersFor (now cfg) (now debounce) ⌝ }
-    ensures { λ r. ⌜ r ≡ allBelow (events (now (cfg .entry))) (λ e. DOk (now (cfg .entry)) board e (getD (now (debounce .entry)) e (pos 0))) ⌝ }
+    ensures { λ r. ⌜ r
+        ≡ allBelow (events (now (cfg .entry)))
+        (λ e. DOk (now (cfg .entry)) board e (getD (now (debounce .entry)) e (pos 0))) ⌝ }
 {
     let mut ok = true;
     for event in 0..config::events(cfg) {
@@ -96,8 +105,8 @@ pub fn numbers_ok(cfg: &[i32], board: Board, debounce: &[i32]) -> bool
     ok
 }
 
-// Whether the state is well formed, whatever its blocks hold and however long they are: "all lengths fit", then "for each event", then
-// "Memory has at most M entries, …".
+// Whether the state is well formed, whatever its blocks hold and however long they are: "all lengths fit", then "for
+// each event", then "Memory has at most M entries, …".
 pub fn well_formed(
     cfg: &[i32],
     records: &[u8],
@@ -106,7 +115,9 @@ pub fn well_formed(
     board: Board,
 ) -> bool
     requires { ⌜ configOk (now cfg) ≡ true ⌝ }
-    ensures { λ r. ⌜ r ≡ wellFormed (now (cfg .entry)) (lent (now (records .entry)) (now (debounce .entry)) (now (memory .entry)) board) ⌝ }
+    ensures { λ r. ⌜ r
+        ≡ wellFormed (now (cfg .entry))
+        (lent (now (records .entry)) (now (debounce .entry)) (now (memory .entry)) board) ⌝ }
 {
     if !lengths_fit(cfg, records, debounce, memory) {
         return false;
@@ -143,7 +154,10 @@ pub fn begin(
     board: Board,
     fits: bool,
 ) -> Check
-    ensures { λ r. ⌜ checkNumber r ≡ firstThatApplies (begins (now (cfg .entry)) (lent (now (records .entry)) (now (debounce .entry)) (now (memory .entry)) board) fits []) ⌝ }
+    ensures { λ r. ⌜ checkNumber r
+        ≡ firstThatApplies
+        (begins (now (cfg .entry)) (lent (now (records .entry)) (now (debounce .entry)) (now (memory .entry)) board)
+        fits []) ⌝ }
 {
     let config_ok = config::config_ok(cfg);
     let state_ok = config_ok && well_formed(cfg, records, debounce, memory, board);
@@ -158,7 +172,11 @@ pub fn begin_with_lengths(
     memory: &[u8],
     fits: bool,
 ) -> Check
-    ensures { λ r. ⌜ ((b : Board) → checkNumber r ≡ firstThatApplies (beginsWithLengths (now (cfg .entry)) (lent (now (records .entry)) (now (debounce .entry)) (now (memory .entry)) b) fits [])) ⌝ }
+    ensures { λ r. ⌜ ((b : Board)
+        → checkNumber r
+        ≡ firstThatApplies
+        (beginsWithLengths (now (cfg .entry))
+        (lent (now (records .entry)) (now (debounce .entry)) (now (memory .entry)) b) fits [])) ⌝ }
 {
     let config_ok = config::config_ok(cfg);
     let state_ok = config_ok && lengths_fit(cfg, records, debounce, memory);

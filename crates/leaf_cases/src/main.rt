@@ -1,5 +1,5 @@
-// Runs the leaves of the manager on cases whose answers are written from document 01, and prints each case that differs, by its table
-// and its line there, and how many ran and how many differed.
+// Runs the leaves of the manager on cases whose answers are written from document 01, and prints each case that
+// differs, by its table and its line there, and how many ran and how many differed.
 use config::CodeSearch;
 use config::Limits;
 use debounce::Debounced;
@@ -132,7 +132,8 @@ fn put(cfg: &mut [i32], place: usize, number: i32) {
     }
 }
 
-// 1 where the first numbers of these are an accepted configuration, 0 where they are not, 2 where there are not so many.
+// 1 where the first numbers of these are an accepted configuration, 0 where they are not, 2 where there are not so
+// many.
 fn accepted(cfg: &[i32], len: usize) -> usize {
     if len <= cfg.len() {
         one_if(config::config_ok(&cfg[..len]))

@@ -1,7 +1,7 @@
 // The cases, with their answers written from document 01: each table is a text of numbers, a line for each case.
 
-// The table's column "allowed", each bound from both sides: the kind of the event, the place of one number, the number put there, and
-// 1 where the configuration is then accepted.
+// The table's column "allowed", each bound from both sides: the kind of the event, the place of one number, the number
+// put there, and 1 where the configuration is then accepted.
 pub const BOUNDS: [u8; 1092] = *b"
 1 0 0 0
 1 0 1 1
@@ -119,7 +119,8 @@ pub const BOUNDS: [u8; 1092] = *b"
 1 3 -999999999 0
 ";
 
-// "the length is exactly 3 + 13n": how many numbers of a configuration of one event are lent, and 1 where that is accepted.
+// "the length is exactly 3 + 13n": how many numbers of a configuration of one event are lent, and 1 where that is
+// accepted.
 pub const LENGTHS: [u8; 32] = *b"
 0 0
 1 0
@@ -130,8 +131,8 @@ pub const LENGTHS: [u8; 32] = *b"
 17 0
 ";
 
-// "strictly rising from event to event": n, how many numbers are lent, the trouble codes of the first two events, and 1 where the
-// configuration is accepted. The codes after the second are their event's number and one.
+// "strictly rising from event to event": n, how many numbers are lent, the trouble codes of the first two events, and 1
+// where the configuration is accepted. The codes after the second are their event's number and one.
 pub const CODES: [u8; 257] = *b"
 2 29 5 6 1
 2 29 5 5 0
@@ -164,8 +165,8 @@ pub const SEARCHED: [u8; 150] = *b"
 16777214 1 0 0 0 0 0 0 0 1 1 1 0
 ";
 
-// A trouble code, as its part above FFFFFFh in units of 1000000h and the rest, and the event of SEARCHED that has it; 5, the number
-// of events, where none has.
+// A trouble code, as its part above FFFFFFh in units of 1000000h and the rest, and the event of SEARCHED that has it;
+// 5, the number of events, where none has.
 pub const SEARCHES: [u8; 178] = *b"
 0 1 0
 0 5 1
@@ -188,8 +189,8 @@ pub const SEARCHES: [u8; 178] = *b"
 255 16777215 5
 ";
 
-// Reports: kind, P, Q, up, down and jumps of the event, the report's code and D; then D after it, and the verdict: 0 none, 1 passed,
-// 2 failed. E2, E3 and E11 are among them.
+// Reports: kind, P, Q, up, down and jumps of the event, the report's code and D; then D after it, and the verdict: 0
+// none, 1 passed, 2 failed. E2, E3 and E11 are among them.
 pub const REPORTS: [u8; 1895] = *b"
 0 0 0 0 0 0 0 0 0 1
 0 0 0 0 0 0 1 0 0 2
@@ -263,7 +264,8 @@ pub const REPORTS: [u8; 1895] = *b"
 2 -30000 30000 0 0 0 2 30001 -1 0
 ";
 
-// Ticks of an event of kind 2: P, Q, ms and D; then D after it, and the verdict as in REPORTS. E12's two ticks are the first.
+// Ticks of an event of kind 2: P, Q, ms and D; then D after it, and the verdict as in REPORTS. E12's two ticks are the
+// first.
 pub const TICKS: [u8; 879] = *b"
 -500 500 499 1 500 0
 -500 500 1 500 501 2
@@ -305,10 +307,11 @@ pub const TICKS: [u8; 879] = *b"
 -30000 30000 60000 -30001 -30001 0
 ";
 
-// E1 to E10 on the record of an event with C 2, H 1, A 3 and indicator 1, each case from the record that the case before leaves, the
-// first from the fresh record: the step (0 start, 1 stop, 2 passed, 3 failed, 4 clear); then the status as its eight bits, bit 7 first,
-// K, h, g, and 1 where memory is told of a fresh failure or of an event that aged.
-// E1 50h; E3 27h; E4 27h; E5 65h; E6 AFh; E7 AEh; E8 stop, start ECh; E9 passed, stop 28h, g 1; E10 start, stop, start, stop 60h.
+// E1 to E10 on the record of an event with C 2, H 1, A 3 and indicator 1, each case from the record that the case
+// before leaves, the first from the fresh record: the step (0 start, 1 stop, 2 passed, 3 failed, 4 clear); then the
+// status as its eight bits, bit 7 first, K, h, g, and 1 where memory is told of a fresh failure or of an event that
+// aged. E1 50h; E3 27h; E4 27h; E5 65h; E6 AFh; E7 AEh; E8 stop, start ECh; E9 passed, stop 28h, g 1; E10 start, stop,
+// start, stop 60h.
 pub const STORY: [u8; 267] = *b"
 0 01010000 0 0 0 0
 3 00100111 1 0 0 1
@@ -326,7 +329,8 @@ pub const STORY: [u8; 267] = *b"
 1 01100000 0 0 0 1
 ";
 
-// Single steps: C, H, A and indicator of the event, its status (bit 7 first), K, h and g; then the step and what it leaves, as in STORY.
+// Single steps: C, H, A and indicator of the event, its status (bit 7 first), K, h and g; then the step and what it
+// leaves, as in STORY.
 pub const STEPS: [u8; 1467] = *b"
 2 1 3 1 01010000 0 0 0 2 00000000 0 0 0 0
 2 1 3 1 00100111 1 0 0 2 00100110 1 0 0 0
@@ -364,8 +368,8 @@ pub const STEPS: [u8; 1467] = *b"
 2 3 5 1 10101000 0 1 2 4 01010000 0 0 0 0
 ";
 
-// "A state is well formed when …": H, A and indicator of the event, its status (bit 7 first), K, h and g, and 1 where the record keeps
-// the clauses. Where it does not, one clause alone is broken.
+// "A state is well formed when …": H, A and indicator of the event, its status (bit 7 first), K, h and g, and 1 where
+// the record keeps the clauses. Where it does not, one clause alone is broken.
 pub const RECORDS: [u8; 985] = *b"
 2 3 1 01010000 0 0 0 1
 2 3 1 00000000 0 0 0 1

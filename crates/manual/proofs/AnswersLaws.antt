@@ -10,7 +10,9 @@ use borrow.Author.Tests.{eqb-true, eqb-false, ne-eqb, ltb-true, not-true}
 use Rattle.history.specs.Words.{allOf}
 use Rattle.history.proofs.WordsLaws.{and-left, and-right}
 use Rattle.manual.specs.declared.Refusal.{Refusal}
-use Rattle.manual.specs.declared.Refusal.the-variants.{BadArgument, BadConfiguration, BadState, NoSuch, WrongCycleState, NoPreResult, RoomTooSmall, BadImage, WrongFrame, NoEntry}
+use Rattle.manual.specs.declared.Refusal.the-variants.{BadArgument, BadConfiguration, BadState, NoSuch}
+use Rattle.manual.specs.declared.Refusal.the-variants.{WrongCycleState, NoPreResult, RoomTooSmall, BadImage}
+use Rattle.manual.specs.declared.Refusal.the-variants.{WrongFrame, NoEntry}
 use Rattle.manual.specs.State.{State}
 use Rattle.manual.specs.Answers.{Beside, Outcome, refused, Rule, firstThatApplies, judged, numberOf}
 
@@ -39,13 +41,18 @@ numbered [] = true
 numbered (r ∷ rs) = ltb 0 (r .number) && numbered rs
 
 -- where 0 is answered, no rule applies
-pub none-applies : (rules : List Rule) → firstThatApplies rules ≡ 0 → numbered rules ≡ true → (i : ℕ) → appliesAt rules i ≡ false
+pub none-applies : (rules : List Rule) → firstThatApplies rules ≡ 0 → numbered rules ≡ true → (i : ℕ)
+    → appliesAt rules i ≡ false
 unfolding firstThatApplies
 none-applies [] z n i = refl
-none-applies (r ∷ rs) z n i = go (r .applies) refl z i (λ t. none-applies rs t (and-right (ltb 0 (r .number)) (numbered rs) n))
+none-applies (r ∷ rs) z n i =
+    go (r .applies) refl z i (λ t. none-applies rs t (and-right (ltb 0 (r .number)) (numbered rs) n))
   where
-    go : (b : Bool) → r .applies ≡ b → cond b (r .number) (firstThatApplies rs) ≡ 0 → (i : ℕ) → (firstThatApplies rs ≡ 0 → (i : ℕ) → appliesAt rs i ≡ false) → appliesAt (r ∷ rs) i ≡ false
-    go true q t i ih = absurd (let h = ltb-true 0 (r .number) (and-left (ltb 0 (r .number)) (numbered rs) n) in let w : ⊥ = omega arith in w)
+    go : (b : Bool) → r .applies ≡ b → cond b (r .number) (firstThatApplies rs) ≡ 0 → (i : ℕ)
+        → (firstThatApplies rs ≡ 0 → (i : ℕ) → appliesAt rs i ≡ false) → appliesAt (r ∷ rs) i ≡ false
+    go true q t i ih =
+        absurd
+        (let h = ltb-true 0 (r .number) (and-left (ltb 0 (r .number)) (numbered rs) n) in let w : ⊥ = omega arith in w)
     go false q t zero ih = q
     go false q t (suc i) ih = ih t i
 
@@ -56,10 +63,12 @@ lacks k rules = allOf (λ r. not (eqb (r .number) k)) rules
 pub never-given : (k : ℕ) → k ≢ 0 → (rules : List Rule) → lacks k rules ≡ true → firstThatApplies rules ≢ k
 unfolding firstThatApplies
 never-given k n [] l q = n (sym q)
-never-given k n (r ∷ rs) l q = go (r .applies) q (never-given k n rs (and-right (not (eqb (r .number) k)) (lacks k rs) l))
+never-given k n (r ∷ rs) l q =
+    go (r .applies) q (never-given k n rs (and-right (not (eqb (r .number) k)) (lacks k rs) l))
   where
     go : (b : Bool) → cond b (r .number) (firstThatApplies rs) ≡ k → (firstThatApplies rs ≢ k) → ⊥
-    go true e ih = eqb-false (r .number) k (not-true (eqb (r .number) k) (and-left (not (eqb (r .number) k)) (lacks k rs) l)) e
+    go true e ih =
+        eqb-false (r .number) k (not-true (eqb (r .number) k) (and-left (not (eqb (r .number) k)) (lacks k rs) l)) e
     go false e ih = ih e
 
 -- the first of some rules, and then of more
@@ -74,9 +83,11 @@ first-of-both (r ∷ rs) b n = go (r .applies) (first-of-both rs b (and-right (l
         let h = ltb-true 0 (r .number) (and-left (ltb 0 (r .number)) (numbered rs) n) in
         ne-eqb _ _ (λ (z : r .number ≡ 0). let w : ⊥ = omega arith in w)
 
-    go : (t : Bool) → firstThatApplies (rs ++ b) ≡ cond (eqb (firstThatApplies rs) 0) (firstThatApplies b) (firstThatApplies rs)
+    go : (t : Bool)
+        → firstThatApplies (rs ++ b) ≡ cond (eqb (firstThatApplies rs) 0) (firstThatApplies b) (firstThatApplies rs)
         → cond t (r .number) (firstThatApplies (rs ++ b))
-        ≡ cond (eqb (cond t (r .number) (firstThatApplies rs)) 0) (firstThatApplies b) (cond t (r .number) (firstThatApplies rs))
+        ≡ cond (eqb (cond t (r .number) (firstThatApplies rs)) 0) (firstThatApplies b)
+        (cond t (r .number) (firstThatApplies rs))
     go true ih = rw above
     go false ih = ih
 
@@ -86,7 +97,8 @@ module _ (rules : List Rule) (b : Beside) (s : State) (o : Outcome) where
   unfolding judged
   accepted = go (eqb (firstThatApplies rules) 0) refl
     where
-      go : (t : Bool) → eqb (firstThatApplies rules) 0 ≡ t → cond t o (refused (firstThatApplies rules) b s) .answer ≡ 0 → (firstThatApplies rules ≡ 0) × (cond t o (refused (firstThatApplies rules) b s) ≡ o)
+      go : (t : Bool) → eqb (firstThatApplies rules) 0 ≡ t → cond t o (refused (firstThatApplies rules) b s) .answer ≡ 0
+          → (firstThatApplies rules ≡ 0) × (cond t o (refused (firstThatApplies rules) b s) ≡ o)
       go true e z = (eqb-true (firstThatApplies rules) 0 e, refl)
       go false e z = absurd (eqb-false (firstThatApplies rules) 0 e z)
 
@@ -95,11 +107,13 @@ module _ (rules : List Rule) (b : Beside) (s : State) (o : Outcome) where
   goes-through z = rw z
 
   -- a refused call leaves all as found
-  pub left-alone : o .answer ≡ 0 → judged rules b s o .answer ≢ 0 → judged rules b s o ≡ refused (firstThatApplies rules) b s
+  pub left-alone : o .answer ≡ 0 → judged rules b s o .answer ≢ 0
+      → judged rules b s o ≡ refused (firstThatApplies rules) b s
   unfolding judged
   left-alone z = go (eqb (firstThatApplies rules) 0)
     where
-      go : (t : Bool) → cond t o (refused (firstThatApplies rules) b s) .answer ≢ 0 → cond t o (refused (firstThatApplies rules) b s) ≡ refused (firstThatApplies rules) b s
+      go : (t : Bool) → cond t o (refused (firstThatApplies rules) b s) .answer ≢ 0
+          → cond t o (refused (firstThatApplies rules) b s) ≡ refused (firstThatApplies rules) b s
       go true n = absurd (n z)
       go false n = refl
 

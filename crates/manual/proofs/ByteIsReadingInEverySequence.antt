@@ -1,5 +1,5 @@
--- In every state that calls lead to, with restores of images saved on the way, for every event e below n the byte at 4e of the records
--- is the byte read off that event's history, all eight bits.
+-- In every state that calls lead to, with restores of images saved on the way, for every event e below n the byte at 4e
+-- of the records is the byte read off that event's history, all eight bits.
 use mathlib.Core.Path.{_≡_, ap, _∙_}
 use Prim.Native.Nat.{ℕ, _*_, _<_}
 use lib.ListN.{getD}
@@ -17,13 +17,17 @@ use Rattle.manual.proofs.HistoriesAreLegal.{history-is-legal}
 
 module _ (cfg : Configuration) {s : State} {H : Histories} (reached : Reached cfg s H) where
   -- the byte at 4e of the records
-  pub byte-is-reading-in-sequence : (e : ℕ) → e < events cfg → getD (s .records) (recordWidth * e) 0 ≡ byteOf (reading (limitsOf cfg e) (H e))
+  pub byte-is-reading-in-sequence : (e : ℕ) → e < events cfg
+      → getD (s .records) (recordWidth * e) 0 ≡ byteOf (reading (limitsOf cfg e) (H e))
   unfolding storedAt
   byte-is-reading-in-sequence e h =
       ap (λ (r : Stored). r .status) (record-follows cfg reached e h)
-      ∙ byte-is-reading (limitsOf cfg e) (config-tells cfg (config-accepted cfg reached) .row e h .limits) (H e) (history-is-legal cfg reached e h)
+      ∙ byte-is-reading (limitsOf cfg e) (config-tells cfg (config-accepted cfg reached) .row e h .limits) (H e)
+      (history-is-legal cfg reached e h)
 
   -- the same, bit by bit
-  pub bit-is-reading-in-sequence : (e : ℕ) → e < events cfg → (b : Bit) → statusOf (getD (s .records) (recordWidth * e) 0) b ≡ reading (limitsOf cfg e) (H e) b
+  pub bit-is-reading-in-sequence : (e : ℕ) → e < events cfg → (b : Bit)
+      → statusOf (getD (s .records) (recordWidth * e) 0) b ≡ reading (limitsOf cfg e) (H e) b
   bit-is-reading-in-sequence e h b =
-      ap (λ (byte : ℕ). statusOf byte b) (byte-is-reading-in-sequence e h) ∙ status-of-byte (reading (limitsOf cfg e) (H e)) b
+      ap (λ (byte : ℕ). statusOf byte b) (byte-is-reading-in-sequence e h)
+      ∙ status-of-byte (reading (limitsOf cfg e) (H e)) b

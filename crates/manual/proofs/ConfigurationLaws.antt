@@ -12,7 +12,10 @@ use borrow.Author.Tests.{leb-true, ltb-true}
 use Rattle.history.specs.History.{Allowed}
 use Rattle.history.proofs.WordsLaws.{part}
 use Rattle.manual.specs.Words.{between, eqZ, natOf}
-use Rattle.manual.specs.Configuration.{Configuration, mostEvents, mostPlaces, mostFrame, mostPayload, events, places, frameBytes, entryFrames, column, numberAt, codeOf, cycleOf, kindOf, isInternal, isCounter, isTime, lowOf, highOf, upOf, downOf, limitsOf, rowOk, rises, configOk}
+use Rattle.manual.specs.Configuration.{Configuration, mostEvents, mostPlaces, mostFrame, mostPayload, events}
+use Rattle.manual.specs.Configuration.{places, frameBytes, entryFrames, column, numberAt, codeOf, cycleOf, kindOf}
+use Rattle.manual.specs.Configuration.{isInternal, isCounter, isTime, lowOf, highOf, upOf, downOf, limitsOf}
+use Rattle.manual.specs.Configuration.{rowOk, rises, configOk}
 use Rattle.manual.proofs.WordsLaws.{clash, all-below-at, eqZ-true, between-from, between-to}
 use Rattle.manual.proofs.SignedLaws.{signed}
 
@@ -45,7 +48,8 @@ pub record ConfigTells (cfg : Configuration) : Type 0 where
 
 -- a number between two counts, as a count
 counted : (lo hi : ℕ) (z : ℤ) → between (pos lo) (pos hi) z ≡ true → (lo ≤ natOf z) × (natOf z ≤ hi)
-counted lo hi (pos n) t = (leb-true lo n (between-from (pos lo) (pos hi) (pos n) t), leb-true n hi (between-to (pos lo) (pos hi) (pos n) t))
+counted lo hi (pos n) t =
+    (leb-true lo n (between-from (pos lo) (pos hi) (pos n) t), leb-true n hi (between-to (pos lo) (pos hi) (pos n) t))
 counted lo hi (negsuc n) t = clash true refl (sym (between-from (pos lo) (pos hi) (negsuc n) t))
 
 -- a step of 1 to 30,000, or 0, is not negative
@@ -107,15 +111,19 @@ count-rises (pos a) (negsuc b) t = clash true refl (sym t)
 count-rises (negsuc a) y t = omega arith
 
 -- an event's trouble code is not above that of any event after it
-pub codes-not-falling : (cfg : Configuration) → configOk cfg ≡ true → (a b : ℕ) → a ≤ b → b < events cfg → codeOf cfg a ≤ codeOf cfg b
+pub codes-not-falling : (cfg : Configuration) → configOk cfg ≡ true → (a b : ℕ) → a ≤ b → b < events cfg
+    → codeOf cfg a ≤ codeOf cfg b
 unfolding configOk
 codes-not-falling cfg ok a zero l h = let q : a ≡ 0 = omega arith in rw q (le-refl (codeOf cfg 0))
 codes-not-falling cfg ok a (suc b) l h =
-    ⊎-elim (λ q. rw q (le-refl (codeOf cfg (suc b)))) (λ q. later (codes-not-falling cfg ok a b (le-of-suc-le-suc q) (omega arith)))
+    ⊎-elim (λ q. rw q (le-refl (codeOf cfg (suc b))))
+    (λ q. later (codes-not-falling cfg ok a b (le-of-suc-le-suc q) (omega arith)))
     (eq-or-lt-of-le l)
   where
     next : codeOf cfg b ≤ codeOf cfg (suc b)
-    next = count-rises (column 1 cfg b) (column 1 cfg (suc b)) (all-below-at (events cfg - 1) (rises cfg) (part _ ok 6) b (omega arith))
+    next =
+        count-rises (column 1 cfg b) (column 1 cfg (suc b))
+        (all-below-at (events cfg - 1) (rises cfg) (part _ ok 6) b (omega arith))
 
     later : codeOf cfg a ≤ codeOf cfg b → codeOf cfg a ≤ codeOf cfg (suc b)
     later k = omega (arith, next)

@@ -10,9 +10,12 @@ use lib.Signed.{leZ, ltZ}
 use borrow.Author.Tests.{eqb-true}
 use Rattle.manual.specs.declared.Board.{Board}
 use Rattle.manual.specs.Words.{between, smaller, larger}
-use Rattle.manual.specs.Configuration.{Configuration, cycleOf, kindOf, isInternal, isTime, lowOf, highOf, upOf, downOf}
+use Rattle.manual.specs.Configuration.{Configuration, cycleOf, kindOf, isInternal}
+use Rattle.manual.specs.Configuration.{isTime, lowOf, highOf, upOf, downOf}
 use Rattle.manual.specs.State.{runs}
-use Rattle.manual.specs.Debouncing.{Debounced, top, bottom, codePassed, codeFailed, codePreFailed, leavesAt, jumpUp, jumpDown, counterUp, counterDown, counterReport, timeReport, internalReport, reported, ticked}
+use Rattle.manual.specs.Debouncing.{Debounced, top, bottom, codePassed, codeFailed, codePreFailed, leavesAt}
+use Rattle.manual.specs.Debouncing.{jumpUp, jumpDown, counterUp, counterDown, counterReport, timeReport}
+use Rattle.manual.specs.Debouncing.{internalReport, reported, ticked}
 use Rattle.manual.specs.WellFormed.{DFits, DOk}
 use Rattle.manual.proofs.WordsLaws.{by, eqZ-true, between-from, between-to, between-is}
 use Rattle.manual.proofs.SignedLaws.{signed, add-is, minus-is}
@@ -59,7 +62,8 @@ module _ (cfg : Configuration) (e : ℕ) (l : Range cfg e) where
   zero-in =
       ⊎-elim
       (λ t. let k = eqb-true (kindOf cfg e) 1 t in rw k (omega signed))
-      (λ t. let k = eqb-true (kindOf cfg e) 2 t in rw k (omega (signed, minus-is (lowOf cfg e) (pos 1), add-is (highOf cfg e) (pos 1))))
+      (λ t. let k = eqb-true (kindOf cfg e) 2 t in rw k
+      (omega (signed, minus-is (lowOf cfg e) (pos 1), add-is (highOf cfg e) (pos 1))))
       (l .kind-is)
 
   -- "start from D, or from 0 if …"
@@ -68,11 +72,14 @@ module _ (cfg : Configuration) (e : ℕ) (l : Range cfg e) where
 
   counter-up-in : (d : ℤ) → InCounter cfg e d → InCounter cfg e (counterUp cfg e d)
   unfolding counterUp
-  counter-up-in d h = raised-in (lowOf cfg e) (highOf cfg e) _ (upOf cfg e) (l .up-least) (start-in (jumpUp cfg e && ltZ d (pos 0)) d h)
+  counter-up-in d h =
+      raised-in (lowOf cfg e) (highOf cfg e) _ (upOf cfg e) (l .up-least) (start-in (jumpUp cfg e && ltZ d (pos 0)) d h)
 
   counter-down-in : (d : ℤ) → InCounter cfg e d → InCounter cfg e (counterDown cfg e d)
   unfolding counterDown
-  counter-down-in d h = lowered-in (lowOf cfg e) (highOf cfg e) _ (downOf cfg e) (l .down-least) (start-in (jumpDown cfg e && ltZ (pos 0) d) d h)
+  counter-down-in d h =
+      lowered-in (lowOf cfg e) (highOf cfg e) _ (downOf cfg e) (l .down-least)
+      (start-in (jumpDown cfg e && ltZ (pos 0) d) d h)
 
   counter-in : (code : ℕ) (d : ℤ) → InCounter cfg e d → InCounter cfg e (counterReport cfg e code d)
   unfolding counterReport
@@ -104,8 +111,10 @@ module _ (cfg : Configuration) (e : ℕ) where
   ticked-in : (ms : ℕ) (d : ℤ) → InEnds cfg e d → InEnds cfg e (ticked cfg e ms d .number)
   unfolding ticked leavesAt
   ticked-in ms d h =
-      by (ltZ (pos 0) d && ltZ d (top cfg e)) (λ (x : Debounced). InEnds cfg e (x .number)) (λ t. raised-in (bottom cfg e) (top cfg e) d (pos ms) (leb·zero ms) h) λ t.
-      by (ltZ (bottom cfg e) d && ltZ d (pos 0)) (λ (x : Debounced). InEnds cfg e (x .number)) (λ t. lowered-in (bottom cfg e) (top cfg e) d (pos ms) (leb·zero ms) h) (λ t. h)
+      by (ltZ (pos 0) d && ltZ d (top cfg e)) (λ (x : Debounced). InEnds cfg e (x .number))
+      (λ t. raised-in (bottom cfg e) (top cfg e) d (pos ms) (leb·zero ms) h) λ t.
+      by (ltZ (bottom cfg e) d && ltZ d (pos 0)) (λ (x : Debounced). InEnds cfg e (x .number))
+      (λ t. lowered-in (bottom cfg e) (top cfg e) d (pos ms) (leb·zero ms) h) (λ t. h)
 
 -- ---- as a well-formed state says it
 
@@ -114,25 +123,29 @@ module _ (cfg : Configuration) where
   unfolding DFits
   stopped-zero b e d r h = eqZ-true d (pos 0) (subst (λ (x : Bool). DFits cfg x e d ≡ true) r h)
 
-  pub DOk-by-running : (b b′ : Board) (e : ℕ) (d : ℤ) → runs b (cycleOf cfg e) ≡ runs b′ (cycleOf cfg e) → DOk cfg b e d ≡ true → DOk cfg b′ e d ≡ true
+  pub DOk-by-running : (b b′ : Board) (e : ℕ) (d : ℤ) → runs b (cycleOf cfg e) ≡ runs b′ (cycleOf cfg e)
+      → DOk cfg b e d ≡ true → DOk cfg b′ e d ≡ true
   DOk-by-running b b′ e d r h = subst (λ (x : Bool). DFits cfg x e d ≡ true) r h
 
 module _ (cfg : Configuration) (b : Board) (e : ℕ) where
   -- a step of an event whose cycle runs
-  step-ok : (d d′ : ℤ) → runs b (cycleOf cfg e) ≡ true → (isInternal cfg e ≡ true → d′ ≡ d) → (isInternal cfg e ≡ false → InEnds cfg e d → InEnds cfg e d′) → DOk cfg b e d ≡ true → DOk cfg b e d′ ≡ true
+  step-ok : (d d′ : ℤ) → runs b (cycleOf cfg e) ≡ true → (isInternal cfg e ≡ true → d′ ≡ d)
+      → (isInternal cfg e ≡ false → InEnds cfg e d → InEnds cfg e d′) → DOk cfg b e d ≡ true → DOk cfg b e d′ ≡ true
   unfolding DFits
   step-ok d d′ r same stays h =
       rw r
       (by (isInternal cfg e) (λ t. t ≡ true)
       (λ k. rw (same k) (rw (r, k) at h))
-      (λ k. between-of-in (bottom cfg e) (top cfg e) d′ (stays k (in-of-between (bottom cfg e) (top cfg e) d (rw (r, k) at h)))))
+      (λ k. between-of-in (bottom cfg e) (top cfg e) d′
+      (stays k (in-of-between (bottom cfg e) (top cfg e) d (rw (r, k) at h)))))
 
   module _ (range : isInternal cfg e ≡ false → Range cfg e) where
     pub zero-ok : DOk cfg b e (pos 0) ≡ true
     unfolding DFits
     zero-ok = go (not (runs b (cycleOf cfg e))) (isInternal cfg e) range
       where
-        go : (stopped internal : Bool) → (internal ≡ false → Range cfg e) → cond (stopped || internal) true (between (bottom cfg e) (top cfg e) (pos 0)) ≡ true
+        go : (stopped internal : Bool) → (internal ≡ false → Range cfg e)
+            → cond (stopped || internal) true (between (bottom cfg e) (top cfg e) (pos 0)) ≡ true
         go true internal l = refl
         go false true l = refl
         go false false l = between-of-in (bottom cfg e) (top cfg e) (pos 0) (zero-in cfg e (l refl))
@@ -140,7 +153,10 @@ module _ (cfg : Configuration) (b : Board) (e : ℕ) where
     module _ (r : runs b (cycleOf cfg e) ≡ true) where
       pub report-ok : (code : ℕ) (d : ℤ) → DOk cfg b e d ≡ true → DOk cfg b e (reported cfg e code d .number) ≡ true
       unfolding reported internalReport
-      report-ok code d = step-ok d (reported cfg e code d .number) r (λ k. rw k) (λ k. reported-in cfg e (range k) code d)
+      report-ok code d =
+          step-ok d (reported cfg e code d .number) r (λ k. rw k) (λ k. reported-in cfg e (range k) code d)
 
-      pub tick-ok : isTime cfg e ≡ true → (ms : ℕ) (d : ℤ) → DOk cfg b e d ≡ true → DOk cfg b e (ticked cfg e ms d .number) ≡ true
-      tick-ok t ms d = step-ok d (ticked cfg e ms d .number) r (λ k. absurd (omega (arith, eqb-true))) (λ k. ticked-in cfg e ms d)
+      pub tick-ok : isTime cfg e ≡ true → (ms : ℕ) (d : ℤ) → DOk cfg b e d ≡ true
+          → DOk cfg b e (ticked cfg e ms d .number) ≡ true
+      tick-ok t ms d =
+          step-ok d (ticked cfg e ms d .number) r (λ k. absurd (omega (arith, eqb-true))) (λ k. ticked-in cfg e ms d)

@@ -1,5 +1,5 @@
--- A call that goes through the events one after the other, each part of which keeps a sound state sound, finds at each event that
--- event's record and D well formed, which cycles run as they were at its start, and the memory in order.
+-- A call that goes through the events one after the other, each part of which keeps a sound state sound, finds at each
+-- event that event's record and D well formed, which cycles run as they were at its start, and the memory in order.
 use mathlib.Core.Path.{_≡_}
 use mathlib.Core.Bool.{Bool, true, cond}
 use Prim.Native.Nat.{ℕ, _<_}
@@ -24,6 +24,7 @@ module _ (cfg : Configuration) where
   pub ready-at-once : (s : State) → wellFormed cfg s ≡ true → (e : ℕ) → e < events cfg → EventReady s e
   ready-at-once s w = sound-ready s (sound cfg s w)
 
-  pub loop-ready : {p : ℕ → Bool} {one : ℕ → State → State} {s : State} → Keeps cfg p one s → wellFormed cfg s ≡ true → (i : ℕ) → i < events cfg
+  pub loop-ready : {p : ℕ → Bool} {one : ℕ → State → State} {s : State} → Keeps cfg p one s → wellFormed cfg s ≡ true
+      → (i : ℕ) → i < events cfg
       → EventReady (forBelow i (λ e u. cond (p e) (one e u) u) s) i
   loop-ready {s = s} keeps w i h = sound-ready _ (below-going cfg keeps (sound cfg s w) i (omega arith) .sound) i h

@@ -11,16 +11,24 @@ use Rattle.manual.specs.State.{storedAt, withStored}
 use Rattle.manual.specs.WellFormed.{lengthsFit, DFits, memoryOk, wellFormed}
 use Rattle.manual.specs.Answers as Answers
 use Rattle.manual.specs.Answers.{firstThatApplies}
-use Rattle.manual.specs.Debouncing.{top, bottom, verdictAt, leavesAt, internalReport, counterUp, counterDown, counterReport, timeReport, reported, ticked}
+use Rattle.manual.specs.Debouncing.{top, bottom, verdictAt, leavesAt, internalReport, counterUp}
+use Rattle.manual.specs.Debouncing.{counterDown, counterReport, timeReport, reported, ticked}
 use Rattle.manual.specs.OneEvent.{happens, entryLeaves, keeps, memoryTold, fails, stops, clears, forThose}
-use Rattle.manual.specs.Memory.{entriesFrom, entriesOf, entriesBytes, memoryOf, without, noTwice, victim, pushedOut, admitted, renewed, store}
-use Rattle.manual.specs.Calls.{freshRecords, freshState, freshRules, fresh, reportRules, applied, report, tickRules, tick, startRules, startCycle, stopRules, stopCycle}
+use Rattle.manual.specs.Memory.{entriesFrom, entriesOf, entriesBytes, memoryOf, without}
+use Rattle.manual.specs.Memory.{noTwice, victim, pushedOut, admitted, renewed, store}
+use Rattle.manual.specs.Calls.{freshRecords, freshState, freshRules, fresh, reportRules, applied, report}
+use Rattle.manual.specs.Calls.{tickRules, tick, startRules, startCycle, stopRules, stopCycle}
 use Rattle.manual.specs.Image.{imageFrom, imageOf, stateOf, acceptable, restoreRules, restore}
 use Rattle.manual.specs.MarkedExamples.{blank, replayed, e1ToE10, e11, e12, table}
 
 -- the table is what its calls make
 pub e1-to-e12 : replayed table ≡ table
-unfolding table e1ToE10 e11 e12 holds wellFormedRecord allBelow forBelow firstOf those equal between smaller larger events places frameBytes column rowOk configOk storedAt withStored lengthsFit DFits memoryOk wellFormed firstThatApplies Answers.judged top bottom verdictAt leavesAt internalReport counterUp counterDown counterReport timeReport reported ticked happens entryLeaves keeps memoryTold fails stops clears forThose entriesFrom entriesOf entriesBytes memoryOf without noTwice victim pushedOut admitted renewed store freshRecords freshState freshRules fresh reportRules applied report tickRules tick startRules startCycle stopRules stopCycle
+unfolding table e1ToE10 e11 e12 holds wellFormedRecord allBelow forBelow firstOf those equal between smaller larger
+    events places frameBytes column rowOk configOk storedAt withStored lengthsFit DFits memoryOk wellFormed
+    firstThatApplies Answers.judged top bottom verdictAt leavesAt internalReport counterUp counterDown counterReport
+    timeReport reported ticked happens entryLeaves keeps memoryTold fails stops clears forThose entriesFrom entriesOf
+    entriesBytes memoryOf without noTwice victim pushedOut admitted renewed store freshRecords freshState freshRules
+    fresh reportRules applied report tickRules tick startRules startCycle stopRules stopCycle
 e1-to-e12 = refl
 
 -- ---- "Fresh with n = 2", which document 01 gives as part of "Saved image", not among the examples that are "run only"
@@ -29,11 +37,13 @@ abbrev pair : Configuration
 pair = pos 2 ∷ pos 1 ∷ pos 0 ∷ (internalRow 1 ++ internalRow 2)
   where
     internalRow : ℕ → List ℤ
-    internalRow code = pos code ∷ pos 1 ∷ pos 0 ∷ pos 0 ∷ pos 0 ∷ pos 0 ∷ pos 0 ∷ pos 0 ∷ pos 0 ∷ pos 1 ∷ pos 1 ∷ pos 1 ∷ pos 0 ∷ []
+    internalRow code =
+        pos code ∷ pos 1 ∷ pos 0 ∷ pos 0 ∷ pos 0 ∷ pos 0 ∷ pos 0 ∷ pos 0 ∷ pos 0 ∷ pos 1 ∷ pos 1 ∷ pos 1 ∷ pos 0 ∷ []
 
 abbrev freshImage : List ℕ
 freshImage =
-    0x03 ∷ 0x01 ∷ 0x01 ∷ 0x00 ∷ 0x00 ∷ 0x14 ∷ 0x00 ∷ 0x08 ∷ 0x02 ∷ 0x00 ∷ 0x00 ∷ 0x1C ∷ 0x00 ∷ 0x01 ∷ 0x03 ∷ 0x00 ∷ 0x00 ∷ 0x1D ∷ 0x00 ∷ 0x01
+    0x03 ∷ 0x01 ∷ 0x01 ∷ 0x00 ∷ 0x00 ∷ 0x14 ∷ 0x00 ∷ 0x08 ∷ 0x02 ∷ 0x00 ∷ 0x00 ∷ 0x1C ∷ 0x00 ∷ 0x01 ∷ 0x03 ∷ 0x00 ∷ 0x00
+    ∷ 0x1D ∷ 0x00 ∷ 0x01
     ∷ 0x50 ∷ 0x00 ∷ 0x00 ∷ 0x00 ∷ 0x50 ∷ 0x00 ∷ 0x00 ∷ 0x00 ∷ 0x00 ∷ 0x00 ∷ []
 
 pub image-of-fresh : imageOf pair (freshState pair) ≡ freshImage
@@ -41,5 +51,7 @@ unfolding imageFrom imageOf freshState freshRecords events places frameBytes
 image-of-fresh = refl
 
 pub restored-fresh : restore pair freshImage Answers.alone (blank pair) ≡ Answers.done Answers.alone (freshState pair)
-unfolding restore restoreRules acceptable stateOf equal imageFrom imageOf freshState freshRecords events places frameBytes holds wellFormedRecord allBelow those between column rowOk configOk top bottom entriesFrom entriesOf noTwice storedAt lengthsFit DFits memoryOk wellFormed firstThatApplies Answers.judged
+unfolding restore restoreRules acceptable stateOf equal imageFrom imageOf freshState freshRecords events places
+    frameBytes holds wellFormedRecord allBelow those between column rowOk configOk top bottom entriesFrom entriesOf
+    noTwice storedAt lengthsFit DFits memoryOk wellFormed firstThatApplies Answers.judged
 restored-fresh = refl

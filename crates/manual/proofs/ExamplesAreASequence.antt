@@ -1,5 +1,6 @@
--- E1 to E12 of document 01 are sequences of calls from the fresh state, a story of the table each, E1 to E10 one; and in every row of
--- the table the status byte is the one that is read off event 0's history up to there. For E1 to E10 that history is written out.
+-- E1 to E12 of document 01 are sequences of calls from the fresh state, a story of the table each, E1 to E10 one; and
+-- in every row of the table the status byte is the one that is read off event 0's history up to there. For E1 to E10
+-- that history is written out.
 use mathlib.Core.Path.{_≡_, refl, sym, ap, ap₂, _∙_}
 use mathlib.Core.Bool.{Bool, true, _&&_}
 use mathlib.Core.List.{List, [], _∷_, _++_, map, tail}
@@ -13,17 +14,22 @@ use Rattle.history.specs.WellFormed.{wellFormedRecord}
 use Rattle.history.specs.History.{passed, failed, start, stop, History, reading}
 use Rattle.history.proofs.WordsLaws.{and-left, and-right, part}
 use Rattle.manual.specs.Words.{allBelow, forBelow, firstOf, those, equal, between, smaller, larger}
-use Rattle.manual.specs.Configuration.{Configuration, events, places, frameBytes, column, limitsOf, rowOk, configOk}
+use Rattle.manual.specs.Configuration.{Configuration, events, places, frameBytes}
+use Rattle.manual.specs.Configuration.{column, limitsOf, rowOk, configOk}
 use Rattle.manual.specs.State.{State, storedAt, withStored, statusByte}
 use Rattle.manual.specs.WellFormed.{lengthsFit, DFits, memoryOk, wellFormed}
 use Rattle.manual.specs.Answers as Answers
 use Rattle.manual.specs.Answers.{alone, firstThatApplies}
-use Rattle.manual.specs.Debouncing.{top, bottom, verdictAt, leavesAt, internalReport, counterUp, counterDown, counterReport, timeReport, reported, ticked}
+use Rattle.manual.specs.Debouncing.{top, bottom, verdictAt, leavesAt, internalReport, counterUp}
+use Rattle.manual.specs.Debouncing.{counterDown, counterReport, timeReport, reported, ticked}
 use Rattle.manual.specs.OneEvent.{happens, entryLeaves, keeps, memoryTold, fails, stops, clears, forThose}
-use Rattle.manual.specs.Memory.{entriesFrom, entriesOf, entriesBytes, memoryOf, without, noTwice, victim, pushedOut, admitted, renewed, store}
-use Rattle.manual.specs.Calls.{freshRecords, freshState, freshRules, fresh, reportRules, applied, report, tickRules, tick, startRules, startCycle, stopRules, stopCycle}
+use Rattle.manual.specs.Memory.{entriesFrom, entriesOf, entriesBytes, memoryOf, without}
+use Rattle.manual.specs.Memory.{noTwice, victim, pushedOut, admitted, renewed, store}
+use Rattle.manual.specs.Calls.{freshRecords, freshState, freshRules, fresh, reportRules, applied, report}
+use Rattle.manual.specs.Calls.{tickRules, tick, startRules, startCycle, stopRules, stopCycle}
 use Rattle.manual.specs.Sequences.{Call, outcome, tokens, tokensAt, goesOn, Reached, begun, called}
-use Rattle.manual.specs.MarkedExamples.{Row, Story, After, afterCall, afterCalls, replayedRows, blank, afterFresh, replayed, marked, e1ToE10, e11, e12, table}
+use Rattle.manual.specs.MarkedExamples.{Row, Story, After, afterCall, afterCalls, replayedRows, blank}
+use Rattle.manual.specs.MarkedExamples.{afterFresh, replayed, marked, e1ToE10, e11, e12, table}
 use Rattle.manual.proofs.SequencesLaws.{Histories}
 use Rattle.manual.proofs.ByteIsReadingInEverySequence.{byte-is-reading-in-sequence}
 use Rattle.manual.proofs.Examples.{e1-to-e12}
@@ -67,13 +73,17 @@ module _ (cfg : Configuration) where
   rowsGoOn [] a = true
   rowsGoOn (r ∷ rs) a = allGoOn (r .calls) (a .state) && rowsGoOn rs (afterCalls cfg (r .calls) a)
 
-  rows-read : 0 < events cfg → (rows : List Row) (a : After) {H : Histories} → Reached cfg (a .state) H → SeesIt a → rowsGoOn rows a ≡ true
+  rows-read : 0 < events cfg → (rows : List Row) (a : After) {H : Histories} → Reached cfg (a .state) H → SeesIt a
+      → rowsGoOn rows a ≡ true
       → replayedRows cfg rows a ≡ rows → bytesRead rows a H ≡ map (λ r. r .seen .status) rows
   unfolding bytesRead rowsGoOn SeesIt storedAt
   rows-read below [] a reached seen g e = refl
   rows-read below (r ∷ rs) a {H} reached seen g e =
-      ap₂ _∷_ (sym (byte-is-reading-in-sequence cfg then 0 below) ∙ sym (sees-it (r .calls) a seen) ∙ ap (λ (l : List Row). getD l 0 r .seen .status) e)
-      (rows-read below rs (afterCalls cfg (r .calls) a) then (sees-it (r .calls) a seen) (and-right goes rest g) (ap tail e))
+      ap₂ _∷_
+      (sym (byte-is-reading-in-sequence cfg then 0 below) ∙ sym (sees-it (r .calls) a seen)
+      ∙ ap (λ (l : List Row). getD l 0 r .seen .status) e)
+      (rows-read below rs (afterCalls cfg (r .calls) a) then (sees-it (r .calls) a seen) (and-right goes rest g)
+      (ap tail e))
     where
       goes : Bool
       goes = allGoOn (r .calls) (a .state)
@@ -102,7 +112,8 @@ readIn t = bytesRead (t .config) (t .rows) (afterFresh (t .config)) (λ e. [])
 abbrev pub saidIn : Story → List ℕ
 saidIn t = map (λ r. r .seen .status) (t .rows)
 
-story-read : (t : Story) → isASequence t ≡ true → replayedRows (t .config) (t .rows) (afterFresh (t .config)) ≡ t .rows → readIn t ≡ saidIn t
+story-read : (t : Story) → isASequence t ≡ true → replayedRows (t .config) (t .rows) (afterFresh (t .config)) ≡ t .rows
+    → readIn t ≡ saidIn t
 unfolding isASequence SeesIt
 story-read t is e =
     rows-read (t .config) (ltb-true 0 (events (t .config)) (part _ is 2)) (t .rows) (afterFresh (t .config))
@@ -111,11 +122,14 @@ story-read t is e =
 stories-read : (ts : List Story) → allOf isASequence ts ≡ true → replayed ts ≡ ts → map readIn ts ≡ map saidIn ts
 stories-read [] are e = refl
 stories-read (t ∷ ts) are e =
-    ap₂ _∷_ (story-read t (and-left (isASequence t) (allOf isASequence ts) are) (ap (λ (l : List Story). getD l 0 t .rows) e))
+    ap₂ _∷_
+    (story-read t (and-left (isASequence t) (allOf isASequence ts) are)
+    (ap (λ (l : List Story). getD l 0 t .rows) e))
     (stories-read ts (and-right (isASequence t) (allOf isASequence ts) are) (ap tail e))
 
 are-sequences : allOf isASequence table ≡ true
-unfolding table e1ToE10 e11 e12 isASequence rowsGoOn allGoOn holds allBelow between events places frameBytes column rowOk configOk lengthsFit firstThatApplies Answers.judged freshRules fresh
+unfolding table e1ToE10 e11 e12 isASequence rowsGoOn allGoOn holds allBelow between events places frameBytes column
+    rowOk configOk lengthsFit firstThatApplies Answers.judged freshRules fresh
 are-sequences = refl
 
 -- in every row of the table the reading is the row's byte
@@ -143,7 +157,8 @@ unfolding e1ToE10 allGoOn
 go-on = refl
 
 -- they are one sequence, with these histories
-pub is-reached : Reached marked (afterCalls marked e1-to-e10 begins .state) (historiesAfter marked e1-to-e10 (begins .state) (λ e. []))
+pub is-reached : Reached marked (afterCalls marked e1-to-e10 begins .state)
+    (historiesAfter marked e1-to-e10 (begins .state) (λ e. []))
 is-reached = follow marked e1-to-e10 begins (begun alone (blank marked) fresh-accepted) go-on
 
 -- the pre-failed report of E2 gives no token
@@ -152,5 +167,10 @@ history =
     stop ∷ start ∷ stop ∷ start ∷ stop ∷ passed ∷ start ∷ stop ∷ passed ∷ failed ∷ start ∷ stop ∷ failed ∷ start ∷ []
 
 pub its-history : historiesAfter marked e1-to-e10 (begins .state) (λ e. []) 0 ≡ history
-unfolding e1ToE10 historiesAfter tokens holds wellFormedRecord allBelow forBelow firstOf those equal between smaller larger events places frameBytes column rowOk configOk storedAt withStored lengthsFit DFits memoryOk wellFormed firstThatApplies Answers.judged top bottom verdictAt leavesAt internalReport counterUp counterDown counterReport timeReport reported ticked happens entryLeaves keeps memoryTold fails stops clears forThose entriesFrom entriesOf entriesBytes memoryOf without noTwice victim pushedOut admitted renewed store freshRecords freshState freshRules fresh reportRules applied report tickRules tick startRules startCycle stopRules stopCycle
+unfolding e1ToE10 historiesAfter tokens holds wellFormedRecord allBelow forBelow firstOf those equal between smaller
+    larger events places frameBytes column rowOk configOk storedAt withStored lengthsFit DFits memoryOk wellFormed
+    firstThatApplies Answers.judged top bottom verdictAt leavesAt internalReport counterUp counterDown counterReport
+    timeReport reported ticked happens entryLeaves keeps memoryTold fails stops clears forThose entriesFrom entriesOf
+    entriesBytes memoryOf without noTwice victim pushedOut admitted renewed store freshRecords freshState freshRules
+    fresh reportRules applied report tickRules tick startRules startCycle stopRules stopCycle
 its-history = refl

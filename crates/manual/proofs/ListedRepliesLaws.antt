@@ -15,7 +15,9 @@ use Rattle.manual.specs.State.{State, statusByte}
 use Rattle.manual.specs.WellFormed.{wellFormed}
 use Rattle.manual.specs.Answers.{Beside, Outcome}
 use Rattle.manual.specs.Diagnostics.{requestReply}
-use Rattle.manual.specs.Replies.{rising, sharesBit, numberBy, listBy, listAll, fours, linesIn, Tells, secondByte, Due, sends, refusedWith, number-by-mask, list-by-mask, list-all, too-long, negative, positive}
+use Rattle.manual.specs.Replies.{rising, sharesBit, numberBy, listBy, listAll, fours, linesIn, Tells, secondByte}
+use Rattle.manual.specs.Replies.{Due, sends, refusedWith, number-by-mask, list-by-mask, list-all, too-long}
+use Rattle.manual.specs.Replies.{negative, positive}
 use Rattle.manual.proofs.WordsLaws.{those-le}
 use Rattle.manual.proofs.ConfigurationLaws.{config-tells}
 use Rattle.manual.proofs.RepliesLaws.{rising-length, fours-flat, flat-length, accepted-told}

@@ -11,7 +11,8 @@ use Rattle.manual.specs.Configuration.{Configuration}
 use Rattle.manual.specs.State.{State}
 use Rattle.manual.specs.Answers.{Beside, Outcome}
 use Rattle.manual.specs.Diagnostics.{requestReply}
-use Rattle.manual.specs.Replies.{Asks, Negative, Replies, refusedWith, number-by-mask, list-by-mask, list-all, negative, suppressed, positive, clears}
+use Rattle.manual.specs.Replies.{Asks, Negative, Replies, refusedWith, number-by-mask, list-by-mask}
+use Rattle.manual.specs.Replies.{list-all, negative, suppressed, positive, clears}
 use Rattle.manual.proofs.RepliesFollowTheSentences.{reply-said, reply-is}
 
 module _ (cfg : Configuration) (request : List ℕ) (b : Beside) (s : State) where
@@ -39,7 +40,8 @@ module _ (cfg : Configuration) (request : List ℕ) (b : Beside) (s : State) whe
   begins-7F _ (negative code n) v f = (code, n, refl)
   begins-7F _ (suppressed q) v f = absurd (v refl)
   begins-7F _ (positive bytes n p l) v f =
-      let e : getD (bytes ++ drop (length bytes) (b .room)) 0 0 ≡ 0x59 = begins-59 (n .asks) (drop (length bytes) (b .room)) in
+      let e : getD (bytes ++ drop (length bytes) (b .room)) 0 0 ≡ 0x59 =
+      begins-59 (n .asks) (drop (length bytes) (b .room)) in
       absurd (let z : ⊥ = omega arith in z)
   begins-7F _ (clears a l k) v f = absurd (let z : ⊥ = omega arith in z)
 

@@ -1,6 +1,6 @@
--- No call is left out of the sequences: from a state that calls lead to, any of the eleven calls with any arguments leads to such a
--- state again, with the tokens that it gave; but for an accepted fresh, with which a sequence begins, and an accepted restore, which
--- leads on where the image was saved in the sequence.
+-- No call is left out of the sequences: from a state that calls lead to, any of the eleven calls with any arguments
+-- leads to such a state again, with the tokens that it gave; but for an accepted fresh, with which a sequence begins,
+-- and an accepted restore, which leads on where the image was saved in the sequence.
 use mathlib.Core.Path.{_≡_, refl, sym}
 use mathlib.Core.Logic.{_⊎_, inl, inr}
 use mathlib.Core.Bool.{Bool, true, false, _&&_}
@@ -14,7 +14,8 @@ use Rattle.manual.specs.State.{State}
 use Rattle.manual.specs.Answers.{Beside}
 use Rattle.manual.specs.Calls.{fresh}
 use Rattle.manual.specs.Image.{restore}
-use Rattle.manual.specs.Sequences.{Call, Fresh, Report, Tick, Start, Stop, Clear, Read, Restore, Request, beginsAnew, outcome, tokensAt, goesOn, Reached, called}
+use Rattle.manual.specs.Sequences.{Call, Fresh, Report, Tick, Start, Stop, Clear, Read, Restore, Request}
+use Rattle.manual.specs.Sequences.{beginsAnew, outcome, tokensAt, goesOn, Reached, called}
 use Rattle.manual.proofs.WordsLaws.{clash}
 use Rattle.manual.proofs.SequencesLaws.{Histories}
 
@@ -42,7 +43,8 @@ module _ (cfg : Configuration) where
       is-done : Bool
       is-done = eqb (outcome cfg c b s .answer) 0
 
-      go : (t : Bool) → goesOn cfg c b s ≡ t → Reached cfg (outcome cfg c b s .state) (λ e. tokensAt cfg c b s e ++ H e) ⊎ Anew b s c
+      go : (t : Bool) → goesOn cfg c b s ≡ t
+          → Reached cfg (outcome cfg c b s .state) (λ e. tokensAt cfg c b s e ++ H e) ⊎ Anew b s c
       go true g = inl (called r c b g)
       go false g =
           let both = not-false (beginsAnew c && is-done) g in

@@ -1,4 +1,5 @@
--- Laws of specs/OneEvent.antt and of a debounced report: what is done to an event changes that event's record and D alone.
+-- Laws of specs/OneEvent.antt and of a debounced report: what is done to an event changes that event's record and D
+-- alone.
 use mathlib.Core.Path.{_≡_, refl, ap, _∙_}
 use mathlib.Core.Logic.{_≢_, _⊎_, inl, inr}
 use mathlib.Core.Bool.{Bool, true, false, cond}
@@ -17,9 +18,11 @@ use Rattle.manual.specs.declared.Verdict.{Verdict}
 use Rattle.manual.specs.declared.Verdict.the-variants.{None, Passed, Failed}
 use Rattle.manual.specs.Words.{forBelow}
 use Rattle.manual.specs.Configuration.{Configuration, events, limitsOf}
-use Rattle.manual.specs.State.{State, recordWidth, Stored, opened, stored, storedAt, recordOf, D, withD, withMemory, withOverflow}
+use Rattle.manual.specs.State.{State, recordWidth, Stored, opened, stored, storedAt}
+use Rattle.manual.specs.State.{recordOf, D, withD, withMemory, withOverflow}
 use Rattle.manual.specs.Debouncing.{Debounced}
-use Rattle.manual.specs.OneEvent.{happens, entryLeaves, keeps, memoryTold, fails, qualifies, stops, clears, forThose}
+use Rattle.manual.specs.OneEvent.{happens, entryLeaves, keeps, memoryTold, fails}
+use Rattle.manual.specs.OneEvent.{qualifies, stops, clears, forThose}
 use Rattle.manual.specs.Calls.{applied, ticks}
 use Rattle.manual.proofs.WordsLaws.{by, for-below-keeps}
 use Rattle.manual.proofs.StateLaws.{stored-length, stored-same, stored-other}
@@ -40,7 +43,8 @@ pub record Sized (cfg : Configuration) (s : State) : Type 0 where
   pub records : length (s .records) ≡ recordWidth * events cfg
   pub debounce : length (s .debounce) ≡ events cfg
 
-pub sized-same : {cfg : Configuration} (s t : State) → t .records ≡ s .records → t .debounce ≡ s .debounce → Sized cfg s → Sized cfg t
+pub sized-same : {cfg : Configuration} (s t : State) → t .records ≡ s .records → t .debounce ≡ s .debounce → Sized cfg s
+    → Sized cfg t
 sized-same s t p q z = record { records = ap length p ∙ z .records; debounce = ap length q ∙ z .debounce }
 
 -- `one k` does f k to event k, nothing to the others, and starts and stops no cycle
@@ -51,7 +55,8 @@ pub record Acts (cfg : Configuration) (one : ℕ → State → State) (f : ℕ �
   pub running : (k : ℕ) (s : State) → one k s .board .running ≡ s .board .running
 
 -- done for one event
-pub one-own : {cfg : Configuration} {one : ℕ → State → State} {f : ℕ → View → View} → Acts cfg one f → (k : ℕ) (s : State) → Sized cfg s → (e : ℕ) → e < events cfg
+pub one-own : {cfg : Configuration} {one : ℕ → State → State} {f : ℕ → View → View} → Acts cfg one f
+    → (k : ℕ) (s : State) → Sized cfg s → (e : ℕ) → e < events cfg
     → view (one k s) e ≡ cond (eqb e k) (f e (view s e)) (view s e)
 one-own {cfg} {one} {f} acts k s z e h = go (eqb e k) refl
   where
@@ -66,24 +71,32 @@ module _ {cfg : Configuration} {one : ℕ → State → State} {f : ℕ → View
   fold-sized n s z = for-below-keeps (Sized cfg) one n n (le-refl n) (λ k t h. acts .sized k t) s z
 
   pub fold-running : (n : ℕ) (s : State) → forBelow n one s .board .running ≡ s .board .running
-  fold-running n s = for-below-keeps (λ t. t .board .running ≡ s .board .running) one n n (le-refl n) (λ k t h q. acts .running k t ∙ q) s refl
+  fold-running n s =
+      for-below-keeps (λ t. t .board .running ≡ s .board .running) one n n (le-refl n)
+      (λ k t h q. acts .running k t ∙ q) s refl
 
   pub fold-later : (n e : ℕ) (s : State) → n ≤ e → view (forBelow n one s) e ≡ view s e
-  fold-later n e s h = for-below-keeps (λ t. view t e ≡ view s e) one n n (le-refl n) (λ k t l q. acts .other k e t (λ (p : e ≡ k). omega arith) ∙ q) s refl
+  fold-later n e s h =
+      for-below-keeps (λ t. view t e ≡ view s e) one n n (le-refl n)
+      (λ k t l q. acts .other k e t (λ (p : e ≡ k). omega arith) ∙ q) s refl
 
-  pub fold-own : (n e : ℕ) (s : State) → Sized cfg s → n ≤ events cfg → e < n → view (forBelow n one s) e ≡ f e (view s e)
+  pub fold-own : (n e : ℕ) (s : State) → Sized cfg s → n ≤ events cfg → e < n
+      → view (forBelow n one s) e ≡ f e (view s e)
   unfolding forBelow
   fold-own zero e s z h l = absurd (not-suc-le-zero l)
   fold-own (suc n) e s z h l = go (eq-or-lt-of-le (le-of-suc-le-suc l)) (λ q. fold-own n e s z (omega arith) q)
     where
-      go : (e ≡ n) ⊎ (e < n) → (e < n → view (forBelow n one s) e ≡ f e (view s e)) → view (one n (forBelow n one s)) e ≡ f e (view s e)
-      go (inl q) ih = rw q (acts .own n (forBelow n one s) (fold-sized n s z) h ∙ ap (f n) (fold-later n n s (le-refl n)))
+      go : (e ≡ n) ⊎ (e < n) → (e < n → view (forBelow n one s) e ≡ f e (view s e))
+          → view (one n (forBelow n one s)) e ≡ f e (view s e)
+      go (inl q) ih =
+          rw q (acts .own n (forBelow n one s) (fold-sized n s z) h ∙ ap (f n) (fold-later n n s (le-refl n)))
       go (inr q) ih = acts .other n e (forBelow n one s) (λ (p : e ≡ n). omega arith) ∙ ih q
 
 -- ---- steps made of steps
 
 -- one after the other
-pub acts-then : {cfg : Configuration} {one two : ℕ → State → State} {f g : ℕ → View → View} → Acts cfg one f → Acts cfg two g
+pub acts-then : {cfg : Configuration} {one two : ℕ → State → State} {f g : ℕ → View → View} → Acts cfg one f
+    → Acts cfg two g
     → Acts cfg (λ k s. two k (one k s)) (λ k v. g k (f k v))
 acts-then {one = one} {g = g} a b = record {
   sized = λ k s z. b .sized k (one k s) (a .sized k s z);
@@ -93,7 +106,8 @@ acts-then {one = one} {g = g} a b = record {
 }
 
 -- a step that goes by the event's own view
-acts-given : {cfg : Configuration} (one : ℕ → View → ℕ → State → State) (f : ℕ → View → ℕ → View → View) → ((j : ℕ) (w : View) → Acts cfg (one j w) (f j w))
+acts-given : {cfg : Configuration} (one : ℕ → View → ℕ → State → State) (f : ℕ → View → ℕ → View → View)
+    → ((j : ℕ) (w : View) → Acts cfg (one j w) (f j w))
     → Acts cfg (λ k s. one k (view s k) k s) (λ k v. f k v k v)
 acts-given one f a = record {
   sized = λ k s. a k (view s k) .sized k s;
@@ -103,10 +117,12 @@ acts-given one f a = record {
 }
 
 -- one of two, by a test of that view
-acts-choice : {cfg : Configuration} {one two : ℕ → State → State} {f g : ℕ → View → View} (test : ℕ → View → Bool) → Acts cfg one f → Acts cfg two g
+acts-choice : {cfg : Configuration} {one two : ℕ → State → State} {f g : ℕ → View → View} (test : ℕ → View → Bool)
+    → Acts cfg one f → Acts cfg two g
     → Acts cfg (λ k s. cond (test k (view s k)) (one k s) (two k s)) (λ k v. cond (test k v) (f k v) (g k v))
 acts-choice {cfg} {one} {two} {f} {g} test a b =
-    acts-given (λ j w k s. cond (test j w) (one k s) (two k s)) (λ j w k v. cond (test j w) (f k v) (g k v)) (λ j w. go (test j w))
+    acts-given (λ j w k s. cond (test j w) (one k s) (two k s)) (λ j w k v. cond (test j w) (f k v) (g k v))
+    (λ j w. go (test j w))
   where
     go : (t : Bool) → Acts cfg (λ k s. cond t (one k s) (two k s)) (λ k v. cond t (f k v) (g k v))
     go true = a
@@ -117,14 +133,21 @@ cond-same true x = refl
 cond-same false x = refl
 
 -- one of two that do the same to it
-acts-either : {cfg : Configuration} {one two : ℕ → State → State} {f : ℕ → View → View} (test : ℕ → View → Bool) → Acts cfg one f → Acts cfg two f
+acts-either : {cfg : Configuration} {one two : ℕ → State → State} {f : ℕ → View → View} (test : ℕ → View → Bool)
+    → Acts cfg one f → Acts cfg two f
     → Acts cfg (λ k s. cond (test k (view s k)) (one k s) (two k s)) f
 acts-either test a b = let c = acts-choice test a b in simp cond-same at c
 
 -- what changes memory and the overflow flag alone
 acts-aside : {cfg : Configuration} (memory : ℕ → State → List ℕ) (overflow : ℕ → State → Bool)
     → Acts cfg (λ k s. withOverflow (overflow k s) (withMemory (memory k s) s)) (λ k v. v)
-acts-aside memory overflow = record { sized = λ k s. sized-same s _ refl refl; own = λ k s z h. refl; other = λ k e s h. refl; running = λ k s. refl }
+acts-aside memory overflow =
+    record {
+      sized = λ k s. sized-same s _ refl refl;
+      own = λ k s z h. refl;
+      other = λ k e s h. refl;
+      running = λ k s. refl;
+    }
 
 acts-not : {cfg : Configuration} → Acts cfg (λ k s. s) (λ k v. v)
 acts-not = acts-aside _ _
@@ -134,7 +157,8 @@ pub acts-cond : {cfg : Configuration} {one : ℕ → State → State} {f : ℕ �
     → Acts cfg (λ k s. cond (p k) (one k s) s) (λ k v. cond (p k) (f k v) v)
 acts-cond p a = acts-choice (λ k v. p k) a acts-not
 
-module _ {cfg : Configuration} {one : ℕ → State → State} {f : ℕ → View → View} (acts : Acts cfg one f) (p : ℕ → Bool) (s : State) where
+module _ {cfg : Configuration} {one : ℕ → State → State} {f : ℕ → View → View} (acts : Acts cfg one f) (p : ℕ → Bool)
+    (s : State) where
   pub those-sized : Sized cfg s → Sized cfg (forThose cfg p one s)
   unfolding forThose
   those-sized z = fold-sized (acts-cond p acts) (events cfg) s z
@@ -143,7 +167,8 @@ module _ {cfg : Configuration} {one : ℕ → State → State} {f : ℕ → View
   unfolding forThose
   those-running = fold-running (acts-cond p acts) (events cfg) s
 
-  pub those-own : Sized cfg s → (e : ℕ) → e < events cfg → view (forThose cfg p one s) e ≡ cond (p e) (f e (view s e)) (view s e)
+  pub those-own : Sized cfg s → (e : ℕ) → e < events cfg
+      → view (forThose cfg p one s) e ≡ cond (p e) (f e (view s e)) (view s e)
   unfolding forThose
   those-own z e h = fold-own (acts-cond p acts) (events cfg) e s z (le-refl (events cfg)) h
 
@@ -170,8 +195,11 @@ module _ (cfg : Configuration) where
   pub acts-D : (d : ℤ) → Acts cfg (λ k s. withD k d s) (λ k v. viewed (v .stored) d)
   acts-D d = record {
     sized = λ k s z. record { records = z .records; debounce = length-set (s .debounce) k d ∙ z .debounce };
-    own = λ k s z h. ap (λ (x : ℤ). viewed (storedAt k (s .records)) x) (getD-set-same (s .debounce) k d (pos 0) (omega arith));
-    other = λ k e s h. ap (λ (x : ℤ). viewed (storedAt e (s .records)) x) (getD-set-other (s .debounce) k e d (pos 0) h);
+    own =
+        λ k s z h. ap (λ (x : ℤ). viewed (storedAt k (s .records)) x)
+        (getD-set-same (s .debounce) k d (pos 0) (omega arith));
+    other =
+        λ k e s h. ap (λ (x : ℤ). viewed (storedAt e (s .records)) x) (getD-set-other (s .debounce) k e d (pos 0) h);
     running = λ k s. refl;
   }
 
@@ -186,7 +214,9 @@ module _ (cfg : Configuration) where
   pub acts-stops : Acts cfg (stops cfg) (λ k v. viewed (storedAfter stop k (v .stored)) (pos 0))
   unfolding stops
   acts-stops =
-      acts-then (acts-either (λ k v. agesAtStop (limitsOf cfg k) (opened (v .stored))) (acts-then (acts-happens stop) acts-entryLeaves) (acts-happens stop))
+      acts-then
+      (acts-either (λ k v. agesAtStop (limitsOf cfg k) (opened (v .stored)))
+      (acts-then (acts-happens stop) acts-entryLeaves) (acts-happens stop))
       (acts-D (pos 0))
 
   pub acts-clears : Acts cfg (clears cfg) (λ k v. viewed (storedAfter clear k (v .stored)) (pos 0))
@@ -203,7 +233,9 @@ pub record Beside (s t : State) : Type 0 where
 module _ (cfg : Configuration) (frame : List ℕ) (k : ℕ) where
   beside-fails : (s : State) → Beside s (fails cfg frame k s)
   unfolding fails happens memoryTold keeps
-  beside-fails s = by (freshFailure (recordOf s k)) (Beside s) (λ q. record { debounce = refl; running = refl }) (λ q. record { debounce = refl; running = refl })
+  beside-fails s =
+      by (freshFailure (recordOf s k)) (Beside s) (λ q. record { debounce = refl; running = refl })
+      (λ q. record { debounce = refl; running = refl })
 
   beside-qualifies : (w : Verdict) (s : State) → Beside s (qualifies cfg frame k w s)
   unfolding happens
@@ -221,8 +253,12 @@ module _ (cfg : Configuration) (frame : List ℕ) (k : ℕ) where
       ap (λ (l : List ℤ). getD l e (pos 0)) (beside-qualifies (d .verdict) (withD k (d .number) s) .debounce)
       ∙ getD-set-other (s .debounce) k e (d .number) (pos 0) h
 
-pub ticks-running : (cfg : Configuration) (ms : ℕ) (frame : List ℕ) (p : ℕ → Bool) (s : State) → forThose cfg p (ticks cfg ms frame) s .board .running ≡ s .board .running
+pub ticks-running : (cfg : Configuration) (ms : ℕ) (frame : List ℕ) (p : ℕ → Bool) (s : State)
+    → forThose cfg p (ticks cfg ms frame) s .board .running ≡ s .board .running
 unfolding forThose
 ticks-running cfg ms frame p s =
-    for-below-keeps (λ (t : State). t .board .running ≡ s .board .running) (λ k t. cond (p k) (ticks cfg ms frame k t) t) (events cfg) (events cfg) (le-refl (events cfg))
-    (λ k t h q. by (p k) (λ (t : State). t .board .running ≡ s .board .running) (λ r. applied-running cfg frame k _ t ∙ q) (λ r. q)) s refl
+    for-below-keeps (λ (t : State). t .board .running ≡ s .board .running)
+    (λ k t. cond (p k) (ticks cfg ms frame k t) t) (events cfg) (events cfg) (le-refl (events cfg))
+    (λ k t h q. by (p k) (λ (t : State). t .board .running ≡ s .board .running)
+    (λ r. applied-running cfg frame k _ t ∙ q) (λ r. q))
+    s refl

@@ -22,7 +22,8 @@ use Rattle.manual.specs.Answers.{Beside}
 use Rattle.manual.specs.Sequences.{Call, result, onlyIf, outcome, tokensAt, goesOn}
 use Rattle.manual.proofs.StateLaws.{opened-stored}
 use Rattle.manual.proofs.WordsLaws.{by, for-below-keeps}
-use Rattle.manual.proofs.OneEventLaws.{View, view, Sized, sized-same, Acts, one-own, those-sized, those-own, tokenView, acts-happens, acts-D, acts-stops, acts-clears, applied-other-D}
+use Rattle.manual.proofs.OneEventLaws.{View, view, Sized, sized-same, Acts, one-own, those-sized, those-own}
+use Rattle.manual.proofs.OneEventLaws.{tokenView, acts-happens, acts-D, acts-stops, acts-clears, applied-other-D}
 use Rattle.manual.proofs.FreshLaws.{fresh-sized, fresh-records}
 use Rattle.manual.proofs.SequencesLaws.{Histories, KeptWhenAccepted, call-keeps}
 
@@ -32,8 +33,10 @@ module _ (cfg : Configuration) where
     pub records : (e : ℕ) → e < events cfg → storedAt e (s .records) ≡ stored (recordAfter (limitsOf cfg e) (H e))
 
   -- the board and memory are no part of it
-  follows-same : (s t : State) (H : Histories) → t .records ≡ s .records → t .debounce ≡ s .debounce → Follows s H → Follows t H
-  follows-same s t H p q f = record { sized = sized-same s t p q (f .sized); records = λ e h. ap (storedAt e) p ∙ f .records e h }
+  follows-same : (s t : State) (H : Histories) → t .records ≡ s .records → t .debounce ≡ s .debounce → Follows s H
+      → Follows t H
+  follows-same s t H p q f =
+      record { sized = sized-same s t p q (f .sized); records = λ e h. ap (storedAt e) p ∙ f .records e h }
 
   -- f does to a record what the tokens of g do
   abbrev Counts : (ℕ → View → View) → (ℕ → View → List Token) → Type 0
@@ -47,27 +50,38 @@ module _ (cfg : Configuration) where
 
   -- equal histories
   follows-equal : (s : State) (H K : Histories) → ((e : ℕ) → e < events cfg → K e ≡ H e) → Follows s H → Follows s K
-  follows-equal s H K q f = record { sized = f .sized; records = λ e h. f .records e h ∙ ap (λ (l : History). stored (recordAfter (limitsOf cfg e) l)) (sym (q e h)) }
+  follows-equal s H K q f =
+      record {
+        sized = f .sized;
+        records = λ e h. f .records e h ∙ ap (λ (l : History). stored (recordAfter (limitsOf cfg e) l)) (sym (q e h));
+      }
 
   module _ (s : State) (H : Histories) (follows : Follows s H) where
     -- a step on the events that pass a test
-    follows-step : (p : ℕ → Bool) (f : ℕ → View → View) (g : ℕ → View → List Token) → Counts f g → (t : State) → Sized cfg t
+    follows-step : (p : ℕ → Bool) (f : ℕ → View → View) (g : ℕ → View → List Token) → Counts f g → (t : State)
+        → Sized cfg t
         → ((e : ℕ) → e < events cfg → view t e ≡ cond (p e) (f e (view s e)) (view s e))
         → Follows t (λ e. onlyIf (p e) (g e (view s e)) ++ H e)
-    follows-step p f g counts t z own = record { sized = z; records = λ e h. ap (λ (v : View). v .stored) (own e h) ∙ go (p e) e h }
+    follows-step p f g counts t z own =
+        record { sized = z; records = λ e h. ap (λ (v : View). v .stored) (own e h) ∙ go (p e) e h }
       where
         go : (b : Bool) (e : ℕ) → e < events cfg
-            → cond b (f e (view s e)) (view s e) .stored ≡ stored (recordAfter (limitsOf cfg e) (onlyIf b (g e (view s e)) ++ H e))
+            → cond b (f e (view s e)) (view s e) .stored
+            ≡ stored (recordAfter (limitsOf cfg e) (onlyIf b (g e (view s e)) ++ H e))
         go true e h = counts e (view s e) (H e) (follows .records e h)
         go false e h = follows .records e h
 
-    follows-those : {one : ℕ → State → State} {f : ℕ → View → View} → Acts cfg one f → (g : ℕ → View → List Token) → Counts f g → (p : ℕ → Bool)
+    follows-those : {one : ℕ → State → State} {f : ℕ → View → View} → Acts cfg one f → (g : ℕ → View → List Token)
+        → Counts f g → (p : ℕ → Bool)
         → Follows (forThose cfg p one s) (λ e. onlyIf (p e) (g e (view s e)) ++ H e)
-    follows-those {f = f} acts g counts p = follows-step p f g counts _ (those-sized acts p s (follows .sized)) (those-own acts p s (follows .sized))
+    follows-those {f = f} acts g counts p =
+        follows-step p f g counts _ (those-sized acts p s (follows .sized)) (those-own acts p s (follows .sized))
 
-    follows-one : {one : ℕ → State → State} {f : ℕ → View → View} → Acts cfg one f → (g : ℕ → View → List Token) → Counts f g → (k : ℕ)
+    follows-one : {one : ℕ → State → State} {f : ℕ → View → View} → Acts cfg one f → (g : ℕ → View → List Token)
+        → Counts f g → (k : ℕ)
         → Follows (one k s) (λ e. onlyIf (eqb e k) (g e (view s e)) ++ H e)
-    follows-one {f = f} acts g counts k = follows-step (λ e. eqb e k) f g counts _ (acts .sized k s (follows .sized)) (one-own acts k s (follows .sized))
+    follows-one {f = f} acts g counts k =
+        follows-step (λ e. eqb e k) f g counts _ (acts .sized k s (follows .sized)) (one-own acts k s (follows .sized))
 
   -- ---- one part of a report or a tick
 
@@ -80,23 +94,30 @@ module _ (cfg : Configuration) where
   nothing false l = refl
 
   module _ (frame : List ℕ) (k : ℕ) where
-    token-follows : (t : Token) (s : State) (H : Histories) → Follows s H → Follows (happens cfg t k s) (λ e. onlyIf (eqb e k) (t ∷ []) ++ H e)
+    token-follows : (t : Token) (s : State) (H : Histories) → Follows s H
+        → Follows (happens cfg t k s) (λ e. onlyIf (eqb e k) (t ∷ []) ++ H e)
     token-follows t s H f = follows-one s H f (acts-happens cfg t) (λ e v. t ∷ []) (counts-token t) k
 
-    fails-follows : (s : State) (H : Histories) → Follows s H → Follows (fails cfg frame k s) (λ e. partGives k Failed e ++ H e)
+    fails-follows : (s : State) (H : Histories) → Follows s H
+        → Follows (fails cfg frame k s) (λ e. partGives k Failed e ++ H e)
     unfolding fails memoryTold keeps
     fails-follows s H f =
         let f′ = token-follows failed s H f in
-        by (freshFailure (recordOf s k)) (λ (u : State). Follows u (λ e. partGives k Failed e ++ H e)) (λ q. follows-same _ _ _ refl refl f′) (λ q. f′)
+        by (freshFailure (recordOf s k)) (λ (u : State). Follows u (λ e. partGives k Failed e ++ H e))
+        (λ q. follows-same _ _ _ refl refl f′) (λ q. f′)
 
-    qualifies-follows : (w : Verdict) (s : State) (H : Histories) → Follows s H → Follows (qualifies cfg frame k w s) (λ e. partGives k w e ++ H e)
+    qualifies-follows : (w : Verdict) (s : State) (H : Histories) → Follows s H
+        → Follows (qualifies cfg frame k w s) (λ e. partGives k w e ++ H e)
     qualifies-follows None s H f = follows-equal s H _ (λ e h. nothing (eqb e k) (H e)) f
     qualifies-follows Passed s H f = token-follows passed s H f
     qualifies-follows Failed s H f = fails-follows s H f
 
-    applied-follows : (d : Debounced) (s : State) (H : Histories) → Follows s H → Follows (applied cfg frame k d s) (λ e. partGives k (d .verdict) e ++ H e)
+    applied-follows : (d : Debounced) (s : State) (H : Histories) → Follows s H
+        → Follows (applied cfg frame k d s) (λ e. partGives k (d .verdict) e ++ H e)
     unfolding applied
-    applied-follows d s H f = qualifies-follows (d .verdict) (withD k (d .number) s) H (record { sized = acts-D cfg (d .number) .sized k s (f .sized); records = f .records })
+    applied-follows d s H f =
+        qualifies-follows (d .verdict) (withD k (d .number) s) H
+        (record { sized = acts-D cfg (d .number) .sized k s (f .sized); records = f .records })
 
   -- ---- the parts of a tick, one after the other
 
@@ -110,7 +131,8 @@ module _ (cfg : Configuration) where
     -- what the parts of the events below n give event e, the newest first
     unfoldable partsBelow : ℕ → ℕ → List Token
     partsBelow zero e = []
-    partsBelow (suc n) e = onlyIf (runsHere n) (partGives n (ticked cfg n ms (D (tickedBelow n) n) .verdict) e) ++ partsBelow n e
+    partsBelow (suc n) e =
+        onlyIf (runsHere n) (partGives n (ticked cfg n ms (D (tickedBelow n) n) .verdict) e) ++ partsBelow n e
 
     below-follows : (H : Histories) → Follows s H → (n : ℕ) → Follows (tickedBelow n) (λ e. partsBelow n e ++ H e)
     unfolding forBelow partsBelow
@@ -118,20 +140,30 @@ module _ (cfg : Configuration) where
     below-follows H f (suc n) = go (runsHere n) (below-follows H f n)
       where
         go : (b : Bool) → Follows (tickedBelow n) (λ e. partsBelow n e ++ H e)
-            → Follows (cond b (ticks cfg ms frame n (tickedBelow n)) (tickedBelow n)) (λ e. (onlyIf b (partGives n (ticked cfg n ms (D (tickedBelow n) n) .verdict) e) ++ partsBelow n e) ++ H e)
-        go true ih = follows-equal _ _ _ (λ e h. append-assoc (partGives n (ticked cfg n ms (D (tickedBelow n) n) .verdict) e) (partsBelow n e) (H e)) (applied-follows frame n (ticked cfg n ms (D (tickedBelow n) n)) (tickedBelow n) _ ih)
+            → Follows (cond b (ticks cfg ms frame n (tickedBelow n)) (tickedBelow n))
+            (λ e. (onlyIf b (partGives n (ticked cfg n ms (D (tickedBelow n) n) .verdict) e) ++ partsBelow n e)
+            ++ H e)
+        go true ih =
+            follows-equal _ _ _
+            (λ e h. append-assoc (partGives n (ticked cfg n ms (D (tickedBelow n) n) .verdict) e)
+            (partsBelow n e) (H e))
+            (applied-follows frame n (ticked cfg n ms (D (tickedBelow n) n)) (tickedBelow n) _ ih)
         go false ih = ih
 
     -- no part of another event moves D
     number-waits : (n e : ℕ) → n ≤ e → D (tickedBelow n) e ≡ D s e
     number-waits n e h =
-        for-below-keeps (λ (u : State). D u e ≡ D s e) (λ e u. cond (runsHere e) (ticks cfg ms frame e u) u) n n (le-refl n)
-        (λ k u l q. by (runsHere k) (λ (u : State). D u e ≡ D s e) (λ r. applied-other-D cfg frame k _ u e (λ (p : e ≡ k). omega arith) ∙ q) (λ r. q)) s refl
+        for-below-keeps (λ (u : State). D u e ≡ D s e) (λ e u. cond (runsHere e) (ticks cfg ms frame e u) u) n n
+        (le-refl n)
+        (λ k u l q. by (runsHere k) (λ (u : State). D u e ≡ D s e)
+        (λ r. applied-other-D cfg frame k _ u e (λ (p : e ≡ k). omega arith) ∙ q) (λ r. q))
+        s refl
 
     none-yet : (n e : ℕ) → n ≤ e → partsBelow n e ≡ []
     unfolding partsBelow
     none-yet zero e h = refl
-    none-yet (suc n) e h = rw (ne-eqb e n (λ (p : e ≡ n). omega arith), none-yet n e (omega arith)) (nothing (runsHere n) [])
+    none-yet (suc n) e h =
+        rw (ne-eqb e n (λ (p : e ≡ n). omega arith), none-yet n e (omega arith)) (nothing (runsHere n) [])
 
     -- so each event gets its own part's result, by its D at the start
     parts-are : (n e : ℕ) → e < n → partsBelow n e ≡ onlyIf (runsHere e) (result (ticked cfg e ms (D s e) .verdict))
@@ -139,8 +171,10 @@ module _ (cfg : Configuration) where
     parts-are zero e h = absurd (not-suc-le-zero h)
     parts-are (suc n) e h = go (eq-or-lt-of-le (le-of-suc-le-suc h)) (λ l. parts-are n e l)
       where
-        go : (e ≡ n) ⊎ (e < n) → (e < n → partsBelow n e ≡ onlyIf (runsHere e) (result (ticked cfg e ms (D s e) .verdict)))
-            → onlyIf (runsHere n) (partGives n (ticked cfg n ms (D (tickedBelow n) n) .verdict) e) ++ partsBelow n e ≡ onlyIf (runsHere e) (result (ticked cfg e ms (D s e) .verdict))
+        go : (e ≡ n) ⊎ (e < n)
+            → (e < n → partsBelow n e ≡ onlyIf (runsHere e) (result (ticked cfg e ms (D s e) .verdict)))
+            → onlyIf (runsHere n) (partGives n (ticked cfg n ms (D (tickedBelow n) n) .verdict) e) ++ partsBelow n e
+            ≡ onlyIf (runsHere e) (result (ticked cfg e ms (D s e) .verdict))
         go (inl q) ih = rw (q, eq-eqb n n refl, none-yet n n (le-refl n), number-waits n n (le-refl n)) (append-nil _)
         go (inr l) ih = rw (ne-eqb e n (λ (p : e ≡ n). omega arith)) (nothing (runsHere n) (partsBelow n e) ∙ ih l)
 
@@ -148,17 +182,32 @@ module _ (cfg : Configuration) where
     follows-accepted : KeptWhenAccepted cfg Follows s H
     unfolding cleared forThose
     follows-accepted = record {
-      report = λ k code frame z. follows-equal _ _ _ (λ e h. ap (λ (l : List Token). l ++ H e) (own-verdict k e code)) (applied-follows frame k (reported cfg k code (D s k)) s H follows);
-      tick = λ ms frame z. follows-equal _ _ _ (λ e h. ap (λ (l : List Token). l ++ H e) (sym (parts-are ms frame s (events cfg) e h))) (below-follows ms frame s H follows (events cfg));
-      start = λ c z. follows-same _ _ _ refl refl (follows-those s H follows (acts-happens cfg start) (λ e v. start ∷ []) (counts-token start) (ofCycle cfg c));
-      stop = λ c z. follows-same _ _ _ refl refl (follows-those s H follows (acts-stops cfg) (λ e v. stop ∷ []) (counts-token stop) (ofCycle cfg c));
-      clear = λ code z. follows-same _ _ _ refl refl (follows-those s H follows (acts-clears cfg) (λ e v. clear ∷ []) (counts-token clear) (covers cfg code));
+      report =
+          λ k code frame z. follows-equal _ _ _ (λ e h. ap (λ (l : List Token). l ++ H e) (own-verdict k e code))
+          (applied-follows frame k (reported cfg k code (D s k)) s H follows);
+      tick =
+          λ ms frame z. follows-equal _ _ _
+          (λ e h. ap (λ (l : List Token). l ++ H e) (sym (parts-are ms frame s (events cfg) e h)))
+          (below-follows ms frame s H follows (events cfg));
+      start =
+          λ c z. follows-same _ _ _ refl refl
+          (follows-those s H follows (acts-happens cfg start) (λ e v. start ∷ []) (counts-token start) (ofCycle cfg c));
+      stop =
+          λ c z. follows-same _ _ _ refl refl
+          (follows-those s H follows (acts-stops cfg) (λ e v. stop ∷ []) (counts-token stop) (ofCycle cfg c));
+      clear =
+          λ code z. follows-same _ _ _ refl refl
+          (follows-those s H follows (acts-clears cfg) (λ e v. clear ∷ []) (counts-token clear) (covers cfg code));
     }
       where
-        own-verdict : (k e code : ℕ) → onlyIf (eqb e k) (result (reported cfg e code (D s e) .verdict)) ≡ partGives k (reported cfg k code (D s k) .verdict) e
+        own-verdict : (k e code : ℕ)
+            → onlyIf (eqb e k) (result (reported cfg e code (D s e) .verdict))
+            ≡ partGives k (reported cfg k code (D s k) .verdict) e
         own-verdict k e code = go (eqb e k) refl
           where
-            go : (b : Bool) → eqb e k ≡ b → onlyIf b (result (reported cfg e code (D s e) .verdict)) ≡ onlyIf b (result (reported cfg k code (D s k) .verdict))
+            go : (b : Bool) → eqb e k ≡ b
+                → onlyIf b (result (reported cfg e code (D s e) .verdict))
+                ≡ onlyIf b (result (reported cfg k code (D s k) .verdict))
             go true q = rw (eqb-true e k q)
             go false q = refl
 

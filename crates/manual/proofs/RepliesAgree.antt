@@ -14,7 +14,8 @@ use Rattle.manual.specs.State.{State}
 use Rattle.manual.specs.WellFormed.{wellFormed}
 use Rattle.manual.specs.Answers.{Beside, Outcome}
 use Rattle.manual.specs.Diagnostics.{requestReply}
-use Rattle.manual.specs.Replies.{sharesBit, numberBy, listBy, listAll, replyIn, linesIn, statusIn, numberIn, Tells, refusedWith}
+use Rattle.manual.specs.Replies.{sharesBit, numberBy, listBy, listAll, replyIn, linesIn}
+use Rattle.manual.specs.Replies.{statusIn, numberIn, Tells, refusedWith}
 use Rattle.manual.proofs.RepliesLaws.{rising-length, rising-at, map-at, those-map}
 use Rattle.manual.proofs.ListedRepliesLaws as Laws
 

@@ -11,7 +11,9 @@ use Rattle.manual.specs.Configuration.{Configuration}
 use Rattle.manual.specs.State.{State}
 use Rattle.manual.specs.Answers.{Beside, Outcome}
 use Rattle.manual.specs.Diagnostics.{requestReply}
-use Rattle.manual.specs.Replies.{SameReply, sends, refusedWith, Negative, Replies, other-service, alone, no-sub-function, other-length, too-long, not-four, unknown, negative, suppressed, positive, clears}
+use Rattle.manual.specs.Replies.{SameReply, sends, refusedWith, Negative, Replies, other-service, alone}
+use Rattle.manual.specs.Replies.{no-sub-function, other-length, too-long, not-four, unknown, negative, suppressed}
+use Rattle.manual.specs.Replies.{positive, clears}
 use Rattle.manual.proofs.RepliesLaws.{accepted-tells}
 use Rattle.manual.proofs.RepliesFollowTheSentences.{reply-said, reply-is}
 

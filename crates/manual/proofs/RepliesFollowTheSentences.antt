@@ -8,15 +8,20 @@ use mathlib.Core.Option.{Option, none, some}
 use Prim.Native.Nat.{ℕ}
 use lib.Dec.{eqb, ltb, leb}
 use lib.ListN.{length}
-use borrow.Author.Tests.{eqb-true, eqb-false, eq-eqb, ne-eqb, ltb-true, ltb-false, lt-ltb, le-ltb, leb-true, leb-false, le-leb, lt-leb, not-true, not-false}
+use borrow.Author.Tests.{eqb-true, eqb-false, eq-eqb, ne-eqb, ltb-true, ltb-false, lt-ltb}
+use borrow.Author.Tests.{le-ltb, leb-true, leb-false, le-leb, lt-leb, not-true, not-false}
 use Rattle.manual.specs.Words.{firstOf, two}
 use Rattle.manual.specs.Configuration.{Configuration, events}
 use Rattle.manual.specs.State.{State}
 use Rattle.manual.specs.Answers.{Beside, Outcome}
 use Rattle.manual.specs.Calls.{unknownCode, cleared}
-use Rattle.manual.specs.Diagnostics.{Reply, Served, served, SubFunction, subFunction, fitted, lines, numberByMask, listByMask, listAll, subFunctionOf, subFunctionReply, service19, service14, servedBy, sent, replied, requestReply}
+use Rattle.manual.specs.Diagnostics.{Reply, Served, served, SubFunction, subFunction, fitted, lines, numberByMask}
+use Rattle.manual.specs.Diagnostics.{listByMask, listAll, subFunctionOf, subFunctionReply, service19}
+use Rattle.manual.specs.Diagnostics.{service14, servedBy, sent, replied, requestReply}
 use Rattle.manual.specs.Replies as Replies
-use Rattle.manual.specs.Replies.{rising, number-by-mask, list-by-mask, list-all, other-service, alone, no-sub-function, other-length, too-long, not-four, unknown, negative, suppressed, positive, clears}
+use Rattle.manual.specs.Replies.{rising, number-by-mask, list-by-mask, list-all, other-service, alone}
+use Rattle.manual.specs.Replies.{no-sub-function, other-length, too-long, not-four, unknown, negative, suppressed}
+use Rattle.manual.specs.Replies.{positive, clears}
 use Rattle.manual.proofs.WordsLaws.{by}
 use Rattle.manual.proofs.RepliesLaws.{those-every, count-is, join-is, accepted-is}
 

@@ -1,5 +1,5 @@
--- Restoring the bytes that save wrote gives the saved state, every block and the board, whatever state of fitting lengths it is
--- restored into.
+-- Restoring the bytes that save wrote gives the saved state, every block and the board, whatever state of fitting
+-- lengths it is restored into.
 use mathlib.Core.Path.{_≡_, refl, ap, _∙_}
 use mathlib.Core.Bool.{Bool, true, not}
 use mathlib.Core.List.{List, [], _∷_}
@@ -16,7 +16,8 @@ use Rattle.manual.specs.Sequences.{savedImage}
 use Rattle.manual.proofs.AnswersLaws.{none-applies, accepted, goes-through}
 use Rattle.manual.proofs.ImageLaws.{state-of-own-image, own-image-acceptable}
 
-three-pass : (a b c : Bool) → a ≡ true → b ≡ true → c ≡ true → firstThatApplies ((2 if not a) ∷ (3 if not b) ∷ (8 if not c) ∷ []) ≡ 0
+three-pass : (a b c : Bool) → a ≡ true → b ≡ true → c ≡ true
+    → firstThatApplies ((2 if not a) ∷ (3 if not b) ∷ (8 if not c) ∷ []) ≡ 0
 unfolding firstThatApplies
 three-pass a b c p q r = rw (p, q, r)
 
@@ -45,12 +46,15 @@ module _ (cfg : Configuration) where
       let still = saved-still b s four z in
       ap (λ (l : List ℕ). restore cfg l b′ s′) (written-image b s z)
       ∙ goes-through _ b′ s′ (done b′ (stateOf cfg (imageOf cfg s)))
-      (three-pass (configOk cfg) (lengthsFit cfg s′) (acceptable cfg (imageOf cfg s)) (saved-configured b s z) fits (own-image-acceptable cfg s still))
+      (three-pass (configOk cfg) (lengthsFit cfg s′) (acceptable cfg (imageOf cfg s)) (saved-configured b s z) fits
+      (own-image-acceptable cfg s still))
       ∙ ap (done b′) (state-of-own-image cfg s still)
 
   -- an accepted restore of a saved image makes the saved state
   pub restored-is-saved : (s s′ : State) → length (s .board .running) ≡ 4 → (b b′ : Beside) → save cfg b s .answer ≡ 0
-      → restore cfg (savedImage (save cfg b s)) b′ s′ .answer ≡ 0 → restore cfg (savedImage (save cfg b s)) b′ s′ ≡ done b′ s
+      → restore cfg (savedImage (save cfg b s)) b′ s′ .answer ≡ 0
+      → restore cfg (savedImage (save cfg b s)) b′ s′ ≡ done b′ s
   unfolding restore restoreRules
   restored-is-saved s s′ four b b′ z r =
-      restore-after-save s s′ four (not-false (lengthsFit cfg s′) (none-applies _ (accepted _ b′ s′ _ r .0) refl 1)) b b′ z
+      restore-after-save s s′ four (not-false (lengthsFit cfg s′) (none-applies _ (accepted _ b′ s′ _ r .0) refl 1)) b
+      b′ z

@@ -1,4 +1,5 @@
--- Laws of specs/Sequences.antt: what a call does, and what every call keeps of a relation between a state and the events' histories.
+-- Laws of specs/Sequences.antt: what a call does, and what every call keeps of a relation between a state and the
+-- events' histories.
 use mathlib.Core.Path.{_≡_, refl, sym, ap, subst}
 use mathlib.Core.Logic.{_≢_, _⊎_, inl, inr}
 use mathlib.Core.Bool.{Bool, true, false, not, _&&_, cond}
@@ -14,10 +15,15 @@ use Rattle.manual.specs.Configuration.{Configuration}
 use Rattle.manual.specs.State.{State, D, withCycle}
 use Rattle.manual.specs.Answers.{Beside, Outcome, refused, Rule, firstThatApplies, judged}
 use Rattle.manual.specs.OneEvent.{happens, stops, forThose}
-use Rattle.manual.specs.Calls.{fresh, reportRules, applied, debouncedBy, report, tickRules, timeRuns, ticks, tick, ofCycle, startRules, startCycle, stopRules, stopCycle, covers, unknownCode, cleared, clearRules, clearCode, readStatus, readFrame}
+use Rattle.manual.specs.Calls.{fresh, reportRules, applied, debouncedBy, report, tickRules, timeRuns, ticks}
+use Rattle.manual.specs.Calls.{tick, ofCycle, startRules, startCycle, stopRules, stopCycle, covers, unknownCode}
+use Rattle.manual.specs.Calls.{cleared, clearRules, clearCode, readStatus, readFrame}
 use Rattle.manual.specs.Image.{save, restore}
-use Rattle.manual.specs.Diagnostics.{positive, negative, Served, served, service14, servedBy, sent, requestRules, requestReply}
-use Rattle.manual.specs.Sequences.{Query, ReadStatus, ReadFrame, Save, Call, Fresh, Report, Tick, Start, Stop, Clear, Read, Restore, Request, answerTo, onlyIf, outcome, asksClear, gives, tokens, tokensAt, goesOn}
+use Rattle.manual.specs.Diagnostics.{positive, negative, Served, served, service14}
+use Rattle.manual.specs.Diagnostics.{servedBy, sent, requestRules, requestReply}
+use Rattle.manual.specs.Sequences.{Query, ReadStatus, ReadFrame, Save, Call, Fresh, Report, Tick, Start, Stop}
+use Rattle.manual.specs.Sequences.{Clear, Read, Restore, Request, answerTo, onlyIf, outcome, asksClear, gives}
+use Rattle.manual.specs.Sequences.{tokens, tokensAt, goesOn}
 use Rattle.manual.proofs.WordsLaws.{clash, by}
 use Rattle.manual.proofs.AnswersLaws.{none-applies, goes-through}
 
@@ -40,14 +46,16 @@ judged-either P rules b s o z f = go (eqb (firstThatApplies rules) 0) refl
     go true e = inr (z, f (eqb-true (firstThatApplies rules) 0 e))
     go false e = inl (eqb-false (firstThatApplies rules) 0 e, refl)
 
-judged-leaves : (rules : List Rule) (b : Beside) (s : State) (o : Outcome) → o .state ≡ s → judged rules b s o .state ≡ s
+judged-leaves : (rules : List Rule) (b : Beside) (s : State) (o : Outcome) → o .state ≡ s
+    → judged rules b s o .state ≡ s
 unfolding judged
 judged-leaves rules b s o q = by (eqb (firstThatApplies rules) 0) (λ (r : Outcome). r .state ≡ s) (λ e. q) (λ e. refl)
 
 -- a fresh or a restore that goes on was refused
 not-accepted : {A : Type 0} (rules : List Rule) (b : Beside) (s : State) (o : Outcome) → o .answer ≡ 0
     → not (eqb (judged rules b s o .answer) 0) ≡ true → firstThatApplies rules ≡ 0 → A
-not-accepted rules b s o n g z = clash (eqb (judged rules b s o .answer) 0) (rw (goes-through rules b s o z, n)) (not-true _ g)
+not-accepted rules b s o n g z =
+    clash (eqb (judged rules b s o .answer) 0) (rw (goes-through rules b s o z, n)) (not-true _ g)
 
 module _ (cfg : Configuration) where
   -- a call that changes no block and not the board, where it is accepted
@@ -74,7 +82,8 @@ module _ (cfg : Configuration) where
         → Does s (Stop c) (withCycle c false (forThose cfg (ofCycle cfg c) (stops cfg) s))
     a-clear : (code : ℕ) → firstThatApplies (clearRules cfg code s) ≡ 0 → Does s (Clear code) (cleared cfg code s)
     -- service 14 with a known code does what the clear does
-    a-request : (bytes : List ℕ) → asksClear cfg bytes ≡ true → firstThatApplies (clearRules cfg (threeAt 1 bytes) s) ≡ 0
+    a-request : (bytes : List ℕ) → asksClear cfg bytes ≡ true
+        → firstThatApplies (clearRules cfg (threeAt 1 bytes) s) ≡ 0
         → Does s (Request bytes) (cleared cfg (threeAt 1 bytes) s)
     a-reading : (c : Call) → onlyReads c ≡ true → Does s c s
 
@@ -88,26 +97,31 @@ module _ (cfg : Configuration) where
       code = threeAt 1 bytes
 
       is14 : (fits unknown : Bool)
-          → cond (not fits) (served (negative 0x13) s) (cond unknown (served (negative 0x31) s) (served (positive (0x54 ∷ [])) (cleared cfg code s))) .state
+          → cond (not fits) (served (negative 0x13) s)
+          (cond unknown (served (negative 0x31) s) (served (positive (0x54 ∷ [])) (cleared cfg code s))) .state
           ≡ cond (fits && not unknown) (cleared cfg code s) s
       is14 true true = refl
       is14 true false = refl
       is14 false unknown = refl
 
       go : (b : Bool) → eqb (getD bytes 0 0) 0x14 ≡ b
-          → servedBy cfg bytes room s .state ≡ cond (b && eqb (length bytes) 4 && not (unknownCode cfg code)) (cleared cfg code s) s
+          → servedBy cfg bytes room s .state
+          ≡ cond (b && eqb (length bytes) 4 && not (unknownCode cfg code)) (cleared cfg code s) s
       go true e = rw (eqb-true (getD bytes 0 0) 0x14 e) (is14 (eqb (length bytes) 4) (unknownCode cfg code))
       go false e = rw e (by (eqb (getD bytes 0 0) 0x19) (λ (r : Served). r .state ≡ s) (λ x. refl) (λ x. refl))
 
   -- where a request is accepted, so is a clear of a known code
-  request-clears : (bytes : List ℕ) (b : Beside) (s : State) → firstThatApplies (requestRules cfg bytes b s) ≡ 0 → asksClear cfg bytes ≡ true
+  request-clears : (bytes : List ℕ) (b : Beside) (s : State) → firstThatApplies (requestRules cfg bytes b s) ≡ 0
+      → asksClear cfg bytes ≡ true
       → firstThatApplies (clearRules cfg (threeAt 1 bytes) s) ≡ 0
   unfolding firstThatApplies requestRules clearRules
   request-clears bytes b s z a =
       rw (none-applies (requestRules cfg bytes b s) z refl 0, none-applies (requestRules cfg bytes b s) z refl 1, known)
     where
       known : unknownCode cfg (threeAt 1 bytes) ≡ false
-      known = not-true _ (and-right (eqb (getD bytes 0 0) 0x14 && eqb (length bytes) 4) (not (unknownCode cfg (threeAt 1 bytes))) a)
+      known =
+          not-true _
+          (and-right (eqb (getD bytes 0 0) 0x14 && eqb (length bytes) 4) (not (unknownCode cfg (threeAt 1 bytes))) a)
 
   request-does : (bytes : List ℕ) (b : Beside) (s : State) → firstThatApplies (requestRules cfg bytes b s) ≡ 0
       → Does s (Request bytes) (servedBy cfg bytes (length (b .room)) s .state)
@@ -118,13 +132,16 @@ module _ (cfg : Configuration) where
       (λ n. a-reading (Request bytes) (ap not n)))
 
   -- "Refused calls and other events' reports count for nothing."
-  pub refused-gives-nothing : (c : Call) (b : Beside) (s : State) (e : ℕ) → outcome cfg c b s .answer ≢ 0 → tokensAt cfg c b s e ≡ []
+  pub refused-gives-nothing : (c : Call) (b : Beside) (s : State) (e : ℕ) → outcome cfg c b s .answer ≢ 0
+      → tokensAt cfg c b s e ≡ []
   unfolding tokens
   refused-gives-nothing c b s e h = rw (ne-eqb (outcome cfg c b s .answer) 0 h)
 
-  pub other-reports-give-nothing : (k code : ℕ) (frame : List ℕ) (b : Beside) (s : State) (e : ℕ) → e ≢ k → tokensAt cfg (Report k code frame) b s e ≡ []
+  pub other-reports-give-nothing : (k code : ℕ) (frame : List ℕ) (b : Beside) (s : State) (e : ℕ) → e ≢ k
+      → tokensAt cfg (Report k code frame) b s e ≡ []
   unfolding tokens
-  other-reports-give-nothing k code frame b s e h = rw (ne-eqb e k h) (nothing (eqb (outcome cfg (Report k code frame) b s .answer) 0))
+  other-reports-give-nothing k code frame b s e h =
+      rw (ne-eqb e k h) (nothing (eqb (outcome cfg (Report k code frame) b s .answer) 0))
     where
       nothing : (t : Bool) → onlyIf t [] ≡ []
       nothing true = refl
@@ -144,16 +161,19 @@ module _ (cfg : Configuration) where
       go true e = inr (eqb-true _ 0 e, subst (Does s (Read q)) (sym (query-leaves q b s)) (a-reading (Read q) refl))
       go false e = inl (eqb-false _ 0 e, query-leaves q b s)
 
-  pub call-does : (c : Call) (b : Beside) (s : State) → goesOn cfg c b s ≡ true → Either (Does s c) s (outcome cfg c b s)
+  pub call-does : (c : Call) (b : Beside) (s : State) → goesOn cfg c b s ≡ true
+      → Either (Does s c) s (outcome cfg c b s)
   unfolding fresh report tick startCycle stopCycle clearCode restore requestReply sent
   call-does Fresh b s g = judged-either (Does s Fresh) _ b s _ refl (λ z. not-accepted _ b s _ refl g z)
-  call-does (Report k code frame) b s g = judged-either (Does s (Report k code frame)) _ b s _ refl (a-report k code frame)
+  call-does (Report k code frame) b s g =
+      judged-either (Does s (Report k code frame)) _ b s _ refl (a-report k code frame)
   call-does (Tick ms frame) b s g = judged-either (Does s (Tick ms frame)) _ b s _ refl (a-tick ms frame)
   call-does (Start c) b s g = judged-either (Does s (Start c)) _ b s _ refl (a-start c)
   call-does (Stop c) b s g = judged-either (Does s (Stop c)) _ b s _ refl (a-stop c)
   call-does (Clear code) b s g = judged-either (Does s (Clear code)) _ b s _ refl (a-clear code)
   call-does (Read q) b s g = query-does q b s
-  call-does (Restore image) b s g = judged-either (Does s (Restore image)) _ b s _ refl (λ z. not-accepted _ b s _ refl g z)
+  call-does (Restore image) b s g =
+      judged-either (Does s (Restore image)) _ b s _ refl (λ z. not-accepted _ b s _ refl g z)
   call-does (Request bytes) b s g = judged-either (Does s (Request bytes)) _ b s _ refl (request-does bytes b s)
 
   -- ---- what every call keeps, of a relation between state and histories
@@ -177,9 +197,11 @@ module _ (cfg : Configuration) where
 
   module _ (Q : State → Histories → Type 0) (s : State) (H : Histories) (q : Q s H) (k : KeptWhenAccepted Q s H) where
     -- a request's tokens are those of the clear that it asks for
-    asked : (b : Bool) (bytes : List ℕ) (t : State) → asksClear cfg bytes ≡ b → Q t (λ e. onlyIf (b && covers cfg (threeAt 1 bytes) e) (clear ∷ []) ++ H e)
+    asked : (b : Bool) (bytes : List ℕ) (t : State) → asksClear cfg bytes ≡ b
+        → Q t (λ e. onlyIf (b && covers cfg (threeAt 1 bytes) e) (clear ∷ []) ++ H e)
         → Q t (λ e. onlyIf (asksClear cfg bytes && covers cfg (threeAt 1 bytes) e) (clear ∷ []) ++ H e)
-    asked b bytes t a = subst (λ (b : Bool). Q t (λ e. onlyIf (b && covers cfg (threeAt 1 bytes) e) (clear ∷ []) ++ H e)) (sym a)
+    asked b bytes t a =
+        subst (λ (b : Bool). Q t (λ e. onlyIf (b && covers cfg (threeAt 1 bytes) e) (clear ∷ []) ++ H e)) (sym a)
 
     reading-keeps : (c : Call) → onlyReads c ≡ true → Q s (given c s H)
     reading-keeps Fresh r = q
@@ -202,10 +224,12 @@ module _ (cfg : Configuration) where
     does-keeps _ _ (a-reading c r) = reading-keeps c r
 
     -- "Refused calls … count for nothing."
-    pub call-keeps : (c : Call) (b : Beside) → goesOn cfg c b s ≡ true → Q (outcome cfg c b s .state) (λ e. tokensAt cfg c b s e ++ H e)
+    pub call-keeps : (c : Call) (b : Beside) → goesOn cfg c b s ≡ true
+        → Q (outcome cfg c b s .state) (λ e. tokensAt cfg c b s e ++ H e)
     unfolding tokens
     call-keeps c b g = go (outcome cfg c b s) (call-does c b s g)
       where
-        go : (o : Outcome) → Either (Does s c) s o → Q (o .state) (λ e. tokens cfg (o .answer) c (s .board) e (D s e) ++ H e)
+        go : (o : Outcome) → Either (Does s c) s o
+            → Q (o .state) (λ e. tokens cfg (o .answer) c (s .board) e (D s e) ++ H e)
         go o (inl (n, p)) = rw (p, ne-eqb (o .answer) 0 n) q
         go o (inr (z, d)) = rw z (does-keeps c (o .state) d)

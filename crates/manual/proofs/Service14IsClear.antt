@@ -18,7 +18,8 @@ use Rattle.manual.proofs.AnswersLaws.{none-applies, accepted}
 pub code-back : (code : ℕ) → code < 16777216 → threeAt 1 (0x14 ∷ three code) ≡ code
 code-back code h = omega arith
 
-module _ (cfg : Configuration) (bytes : List ℕ) (b b′ : Beside) (s : State) (is14 : getD bytes 0 0 ≡ 0x14) (four : length bytes ≡ 4) where
+module _ (cfg : Configuration) (bytes : List ℕ) (b b′ : Beside) (s : State) (is14 : getD bytes 0 0 ≡ 0x14)
+    (four : length bytes ≡ 4) where
   abbrev code : ℕ
   code = threeAt 1 bytes
 

@@ -1,5 +1,5 @@
--- Signed numbers for `omega`, which reads only ℕ: z is over z - under z, two counts of which one is 0. Each law turns a fact on
--- signed numbers into a linear one on these counts, or back; the laws of the order are built of them.
+-- Signed numbers for `omega`, which reads only ℕ: z is over z - under z, two counts of which one is 0. Each law turns a
+-- fact on signed numbers into a linear one on these counts, or back; the laws of the order are built of them.
 use mathlib.Core.Path.{_≡_, refl, sym, ap}
 use mathlib.Core.Bool.{true, false, not, not-eq-not}
 use Prim.Native.Nat.{ℕ, zero, suc, _+_, _≤_, _<_}
@@ -67,10 +67,12 @@ pub no-le : (a b : ℤ) → over b + under a < over a + under b → leZ a b ≡ 
 no-le a b h = not-eq-not .0 (λ e. omega (arith, le-yes))
 
 pub lt-yes : (a b : ℤ) → ltZ a b ≡ true → over a + under b < over b + under a
-lt-yes a b e = le-no b a (not-eq-not .0 (λ t. clashℤ {a = a} {b = b} (ltZ-yes (so (ltZ a b) e)) (leZ-yes (so (leZ b a) t))))
+lt-yes a b e =
+    le-no b a (not-eq-not .0 (λ t. clashℤ {a = a} {b = b} (ltZ-yes (so (ltZ a b) e)) (leZ-yes (so (leZ b a) t))))
 
 pub lt-no : (a b : ℤ) → ltZ a b ≡ false → over b + under a ≤ over a + under b
 lt-no a b e = le-yes b a (yes-so (leZ b a) (ltZ-no {a = a} {b = b} (so (not (ltZ a b)) (ap not e)) .le))
 
--- `omega signed` reads the tests leZ and ltZ in reach and proves a goal on leZ, or an equation; a sum's add-is is listed beside it
+-- `omega signed` reads the tests leZ and ltZ in reach and proves a goal on leZ, or an equation; a sum's add-is is
+-- listed beside it
 pub ruleset signed = (arith, same-is, le-yes, le-no, yes-le, no-le, lt-yes, lt-no)

@@ -10,7 +10,8 @@ use Rattle.manual.specs.Configuration.{Configuration}
 use Rattle.manual.specs.State.{State}
 use Rattle.manual.specs.Answers.{Beside, Outcome}
 use Rattle.manual.specs.Diagnostics.{requestReply}
-use Rattle.manual.specs.Replies.{Asks, Suppressed, sends, Replies, number-by-mask, list-by-mask, list-all, negative, suppressed, positive, clears}
+use Rattle.manual.specs.Replies.{Asks, Suppressed, sends, Replies, number-by-mask, list-by-mask}
+use Rattle.manual.specs.Replies.{list-all, negative, suppressed, positive, clears}
 use Rattle.manual.proofs.RepliesFollowTheSentences.{reply-said, reply-is}
 
 module _ (cfg : Configuration) (request : List ℕ) (b : Beside) (s : State) where

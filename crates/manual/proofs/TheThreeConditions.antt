@@ -1,6 +1,6 @@
--- The three conditions that the customer accepts the manager by, each under its words. What is said here is said of the outcome of
--- each call as document 01 defines it (specs/); that each call in code has exactly that outcome is the statement of the call itself.
--- The theorems are proved in the files that the `use` lines name.
+-- The three conditions that the customer accepts the manager by, each under its words. What is said here is said of the
+-- outcome of each call as document 01 defines it (specs/); that each call in code has exactly that outcome is the
+-- statement of the call itself. The theorems are proved in the files that the `use` lines name.
 use mathlib.Core.Path.{_≡_}
 use mathlib.Core.Logic.{_≢_, _⊎_, _↔_}
 use mathlib.Core.Bool.{Bool, true}
@@ -18,7 +18,8 @@ use Rattle.manual.specs.Answers.{Beside, Outcome, Given, refused, done}
 use Rattle.manual.specs.Image.{imageOf, acceptable, Still, save, saved, restore}
 use Rattle.manual.specs.Diagnostics.{requestReply}
 use Rattle.manual.specs.Replies.{Replies}
-use Rattle.manual.specs.Sequences.{Query, Call, Report, answerTo, outcome, rulesOf, tokensAt, goesOn, savedImage, Reached, restored}
+use Rattle.manual.specs.Sequences.{Query, Call, Report, answerTo, outcome, rulesOf}
+use Rattle.manual.specs.Sequences.{tokensAt, goesOn, savedImage, Reached, restored}
 use Rattle.manual.specs.EntriesInACall.{Fate, Origin}
 use Rattle.manual.specs.MarkedExamples.{replayed, table}
 use Rattle.manual.proofs.SequencesLaws.{Histories}
@@ -39,11 +40,13 @@ use Rattle.manual.proofs.Examples as Examples
 -- any configuration whatever
 module _ (cfg : Configuration) where
   -- ---- 1. Total: any call with any arguments, any blocks and board, and anything lent beside them
-  -- "Every public call takes any configuration, blocks, frame or request whatever. It ends, refuses by the numbers of document 01 exactly
-  -- when 01 says, and a refused call leaves every lent block and the board as found." That it ends is proved with its code.
+  -- "Every public call takes any configuration, blocks, frame or request whatever. It ends, refuses by the numbers of
+  -- document 01 exactly when 01 says, and a refused call leaves every lent block and the board as found." That it ends
+  -- is proved with its code.
 
   module _ (c : Call) (b : Beside) (s : State) where
-    -- "refuses by the numbers of document 01 exactly when 01 says": it answers k exactly when k is the first of its list that applies
+    -- "refuses by the numbers of document 01 exactly when 01 says": it answers k exactly when k is the first of its
+    -- list that applies
     pub refuses-exactly-when : (k : ℕ) → (outcome cfg c b s .answer ≡ k) ↔ Given (rulesOf cfg c b s) k
     refuses-exactly-when = AnswerIsFirstThatApplies.answer-is-given cfg c b s
 
@@ -56,21 +59,26 @@ module _ (cfg : Configuration) where
   reading-leaves-all = SequencesLaws.query-leaves cfg
 
   -- ---- 2. Exact
-  -- "Debouncing, the ISO 14229 status bits, confirmation, healing, ageing, fault memory with displacement, diagnostic replies and saved
-  -- image are exactly 01's." What each call does is 01's definition, and these tie the definitions to 01's sentences once more.
+  -- "Debouncing, the ISO 14229 status bits, confirmation, healing, ageing, fault memory with displacement, diagnostic
+  -- replies and saved image are exactly 01's." What each call does is 01's definition, and these tie the definitions to
+  -- 01's sentences once more.
 
   -- "fault memory with displacement": what a store leaves, and what it did, is by one of the rules 1 to 4
-  pub store-is-ruled : (M : ℕ) (priority : ℕ → ℕ) (quiet : ℕ → Bool) (e : ℕ) (frame : List ℕ) (xs : List Entry) → noTwice xs ≡ true
+  pub store-is-ruled : (M : ℕ) (priority : ℕ → ℕ) (quiet : ℕ → Bool) (e : ℕ) (frame : List ℕ) (xs : List Entry)
+      → noTwice xs ≡ true
       → Ruled M priority quiet e frame xs (store M priority quiet e frame xs)
   store-is-ruled = OnlyTheNamedEntryLeaves.store-is-ruled
 
-  -- "diagnostic replies … are exactly 01's": an accepted request has this outcome exactly where a sentence of document 01 gives it
-  pub replies-exactly : (request : List ℕ) (b : Beside) (s : State) → requestReply cfg request b s .answer ≡ 0 → (o : Outcome)
+  -- "diagnostic replies … are exactly 01's": an accepted request has this outcome exactly where a sentence of document
+  -- 01 gives it
+  pub replies-exactly : (request : List ℕ) (b : Beside) (s : State) → requestReply cfg request b s .answer ≡ 0
+      → (o : Outcome)
       → (requestReply cfg request b s ≡ o) ↔ Replies cfg request s b o
   replies-exactly = RepliesFollowTheSentences.reply-exactly cfg
 
   -- "saved image": restore accepts exactly the images of well-formed states with all cycles stopped
-  pub images-exactly : (image : List ℕ) → (acceptable cfg image ≡ true) ↔ ((s : State) × Still cfg s × (imageOf cfg s ≡ image))
+  pub images-exactly : (image : List ℕ)
+      → (acceptable cfg image ≡ true) ↔ ((s : State) × Still cfg s × (imageOf cfg s ≡ image))
   images-exactly = AcceptedImages.accepted-exactly cfg
 
   -- "An accepted image restored and saved again gives the same bytes", in any room that holds them
@@ -79,30 +87,35 @@ module _ (cfg : Configuration) where
       → save cfg b′ (restore cfg image b s .state) ≡ saved cfg image b′ (restore cfg image b s .state)
   restored-and-saved = SaveAfterRestore.save-after-restore cfg
 
-  -- "a saved state restored is the same state", into any blocks of fitting lengths; that a board has four cycles is a fact of its type
-  -- in code
+  -- "a saved state restored is the same state", into any blocks of fitting lengths; that a board has four cycles is a
+  -- fact of its type in code
   pub saved-and-restored : (s s′ : State) → length (s .board .running) ≡ 4 → lengthsFit cfg s′ ≡ true → (b b′ : Beside)
       → save cfg b s .answer ≡ 0 → restore cfg (savedImage (save cfg b s)) b′ s′ ≡ done b′ s
   saved-and-restored = RestoreAfterSave.restore-after-save cfg
 
-  -- "Memory never lists an event twice": it is a clause of "well formed", and every call leaves a well-formed state well formed
-  pub stays-well-formed : (c : Call) (b : Beside) (s : State) → wellFormed cfg s ≡ true → wellFormed cfg (outcome cfg c b s .state) ≡ true
+  -- "Memory never lists an event twice": it is a clause of "well formed", and every call leaves a well-formed state
+  -- well formed
+  pub stays-well-formed : (c : Call) (b : Beside) (s : State) → wellFormed cfg s ≡ true
+      → wellFormed cfg (outcome cfg c b s .state) ≡ true
   stays-well-formed = StaysWellFormed.stays-well-formed cfg
 
-  -- "only the entry the rule names is pushed out": what becomes of each entry in a call that makes no second fresh state and restores
-  -- none, and where each comes from that stands there afterwards
+  -- "only the entry the rule names is pushed out": what becomes of each entry in a call that makes no second fresh
+  -- state and restores none, and where each comes from that stands there afterwards
   module _ (c : Call) (b : Beside) (s : State) (goes-on : goesOn cfg c b s ≡ true) where
-    pub fate-of-each : (x : Entry) → List·Memᴰ x (entries cfg s) → Fate cfg b s c (entries cfg (outcome cfg c b s .state)) x
+    pub fate-of-each : (x : Entry) → List·Memᴰ x (entries cfg s)
+        → Fate cfg b s c (entries cfg (outcome cfg c b s .state)) x
     fate-of-each = OnlyTheNamedEntryLeavesInEveryCall.fate-of-each cfg c b s goes-on
 
     pub origin-of-each : (y : Entry) → List·Memᴰ y (entries cfg (outcome cfg c b s .state)) → Origin cfg b s c y
     origin-of-each = OnlyTheNamedEntryLeavesInEveryCall.origin-of-each cfg c b s goes-on
 
-  -- ---- 3. History: a state that calls lead to from a fresh one, with restores of images saved on the way, and each event's history
+  -- ---- 3. History: a state that calls lead to from a fresh one, with restores of images saved on the way, and each
+  -- event's history
 
   module _ {s : State} {H : Histories} (reached : Reached cfg s H) where
     -- "all eight status bits of each event equal what 01 reads off that event's whole history"
-    pub every-bit-is-read : (e : ℕ) → e < events cfg → (bit : Bit) → statusOf (getD (s .records) (recordWidth * e) 0) bit ≡ reading (limitsOf cfg e) (H e) bit
+    pub every-bit-is-read : (e : ℕ) → e < events cfg → (bit : Bit)
+        → statusOf (getD (s .records) (recordWidth * e) 0) bit ≡ reading (limitsOf cfg e) (H e) bit
     every-bit-is-read = ByteIsReadingInEverySequence.bit-is-reading-in-sequence cfg reached
 
     pub no-event-twice : noTwice (entries cfg s) ≡ true
@@ -114,7 +127,8 @@ module _ (cfg : Configuration) where
     no-call-left-out = NoCallLeftOut.no-call-left-out cfg reached
 
     -- "Refused calls and other events' reports count for nothing."
-    pub refused-gives-nothing : (c : Call) (b : Beside) (e : ℕ) → outcome cfg c b s .answer ≢ 0 → tokensAt cfg c b s e ≡ []
+    pub refused-gives-nothing : (c : Call) (b : Beside) (e : ℕ) → outcome cfg c b s .answer ≢ 0
+        → tokensAt cfg c b s e ≡ []
     refused-gives-nothing c b = SequencesLaws.refused-gives-nothing cfg c b s
 
     pub other-reports-give-nothing : (k code : ℕ) (frame : List ℕ) (b : Beside) (e : ℕ) → e ≢ k

@@ -1,6 +1,6 @@
--- In every state that calls lead to, with restores of images saved on the way: the configuration is accepted and the state well
--- formed, so no call is refused with 2 or 3; memory lists no event twice; and the stored record of each event is the record that its
--- history makes.
+-- In every state that calls lead to, with restores of images saved on the way: the configuration is accepted and the
+-- state well formed, so no call is refused with 2 or 3; memory lists no event twice; and the stored record of each
+-- event is the record that its history makes.
 use mathlib.Core.Path.{_≡_, refl, sym, ap, subst, _∙_}
 use mathlib.Core.Logic.{_≢_}
 use mathlib.Core.Bool.{Bool, true, not}
@@ -14,10 +14,13 @@ use Rattle.manual.specs.State.{State, stored, storedAt}
 use Rattle.manual.specs.Answers.{Beside, Outcome, Rule, _if_, firstThatApplies}
 use Rattle.manual.specs.Memory.{noTwice}
 use Rattle.manual.specs.WellFormed.{entries, wellFormed}
-use Rattle.manual.specs.Calls.{freshRules, fresh, freshState, reportRules, tickRules, startRules, stopRules, clearRules, readStatusRules, readFrameRules}
+use Rattle.manual.specs.Calls.{freshRules, fresh, freshState, reportRules, tickRules, startRules}
+use Rattle.manual.specs.Calls.{stopRules, clearRules, readStatusRules, readFrameRules}
 use Rattle.manual.specs.Image.{saveRules, restoreRules}
 use Rattle.manual.specs.Diagnostics.{requestRules}
-use Rattle.manual.specs.Sequences.{Query, ReadStatus, ReadFrame, Save, Call, Fresh, Report, Tick, Start, Stop, Clear, Read, Restore, Request, outcome, queryRules, rulesOf, tokensAt, goesOn, Reached, begun, called, restored}
+use Rattle.manual.specs.Sequences.{Query, ReadStatus, ReadFrame, Save, Call, Fresh, Report, Tick}
+use Rattle.manual.specs.Sequences.{Start, Stop, Clear, Read, Restore, Request, outcome, queryRules}
+use Rattle.manual.specs.Sequences.{rulesOf, tokensAt, goesOn, Reached, begun, called, restored}
 use Rattle.manual.proofs.AnswersLaws.{none-applies, accepted, lacks, never-given}
 use Rattle.manual.proofs.WellFormedLaws.{state-tells, well-formed-lengths}
 use Rattle.manual.proofs.SequencesLaws.{Histories}
@@ -32,18 +35,22 @@ use Rattle.manual.proofs.AnswerIsFirstThatApplies.{answer-is}
 abbrev Unrefused : List Rule → Type 0
 Unrefused rules = (firstThatApplies rules ≢ 2) × (firstThatApplies rules ≢ 3)
 
-past-both : (a b : Bool) (rules : List Rule) → a ≡ true → b ≡ true → lacks 2 rules ≡ true → lacks 3 rules ≡ true → Unrefused ((2 if not a) ∷ (3 if not b) ∷ rules)
+past-both : (a b : Bool) (rules : List Rule) → a ≡ true → b ≡ true → lacks 2 rules ≡ true → lacks 3 rules ≡ true
+    → Unrefused ((2 if not a) ∷ (3 if not b) ∷ rules)
 unfolding firstThatApplies
-past-both a b rules p q l m = rw (p, q) (never-given 2 (λ z. omega arith) rules l, never-given 3 (λ z. omega arith) rules m)
+past-both a b rules p q l m =
+    rw (p, q) (never-given 2 (λ z. omega arith) rules l, never-given 3 (λ z. omega arith) rules m)
 
 module _ (cfg : Configuration) where
-  query-not-2-or-3 : (q : Query) (b : Beside) (s : State) → configOk cfg ≡ true → wellFormed cfg s ≡ true → Unrefused (queryRules cfg q b s)
+  query-not-2-or-3 : (q : Query) (b : Beside) (s : State) → configOk cfg ≡ true → wellFormed cfg s ≡ true
+      → Unrefused (queryRules cfg q b s)
   unfolding readStatusRules readFrameRules saveRules
   query-not-2-or-3 (ReadStatus e) b s k w = past-both _ _ _ k w refl refl
   query-not-2-or-3 (ReadFrame e) b s k w = past-both _ _ _ k w refl refl
   query-not-2-or-3 Save b s k w = past-both _ _ _ k w refl refl
 
-  not-2-or-3 : (c : Call) (b : Beside) (s : State) → configOk cfg ≡ true → wellFormed cfg s ≡ true → Unrefused (rulesOf cfg c b s)
+  not-2-or-3 : (c : Call) (b : Beside) (s : State) → configOk cfg ≡ true → wellFormed cfg s ≡ true
+      → Unrefused (rulesOf cfg c b s)
   unfolding freshRules reportRules tickRules startRules stopRules clearRules restoreRules requestRules
   not-2-or-3 Fresh b s k w = past-both _ _ _ k (well-formed-lengths cfg s w) refl refl
   not-2-or-3 (Report e code frame) b s k w = past-both _ _ _ k w refl refl
@@ -85,7 +92,8 @@ module _ (cfg : Configuration) where
   whole (begun b s z) = whole-begun b s z
   whole (called {s} {H} r c b g) = whole-called s H c b g (whole r)
   whole (restored {s} {H} r b z b′ s′ a) =
-      subst (λ (o : Outcome). Whole (o .state) H) (sym (restored-is-saved cfg s s′ (four-cycles cfg r) b b′ z a)) (whole r)
+      subst (λ (o : Outcome). Whole (o .state) H) (sym (restored-is-saved cfg s s′ (four-cycles cfg r) b b′ z a))
+      (whole r)
 
   module _ {s : State} {H : Histories} (reached : Reached cfg s H) where
     pub config-accepted : configOk cfg ≡ true
@@ -99,11 +107,13 @@ module _ (cfg : Configuration) where
     no-event-twice = state-tells cfg s well-formed .once
 
     -- the record that the history makes
-    pub record-follows : (e : ℕ) → e < events cfg → storedAt e (s .records) ≡ stored (recordAfter (limitsOf cfg e) (H e))
+    pub record-follows : (e : ℕ) → e < events cfg
+        → storedAt e (s .records) ≡ stored (recordAfter (limitsOf cfg e) (H e))
     record-follows = whole reached .follows .records
 
     -- no call of a sequence is refused with 2 or 3
-    pub never-refused-with-2-or-3 : (c : Call) (b : Beside) → (outcome cfg c b s .answer ≢ 2) × (outcome cfg c b s .answer ≢ 3)
+    pub never-refused-with-2-or-3 : (c : Call) (b : Beside)
+        → (outcome cfg c b s .answer ≢ 2) × (outcome cfg c b s .answer ≢ 3)
     never-refused-with-2-or-3 c b =
         let n = not-2-or-3 c b s config-accepted well-formed in
         (λ q. n .0 (sym (answer-is cfg c b s) ∙ q), λ q. n .1 (sym (answer-is cfg c b s) ∙ q))

@@ -14,7 +14,8 @@ use Rattle.manual.specs.Words.{allBelow}
 use Rattle.manual.specs.Configuration.{Configuration, events, places, entryFrames}
 use Rattle.manual.specs.State.{State, recordWidth, recordOf, D}
 use Rattle.manual.specs.Memory.{entryWidth, memoryLength, entryCount, bytesInUse, noTwice}
-use Rattle.manual.specs.WellFormed.{lengthsFit, recordOk, DOk, eventOk, entries, entryOk, zeroTail, memoryOk, wellFormed}
+use Rattle.manual.specs.WellFormed.{lengthsFit, recordOk, DOk, eventOk, entries}
+use Rattle.manual.specs.WellFormed.{entryOk, zeroTail, memoryOk, wellFormed}
 use Rattle.manual.proofs.WordsLaws.{all-below-at, all-below, zeros-are}
 
 module _ (cfg : Configuration) (s : State) where
@@ -25,14 +26,23 @@ module _ (cfg : Configuration) (s : State) where
 
   pub lengths-tell : lengthsFit cfg s ≡ true → LengthsTell
   unfolding lengthsFit
-  lengths-tell l = record { records = eqb-true _ _ (part _ l 0); debounce = eqb-true _ _ (part _ l 1); memory = eqb-true _ _ (part _ l 2) }
+  lengths-tell l =
+      record {
+        records = eqb-true _ _ (part _ l 0);
+        debounce = eqb-true _ _ (part _ l 1);
+        memory = eqb-true _ _
+            (part _ l 2);
+      }
 
   pub lengths-told : LengthsTell → lengthsFit cfg s ≡ true
   unfolding lengthsFit
   lengths-told t =
       parts _ (
         eq-eqb (length (s .records)) (recordWidth * events cfg) (t .records),
-        (eq-eqb (length (s .debounce)) (events cfg) (t .debounce), (eq-eqb (length (s .memory)) (memoryLength (places cfg) (entryFrames cfg)) (t .memory), tt)),
+        (
+          eq-eqb (length (s .debounce)) (events cfg) (t .debounce),
+          (eq-eqb (length (s .memory)) (memoryLength (places cfg) (entryFrames cfg)) (t .memory), tt),
+        ),
       )
 
   pub record StateTells : Type 0 where
@@ -51,8 +61,12 @@ module _ (cfg : Configuration) (s : State) where
       let memory-ok : memoryOk cfg s ≡ true = part _ w 2 in
       record {
         lengths = lengths-tell (part _ w 0);
-        records = λ e h. and-left (recordOk cfg e (recordOf s e)) (DOk cfg (s .board) e (D s e)) (all-below-at (events cfg) (eventOk cfg s) events-ok e h);
-        numbers = λ e h. and-right (recordOk cfg e (recordOf s e)) (DOk cfg (s .board) e (D s e)) (all-below-at (events cfg) (eventOk cfg s) events-ok e h);
+        records =
+            λ e h. and-left (recordOk cfg e (recordOf s e)) (DOk cfg (s .board) e (D s e))
+            (all-below-at (events cfg) (eventOk cfg s) events-ok e h);
+        numbers =
+            λ e h. and-right (recordOk cfg e (recordOf s e)) (DOk cfg (s .board) e (D s e))
+            (all-below-at (events cfg) (eventOk cfg s) events-ok e h);
         few = leb-true _ _ (part _ memory-ok 0);
         each = part _ memory-ok 1;
         once = part _ memory-ok 2;
@@ -65,7 +79,9 @@ module _ (cfg : Configuration) (s : State) where
       parts _ (
         lengths-told (t .lengths),
         (
-          all-below (events cfg) (eventOk cfg s) (λ e h. both (recordOk cfg e (recordOf s e)) (DOk cfg (s .board) e (D s e)) (t .records e h) (t .numbers e h)),
+          all-below (events cfg) (eventOk cfg s)
+              (λ e h. both (recordOk cfg e (recordOf s e)) (DOk cfg (s .board) e (D s e)) (t .records e h)
+              (t .numbers e h)),
           (parts _ (le-leb (entryCount (s .memory)) (places cfg) (t .few), (t .each, (t .once, (t .tail, tt)))), tt),
         ),
       )
@@ -83,21 +99,30 @@ module _ (cfg : Configuration) (s : State) where
     pub used-fits : used ≤ length (s .memory)
     used-fits =
         let most : entryWidth (entryFrames cfg) * entryCount (s .memory) ≤ places cfg * entryWidth (entryFrames cfg) =
-        subst (λ (j : ℕ). entryWidth (entryFrames cfg) * entryCount (s .memory) ≤ j) (mul-comm (entryWidth (entryFrames cfg)) (places cfg)) (mul-le-mul-left (entryWidth (entryFrames cfg)) (t .few)) in
+        subst (λ (j : ℕ). entryWidth (entryFrames cfg) * entryCount (s .memory) ≤ j)
+        (mul-comm (entryWidth (entryFrames cfg)) (places cfg))
+        (mul-le-mul-left (entryWidth (entryFrames cfg)) (t .few)) in
         let l = t .lengths .memory in
         omega arith
 
     pub used-length : length (take used (s .memory)) ≡ used
     used-length = length-take-le used (s .memory) used-fits
 
-    pub zeros-behind : drop used (s .memory) ≡ replicate (entryWidth (entryFrames cfg) * (places cfg - entryCount (s .memory))) 0
+    pub zeros-behind : drop used (s .memory)
+        ≡ replicate (entryWidth (entryFrames cfg) * (places cfg - entryCount (s .memory))) 0
     zeros-behind =
         zeros-are (drop used (s .memory)) (t .tail)
         ∙ ap (λ (j : ℕ). replicate j 0)
         (length-drop used (s .memory)
-        ∙ (let l = t .lengths .memory in let e : length (s .memory) - used ≡ places cfg * entryWidth (entryFrames cfg) - entryWidth (entryFrames cfg) * entryCount (s .memory) = omega arith in e)
-        ∙ ap (λ (j : ℕ). j - entryWidth (entryFrames cfg) * entryCount (s .memory)) (mul-comm (places cfg) (entryWidth (entryFrames cfg)))
+        ∙
+        (let l = t .lengths .memory in let e : length (s .memory) - used
+        ≡ places cfg * entryWidth (entryFrames cfg) - entryWidth (entryFrames cfg) * entryCount (s .memory) = omega
+        arith in e)
+        ∙ ap (λ (j : ℕ). j - entryWidth (entryFrames cfg) * entryCount (s .memory))
+        (mul-comm (places cfg) (entryWidth (entryFrames cfg)))
         ∙ sym (mul-sub (entryWidth (entryFrames cfg)) (places cfg) (entryCount (s .memory))))
 
-    pub memory-split : s .memory ≡ take used (s .memory) ++ replicate (entryWidth (entryFrames cfg) * (places cfg - entryCount (s .memory))) 0
-    memory-split = sym (take-append-drop used (s .memory)) ∙ ap (λ (l : List ℕ). take used (s .memory) ++ l) zeros-behind
+    pub memory-split : s .memory
+        ≡ take used (s .memory) ++ replicate (entryWidth (entryFrames cfg) * (places cfg - entryCount (s .memory))) 0
+    memory-split =
+        sym (take-append-drop used (s .memory)) ∙ ap (λ (l : List ℕ). take used (s .memory) ++ l) zeros-behind

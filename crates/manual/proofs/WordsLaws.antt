@@ -2,7 +2,8 @@
 use mathlib.Core.Path.{_≡_, refl, sym, ap, subst, _∙_}
 use mathlib.Core.Logic.{_⊎_, inl, inr, ⊎-elim}
 use mathlib.Core.Bool.{Bool, true, false, not, _&&_, _||_, cond, true≢false}
-use mathlib.Core.List.{List, [], _∷_, _++_, List·Memᴰ, List·Memᴰ·head, List·Memᴰ·tail, List·Memᴰ·cases-cons, List·Memᴰ·append-cases, Memᴰ·append-left, Memᴰ·append-right}
+use mathlib.Core.List.{List, [], _∷_, _++_, List·Memᴰ, List·Memᴰ·head, List·Memᴰ·tail, List·Memᴰ·cases-cons}
+use mathlib.Core.List.{List·Memᴰ·append-cases, Memᴰ·append-left, Memᴰ·append-right}
 use mathlib.Core.Option.{none, some, Option·none-ne-some}
 use Prim.Native.Nat.{ℕ, zero, suc, _+_, _≤_, _<_}
 use native.Mathlib.Nat.{eq-or-lt-of-le, le-of-suc-le-suc, not-suc-le-zero, le-refl}
@@ -37,7 +38,8 @@ pub all-below-at : (n : ℕ) (f : ℕ → Bool) → allBelow n f ≡ true → (e
 unfolding allBelow
 all-below-at zero f t e h = absurd (not-suc-le-zero h)
 all-below-at (suc n) f t e h =
-    ⊎-elim (λ q. subst (λ (k : ℕ). f k ≡ true) (sym q) (and-right (allBelow n f) (f n) t)) (λ q. all-below-at n f (and-left (allBelow n f) (f n) t) e q)
+    ⊎-elim (λ q. subst (λ (k : ℕ). f k ≡ true) (sym q) (and-right (allBelow n f) (f n) t))
+    (λ q. all-below-at n f (and-left (allBelow n f) (f n) t) e q)
     (eq-or-lt-of-le (le-of-suc-le-suc h))
 
 pub all-below : (n : ℕ) (f : ℕ → Bool) → ((e : ℕ) → e < n → f e ≡ true) → allBelow n f ≡ true
@@ -46,7 +48,8 @@ all-below zero f h = refl
 all-below (suc n) f h = both (allBelow n f) (f n) (all-below n f (λ e q. h e (omega arith))) (h n (omega arith))
 
 -- what each step keeps, the whole keeps
-pub for-below-keeps : {S : Type 0} (P : S → Type 0) (one : ℕ → S → S) (n m : ℕ) → m ≤ n → ((k : ℕ) (s : S) → k < n → P s → P (one k s)) → (s : S) → P s → P (forBelow m one s)
+pub for-below-keeps : {S : Type 0} (P : S → Type 0) (one : ℕ → S → S) (n m : ℕ) → m ≤ n
+    → ((k : ℕ) (s : S) → k < n → P s → P (one k s)) → (s : S) → P s → P (forBelow m one s)
 unfolding forBelow
 for-below-keeps P one n zero h f s p = p
 for-below-keeps P one n (suc m) h f s p = f m (forBelow m one s) h (for-below-keeps P one n m (omega arith) f s p)
@@ -71,7 +74,8 @@ module _ {A : Type 0} where
   all-of-test p [] e = tt
   all-of-test p (x ∷ xs) e = (and-left (p x) (allOf p xs) e, all-of-test p xs (and-right (p x) (allOf p xs) e))
 
-  pub test-of-all : (P : A → Type 0) (p : A → Bool) → ((x : A) → P x → p x ≡ true) → (xs : List A) → All P xs → allOf p xs ≡ true
+  pub test-of-all : (P : A → Type 0) (p : A → Bool) → ((x : A) → P x → p x ≡ true) → (xs : List A) → All P xs
+      → allOf p xs ≡ true
   test-of-all P p f [] a = refl
   test-of-all P p f (x ∷ xs) a = both (p x) (allOf p xs) (f x (a .0)) (test-of-all P p f xs (a .1))
 
@@ -89,7 +93,8 @@ module _ {A : Type 0} where
   first-none p [] e = refl
   first-none p (x ∷ xs) e = go (p x) e (λ t. first-none p xs t)
     where
-      go : (b : Bool) → cond b (some x) (firstOf p xs) ≡ none → (firstOf p xs ≡ none → anyOf p xs ≡ false) → b || anyOf p xs ≡ false
+      go : (b : Bool) → cond b (some x) (firstOf p xs) ≡ none → (firstOf p xs ≡ none → anyOf p xs ≡ false)
+          → b || anyOf p xs ≡ false
       go true t ih = absurd (let z : _≡_ {A = ℕ} 0 1 = cc in let w : ⊥ = omega arith in w)
       go false t ih = ih t
 
@@ -99,12 +104,14 @@ module _ {A : Type 0} where
   first-some p [] v e = absurd (Option·none-ne-some v e)
   first-some p (x ∷ xs) v e = go (p x) e (λ t. first-some p xs v t)
     where
-      go : (b : Bool) → cond b (some x) (firstOf p xs) ≡ some v → (firstOf p xs ≡ some v → anyOf p xs ≡ true) → b || anyOf p xs ≡ true
+      go : (b : Bool) → cond b (some x) (firstOf p xs) ≡ some v → (firstOf p xs ≡ some v → anyOf p xs ≡ true)
+          → b || anyOf p xs ≡ true
       go true t ih = refl
       go false t ih = ih t
 
   -- those
-  pub all-those : (P Q : A → Type 0) (q : A → Bool) → ((x : A) → q x ≡ true → P x → Q x) → (xs : List A) → All P xs → All Q (those q xs)
+  pub all-those : (P Q : A → Type 0) (q : A → Bool) → ((x : A) → q x ≡ true → P x → Q x) → (xs : List A) → All P xs
+      → All Q (those q xs)
   unfolding those
   all-those P Q q f [] a = tt
   all-those P Q q f (x ∷ xs) a = go (q x) refl (all-those P Q q f xs (a .1))
@@ -118,7 +125,8 @@ module _ {A : Type 0} where
   those-le q [] = le-refl 0
   those-le q (x ∷ xs) = go (q x) (those-le q xs)
     where
-      go : (b : Bool) → length (those q xs) ≤ length xs → length (cond b (x ∷ those q xs) (those q xs)) ≤ suc (length xs)
+      go : (b : Bool) → length (those q xs) ≤ length xs
+          → length (cond b (x ∷ those q xs) (those q xs)) ≤ suc (length xs)
       go true ih = omega arith
       go false ih = omega arith
 
@@ -127,7 +135,8 @@ module _ {A : Type 0} where
   anyOf-those p q [] e = refl
   anyOf-those p q (x ∷ xs) e = go (p x) refl e (λ t. anyOf-those p q xs t)
     where
-      go : (b : Bool) → p x ≡ b → b || anyOf p xs ≡ false → (anyOf p xs ≡ false → anyOf p (those q xs) ≡ false) → anyOf p (cond (q x) (x ∷ those q xs) (those q xs)) ≡ false
+      go : (b : Bool) → p x ≡ b → b || anyOf p xs ≡ false → (anyOf p xs ≡ false → anyOf p (those q xs) ≡ false)
+          → anyOf p (cond (q x) (x ∷ those q xs) (those q xs)) ≡ false
       go true h t ih = clash true refl t
       go false h t ih = by (q x) (λ l. anyOf p l ≡ false) (λ u. rw h (ih t)) (λ u. ih t)
 
@@ -148,7 +157,8 @@ module _ {A : Type 0} where
   those-mem p [] x m = m
   those-mem p (y ∷ xs) x m = go (p y) m (λ t. those-mem p xs x t)
     where
-      go : (b : Bool) → List·Memᴰ x (cond b (y ∷ those p xs) (those p xs)) → (List·Memᴰ x (those p xs) → List·Memᴰ x xs) → List·Memᴰ x (y ∷ xs)
+      go : (b : Bool) → List·Memᴰ x (cond b (y ∷ those p xs) (those p xs)) → (List·Memᴰ x (those p xs) → List·Memᴰ x xs)
+          → List·Memᴰ x (y ∷ xs)
       go true t ih = ⊎-elim List·Memᴰ·head (λ r. List·Memᴰ·tail (ih r)) (List·Memᴰ·cases-cons t)
       go false t ih = List·Memᴰ·tail (ih t)
 
@@ -158,7 +168,8 @@ module _ {A : Type 0} where
   those-those p q (x ∷ xs) = go (q x) (those-those p q xs)
     where
       go : (b : Bool) → those p (those q xs) ≡ those (λ x. q x && p x) xs
-          → those p (cond b (x ∷ those q xs) (those q xs)) ≡ cond (b && p x) (x ∷ those (λ x. q x && p x) xs) (those (λ x. q x && p x) xs)
+          → those p (cond b (x ∷ those q xs) (those q xs))
+          ≡ cond (b && p x) (x ∷ those (λ x. q x && p x) xs) (those (λ x. q x && p x) xs)
       go true ih = rw ih
       go false ih = ih
 
@@ -192,7 +203,8 @@ module _ {A : Type 0} where
   none-pass p [] e = tt
   none-pass p (x ∷ xs) e = let n = neither (p x) (anyOf p xs) e in (n .0, none-pass p xs (n .1))
 
-  pub none-at : (p : A → Bool) (older : List A) (v : A) (newer : List A) → anyOf p (older ++ v ∷ newer) ≡ false → p v ≡ false
+  pub none-at : (p : A → Bool) (older : List A) (v : A) (newer : List A) → anyOf p (older ++ v ∷ newer) ≡ false
+      → p v ≡ false
   none-at p [] v newer e = neither (p v) (anyOf p newer) e .0
   none-at p (y ∷ older) v newer e = none-at p older v newer (neither (p y) (anyOf p (older ++ v ∷ newer)) e .1)
 
@@ -209,14 +221,24 @@ module _ {A : Type 0} where
   first-is p [] v e = absurd (Option·none-ne-some v e)
   first-is p (y ∷ xs) v e = go (p y) refl e (λ t. first-is p xs v t)
     where
-      go : (b : Bool) → p y ≡ b → cond b (some y) (firstOf p xs) ≡ some v → (firstOf p xs ≡ some v → First p xs v) → First p (y ∷ xs) v
+      go : (b : Bool) → p y ≡ b → cond b (some y) (firstOf p xs) ≡ some v → (firstOf p xs ≡ some v → First p xs v)
+          → First p (y ∷ xs) v
       go true q t ih = record { older = []; newer = xs; there = cc; passes = cc; none-older = tt }
-      go false q t ih = let f = ih t in record { older = y ∷ f .older; newer = f .newer; there = ap (λ (l : List A). y ∷ l) (f .there); passes = f .passes; none-older = (q, f .none-older) }
+      go false q t ih =
+          let f = ih t in
+          record {
+            older = y ∷ f .older;
+            newer = f .newer;
+            there = ap (λ (l : List A). y ∷ l) (f .there);
+            passes = f .passes;
+            none-older = (q, f .none-older);
+          }
 
   pub those-all : (p : A → Bool) (xs : List A) → anyOf p xs ≡ false → those (λ x. not (p x)) xs ≡ xs
   unfolding those
   those-all p [] e = refl
-  those-all p (x ∷ xs) e = let n = neither (p x) (anyOf p xs) e in rw (n .0) (ap (λ (l : List A). x ∷ l) (those-all p xs (n .1)))
+  those-all p (x ∷ xs) e =
+      let n = neither (p x) (anyOf p xs) e in rw (n .0) (ap (λ (l : List A). x ∷ l) (those-all p xs (n .1)))
 
 -- one is taken out, one put at the end
 module _ {A : Type 0} (xs older : List A) (v : A) (newer : List A) (s : xs ≡ older ++ v ∷ newer) where
@@ -234,7 +256,9 @@ module _ {A : Type 0} (xs older : List A) (v : A) (newer : List A) (s : xs ≡ o
 
   pub those-in : (y : A) → List·Memᴰ y (older ++ newer) → List·Memᴰ y xs
   those-in y m =
-      rw s (⊎-elim (λ a. Memᴰ·append-left (v ∷ newer) a) (λ b. Memᴰ·append-right older (List·Memᴰ·tail b)) (List·Memᴰ·append-cases older m))
+      rw s
+      (⊎-elim (λ a. Memᴰ·append-left (v ∷ newer) a) (λ b. Memᴰ·append-right older (List·Memᴰ·tail b))
+      (List·Memᴰ·append-cases older m))
 
 -- ---- lists of bytes
 
@@ -249,7 +273,8 @@ unfolding equal
 equal-is [] [] e = refl
 equal-is [] (y ∷ ys) e = clash true refl (sym e)
 equal-is (x ∷ xs) [] e = clash true refl (sym e)
-equal-is (x ∷ xs) (y ∷ ys) e = λ i. eqb-true x y (and-left (eqb x y) (equal xs ys) e) i ∷ equal-is xs ys (and-right (eqb x y) (equal xs ys) e) i
+equal-is (x ∷ xs) (y ∷ ys) e =
+    λ i. eqb-true x y (and-left (eqb x y) (equal xs ys) e) i ∷ equal-is xs ys (and-right (eqb x y) (equal xs ys) e) i
 
 -- zeros
 pub zeros-pass : (k : ℕ) → allOf (λ b. eqb b 0) (replicate k 0) ≡ true
@@ -258,7 +283,9 @@ zeros-pass (suc k) = zeros-pass k
 
 pub zeros-are : (l : List ℕ) → allOf (λ b. eqb b 0) l ≡ true → l ≡ replicate (length l) 0
 zeros-are [] e = refl
-zeros-are (x ∷ l) e = λ i. eqb-true x 0 (and-left (eqb x 0) (allOf (λ b. eqb b 0) l) e) i ∷ zeros-are l (and-right (eqb x 0) (allOf (λ b. eqb b 0) l) e) i
+zeros-are (x ∷ l) e =
+    λ i. eqb-true x 0 (and-left (eqb x 0) (allOf (λ b. eqb b 0) l) e) i
+    ∷ zeros-are l (and-right (eqb x 0) (allOf (λ b. eqb b 0) l) e) i
 
 -- ---- signed numbers
 

@@ -8,7 +8,9 @@ use Rattle.history.specs.Words.{anyOf}
 use Rattle.manual.specs.declared.Verdict.{Verdict}
 use Rattle.manual.specs.declared.Verdict.the-variants.{None}
 use Rattle.manual.specs.declared.Refusal.{Refusal}
-use Rattle.manual.specs.declared.Refusal.the-variants.{BadArgument, BadConfiguration, BadState, NoSuch, WrongCycleState, NoPreResult, RoomTooSmall, BadImage, WrongFrame, NoEntry}
+use Rattle.manual.specs.declared.Refusal.the-variants.{BadArgument, BadConfiguration, BadState, NoSuch}
+use Rattle.manual.specs.declared.Refusal.the-variants.{WrongCycleState, NoPreResult, RoomTooSmall, BadImage}
+use Rattle.manual.specs.declared.Refusal.the-variants.{WrongFrame, NoEntry}
 use Rattle.manual.specs.declared.Answer.{Answer}
 use Rattle.manual.specs.declared.Answer.the-variants.{Done}
 use Rattle.manual.specs.declared.ReportAnswer.{ReportAnswer}
@@ -21,7 +23,8 @@ use Rattle.manual.specs.declared.LengthAnswer.{LengthAnswer}
 use Rattle.manual.specs.declared.LengthAnswer.the-variants.{Written}
 use Rattle.manual.specs.State.{State}
 
--- What is lent beside the blocks and the board for a call to write: the output room. A call that is not lent it leaves it as it is.
+-- What is lent beside the blocks and the board for a call to write: the output room. A call that is not lent it leaves
+-- it as it is.
 pub record Beside : Type 0 where
   pub room : List ℕ
 
@@ -35,8 +38,8 @@ alone = lentRoom []
 abbrev pub withRoom : List ℕ → Beside → Beside
 withRoom room b = record { room = room }
 
--- What a call answers and leaves: its number; a report's verdict; the status or length; the frame part; what was lent beside; the
--- blocks and the board.
+-- What a call answers and leaves: its number; a report's verdict; the status or length; the frame part; what was lent
+-- beside; the blocks and the board.
 pub record Outcome : Type 0 where
   pub answer : ℕ
   pub verdict : Verdict
@@ -45,8 +48,8 @@ pub record Outcome : Type 0 where
   pub beside : Beside
   pub state : State
 
--- "A refusal changes nothing lent and hands back the board it was given; any status, count or length it answers is 0, a frame part
--- empty, a verdict none."
+-- "A refusal changes nothing lent and hands back the board it was given; any status, count or length it answers is 0, a
+-- frame part empty, a verdict none."
 abbrev pub refused : ℕ → Beside → State → Outcome
 refused number b s = record { answer = number; verdict = None; value = 0; part = []; beside = b; state = s }
 
@@ -74,7 +77,8 @@ pub data Given : List Rule → ℕ → Type 0 where
   -- no test of the list holds
   done-by : (rules : List Rule) → anyOf (λ r. r .applies) rules ≡ false → Given rules 0
   -- the test of r holds, and none before it does
-  refusal-by : (earlier : List Rule) (r : Rule) (later : List Rule) → anyOf (λ r. r .applies) earlier ≡ false → r .applies ≡ true → Given (earlier ++ r ∷ later) (r .number)
+  refusal-by : (earlier : List Rule) (r : Rule) (later : List Rule) → anyOf (λ r. r .applies) earlier ≡ false
+      → r .applies ≡ true → Given (earlier ++ r ∷ later) (r .number)
 
 -- refused by the first that applies, and what the call does where none does
 unfoldable pub judged : List Rule → Beside → State → Outcome → Outcome
@@ -126,4 +130,5 @@ ofLength (LengthAnswer.Refused r) = answered (numberOf r) None 0
 
 -- an answer, with the frame part, what was lent beside and the state that the call leaves
 abbrev pub leaves : Answered → List ℕ → Beside → State → Outcome
-leaves a part b s = record { answer = a .number; verdict = a .verdict; value = a .value; part = part; beside = b; state = s }
+leaves a part b s =
+    record { answer = a .number; verdict = a .verdict; value = a .value; part = part; beside = b; state = s }

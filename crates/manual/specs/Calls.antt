@@ -1,5 +1,5 @@
--- Document 01: what each call does, from its refusals in their order to the last byte. Save and restore stand in Image.antt, the
--- diagnostic request in Diagnostics.antt. Assumes nothing.
+-- Document 01: what each call does, from its refusals in their order to the last byte. Save and restore stand in
+-- Image.antt, the diagnostic request in Diagnostics.antt. Assumes nothing.
 use mathlib.Core.Bool.{Bool, true, false, not, _&&_, _||_}
 use mathlib.Core.List.{List, [], _∷_}
 use mathlib.Core.Option.{Option, none, some}
@@ -14,7 +14,8 @@ use Rattle.manual.specs.declared.Board.{Board}
 use Rattle.manual.specs.declared.Verdict.the-variants.{None}
 use Rattle.manual.specs.declared.StoreAnswer.{StoreAnswer}
 use Rattle.manual.specs.Words.{allBelow}
-use Rattle.manual.specs.Configuration.{Configuration, events, places, frameBytes, entryFrames, codeOf, cycleOf, isInternal, isTime, configOk}
+use Rattle.manual.specs.Configuration.{Configuration, events, places, frameBytes, entryFrames}
+use Rattle.manual.specs.Configuration.{codeOf, cycleOf, isInternal, isTime, configOk}
 use Rattle.manual.specs.State.{State, stored, runs, allStopped, statusByte, D, withD, withOverflow, withCycle}
 use Rattle.manual.specs.WellFormed.{lengthsFit, wellFormed, entries}
 use Rattle.manual.specs.Answers.{Beside, Outcome, done, Rule, _if_, judged}
@@ -25,7 +26,8 @@ use Rattle.manual.specs.Memory.{Entry, memoryLength, isOf, entryFor}
 -- the bytes of n fresh records
 unfoldable pub freshRecords : ℕ → List ℕ
 freshRecords zero = []
-freshRecords (suc n) = stored freshRecord .status ∷ stored freshRecord .K ∷ stored freshRecord .h ∷ stored freshRecord .g ∷ freshRecords n
+freshRecords (suc n) =
+    stored freshRecord .status ∷ stored freshRecord .K ∷ stored freshRecord .h ∷ stored freshRecord .g ∷ freshRecords n
 
 -- "FFFFFFh for all"
 abbrev pub forAll : ℕ → Bool
@@ -36,7 +38,8 @@ frameOf (some x) = x .payload
 frameOf none = []
 
 module _ (cfg : Configuration) where
-  -- "Every call begins 2, 3."; "a block has the wrong length": `fits` says whether what is lent beside the state has the right one
+  -- "Every call begins 2, 3."; "a block has the wrong length": `fits` says whether what is lent beside the state has
+  -- the right one
   abbrev pub begins : State → Bool → List Rule → List Rule
   begins s fits rules = (2 if not (configOk cfg)) ∷ (3 if not (fits && wellFormed cfg s)) ∷ rules
 
@@ -143,7 +146,8 @@ module _ (cfg : Configuration) where
   startRules c s = begins s true ((4 if noSuchCycle c) ∷ (5 if runs (s .board) c) ∷ [])
 
   unfoldable pub startCycle : ℕ → Beside → State → Outcome
-  startCycle c b s = judged (startRules c s) b s (done b (withCycle c true (forThose cfg (ofCycle c) (happens cfg start) s)))
+  startCycle c b s =
+      judged (startRules c s) b s (done b (withCycle c true (forThose cfg (ofCycle c) (happens cfg start) s)))
 
   unfoldable pub stopRules : ℕ → State → List Rule
   stopRules c s = begins s true ((4 if noSuchCycle c) ∷ (5 if not (runs (s .board) c)) ∷ [])
@@ -194,4 +198,11 @@ module _ (cfg : Configuration) where
   unfoldable pub readFrame : ℕ → Beside → State → Outcome
   readFrame e b s =
       judged (readFrameRules e s) b s
-      (record { answer = 0; verdict = None; value = 0; part = frameOf (entryFor e (entries cfg s)); beside = b; state = s })
+      (record {
+        answer = 0;
+        verdict = None;
+        value = 0;
+        part = frameOf (entryFor e (entries cfg s));
+        beside = b;
+        state = s;
+      })

@@ -7,7 +7,8 @@ use lib.Dec.{eqb}
 use Rattle.manual.specs.declared.Verdict.{Verdict}
 use Rattle.manual.specs.declared.Verdict.the-variants.{None, Passed, Failed}
 use Rattle.manual.specs.Words.{smaller, larger, eqZ}
-use Rattle.manual.specs.Configuration.{Configuration, isInternal, isCounter, isTime, lowOf, highOf, upOf, downOf, jumpsOf}
+use Rattle.manual.specs.Configuration.{Configuration, isInternal, isCounter, isTime}
+use Rattle.manual.specs.Configuration.{lowOf, highOf, upOf, downOf, jumpsOf}
 
 -- "Codes: 0 passed, 1 failed, 2 pre-passed, 3 pre-failed."
 abbrev pub codePassed : ℕ
@@ -35,7 +36,8 @@ module _ (cfg : Configuration) (e : ℕ) where
   unfoldable pub bottom : ℤ
   bottom = cond (isTime cfg e) (lowOf cfg e -ℤ pos 1) (lowOf cfg e)
 
-  -- "Verdict, kinds 1 and 2: failed if the report leaves D at its top (Q, Q+1), passed if at its bottom (P, P−1), else none."
+  -- "Verdict, kinds 1 and 2: failed if the report leaves D at its top (Q, Q+1), passed if at its bottom (P, P−1), else
+  -- none."
   unfoldable pub verdictAt : ℤ → Verdict
   verdictAt d = cond (eqZ d top) Failed (cond (eqZ d bottom) Passed None)
 
@@ -44,7 +46,8 @@ module _ (cfg : Configuration) (e : ℕ) where
 
   -- "Kind 0: passed and failed are the verdict; D stays 0."
   unfoldable pub internalReport : ℕ → ℤ → Debounced
-  internalReport code d = record { number = d; verdict = cond (eqb code codeFailed) Failed (cond (eqb code codePassed) Passed None) }
+  internalReport code d =
+      record { number = d; verdict = cond (eqb code codeFailed) Failed (cond (eqb code codePassed) Passed None) }
 
   -- "jumps 1 = jump up, 2 = jump down, 3 = both"
   abbrev pub jumpUp : Bool
@@ -69,7 +72,8 @@ module _ (cfg : Configuration) (e : ℕ) where
       (cond (eqb code codePreFailed) (counterUp d)
       (counterDown d)))
 
-  -- "Kind 2: failed sets D = Q+1, passed D = P−1. Pre-failed: D = 1 if D ≤ 0, else unchanged. Pre-passed: D = −1 if D ≥ 0, else unchanged."
+  -- "Kind 2: failed sets D = Q+1, passed D = P−1. Pre-failed: D = 1 if D ≤ 0, else unchanged. Pre-passed: D = −1 if D ≥
+  -- 0, else unchanged."
   unfoldable pub timeReport : ℕ → ℤ → ℤ
   timeReport code d =
       cond (eqb code codeFailed) (highOf cfg e +ℤ pos 1)
@@ -84,8 +88,8 @@ module _ (cfg : Configuration) (e : ℕ) where
       (cond (isCounter cfg e) (leavesAt (counterReport code d))
       (leavesAt (timeReport code d)))
 
-  -- "Tick of d ms": "0 < D < Q+1 becomes the smaller of D+d and Q+1 (verdict failed if Q+1); P−1 < D < 0 the larger of D−d and P−1
-  -- (passed if P−1)"; any other D stays, with no verdict
+  -- "Tick of d ms": "0 < D < Q+1 becomes the smaller of D+d and Q+1 (verdict failed if Q+1); P−1 < D < 0 the larger of
+  -- D−d and P−1 (passed if P−1)"; any other D stays, with no verdict
   unfoldable pub ticked : ℕ → ℤ → Debounced
   ticked ms d =
       cond (ltZ (pos 0) d && ltZ d top) (leavesAt (smaller (d +ℤ pos ms) top))

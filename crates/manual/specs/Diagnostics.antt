@@ -39,9 +39,11 @@ pub record SubFunction : Type 0 where
 abbrev pub subFunction : ℕ → ℕ → (List ℕ → State → Reply) → SubFunction
 subFunction number size reply = record { number = number; size = size; reply = reply }
 
--- "With the top bit set a positive reply has length 0 and the room stays untouched. Otherwise one longer than the room: code 14."
+-- "With the top bit set a positive reply has length 0 and the room stays untouched. Otherwise one longer than the room:
+-- code 14."
 unfoldable pub fitted : Bool → ℕ → Reply → Reply
-fitted suppressed room (positive bytes) = cond suppressed (positive []) (cond (ltb room (length bytes)) (negative 0x14) (positive bytes))
+fitted suppressed room (positive bytes) =
+    cond suppressed (positive []) (cond (ltb room (length bytes)) (negative 0x14) (positive bytes))
 fitted suppressed room (negative code) = negative code
 
 module _ (cfg : Configuration) where
@@ -62,7 +64,8 @@ module _ (cfg : Configuration) where
 
   -- "01 mask: `59 01 FF 01` and the number of matching events, 2 bytes high first."
   unfoldable pub numberByMask : List ℕ → State → Reply
-  numberByMask request s = positive (0x59 ∷ 0x01 ∷ 0xFF ∷ 0x01 ∷ two (countBelow (events cfg) (matches (maskOf request) s)))
+  numberByMask request s =
+      positive (0x59 ∷ 0x01 ∷ 0xFF ∷ 0x01 ∷ two (countBelow (events cfg) (matches (maskOf request) s)))
 
   -- "02 mask: `59 02 FF`, then per matching event trouble code (3 bytes high first) and status, rising."
   unfoldable pub listByMask : List ℕ → State → Reply
@@ -86,11 +89,13 @@ module _ (cfg : Configuration) where
   unfoldable pub subFunctionReply : Option SubFunction → List ℕ → ℕ → State → Reply
   subFunctionReply none request room s = negative 0x12
   subFunctionReply (some f) request room s =
-      cond (not (eqb (length request) (f .size))) (negative 0x13) (fitted (suppresses request) room (f .reply request s))
+      cond (not (eqb (length request) (f .size))) (negative 0x13)
+      (fitted (suppresses request) room (f .reply request s))
 
   -- "19: length 1: code 13. … not 01, 02, 0A: code 12. Length must be 3, 3, 2: else 13."
   unfoldable pub service19 : List ℕ → ℕ → State → Reply
-  service19 request room s = cond (eqb (length request) 1) (negative 0x13) (subFunctionReply (subFunctionOf request) request room s)
+  service19 request room s =
+      cond (eqb (length request) 1) (negative 0x13) (subFunctionReply (subFunctionOf request) request room s)
 
   -- "14: length must be 4 (else 13); the three bytes are a trouble code; unknown: code 31; else clear and `54`."
   unfoldable pub service14 : List ℕ → State → Served

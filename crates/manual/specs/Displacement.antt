@@ -1,5 +1,6 @@
--- Document 01, "Memory", rules 1 to 4 said of splits: which entry stands where before and after a fresh failure. The definitions of
--- Memory.antt compute; this is the same as a relation, for a reader who wants to see who leaves. Assumes nothing.
+-- Document 01, "Memory", rules 1 to 4 said of splits: which entry stands where before and after a fresh failure. The
+-- definitions of Memory.antt compute; this is the same as a relation, for a reader who wants to see who leaves. Assumes
+-- nothing.
 use mathlib.Core.Path.{_≡_}
 use mathlib.Core.Logic.{_≢_}
 use mathlib.Core.Bool.{Bool, true}
@@ -10,8 +11,8 @@ use Rattle.manual.specs.declared.StoreAnswer.the-variants.{Renewed, Adde
 use Rattle.manual.specs.Words.{All}
 use Rattle.manual.specs.Memory.{Entry, eventOf, entryOf, payloadOf, renewedPayload, Kept, kept, displacing}
 
--- M places; each event's priority number; whether an event has bit 0 clear; a fresh failure of e with a frame; the entries, the oldest
--- first
+-- M places; each event's priority number; whether an event has bit 0 clear; a fresh failure of e with a frame; the
+-- entries, the oldest first
 module _ (M : ℕ) (priority : ℕ → ℕ) (quiet : ℕ → Bool) (e : ℕ) (frame : List ℕ) (xs : List Entry) where
   abbrev pub priorityOf : Entry → ℕ
   priorityOf x = priority (eventOf x)
@@ -23,7 +24,8 @@ module _ (M : ℕ) (priority : ℕ → ℕ) (quiet : ℕ → Bool) (e : ℕ) (fr
   -- v is the victim, where these are the entries older than it
   pub data Victim (older : List Entry) (v : Entry) : Type 0 where
     -- "among entries whose priority number is greater than e's, the greatest, and the oldest among equals"
-    greatest : priority e < priorityOf v → All (λ x. priorityOf x ≤ priorityOf v) xs → All (λ x. priorityOf x < priorityOf v) older → Victim older v
+    greatest : priority e < priorityOf v → All (λ x. priorityOf x ≤ priorityOf v) xs
+        → All (λ x. priorityOf x < priorityOf v) older → Victim older v
     -- "If none: the oldest entry of equal priority number whose event has bit 0 clear."
     oldest : All (λ x. priorityOf x ≤ priority e) xs → Rests v → All (λ x. ¬ Rests x) older → Victim older v
 
@@ -40,11 +42,15 @@ module _ (M : ℕ) (priority : ℕ → ℕ) (quiet : ℕ → Bool) (e : ℕ) (fr
   pub data Ruled : Kept → Type 0 where
     -- "1. e has an entry: count up by one, at most 255; frame replaced; the entry moves to the end (newest)."
     renews : (older : List Entry) (x : Entry) (newer : List Entry) → xs ≡ older ++ x ∷ newer → eventOf x ≡ e
-        → Ruled (kept Renewed (older ++ newer ++ (entryOf e (min 255 (suc (x .count))) (renewedPayload (x .payload) frame) ∷ [])))
+        → Ruled
+        (kept Renewed
+        (older ++ newer ++ (entryOf e (min 255 (suc (x .count))) (renewedPayload (x .payload) frame) ∷ [])))
     -- "2. Else, fewer than M entries: appended with count 1."
     adds : All (λ x. eventOf x ≢ e) xs → length xs < M → Ruled (kept Added (xs ++ (entryOf e 1 (payloadOf frame) ∷ [])))
     -- "3. Else the victim … is taken out, e appended with count 1."
-    replaces : (v : Entry) (t : TakenOut v) → Ruled (kept (displacing v) (t .older ++ t .newer ++ (entryOf e 1 (payloadOf frame) ∷ [])))
+    replaces : (v : Entry) (t : TakenOut v)
+        → Ruled (kept (displacing v) (t .older ++ t .newer ++ (entryOf e 1 (payloadOf frame) ∷ [])))
     -- "4. Else not stored; overflow is set."
-    loses : All (λ x. eventOf x ≢ e) xs → M ≤ length xs → All (λ x. priorityOf x ≤ priority e) xs → All (λ x. ¬ Rests x) xs
+    loses : All (λ x. eventOf x ≢ e) xs → M ≤ length xs → All (λ x. priorityOf x ≤ priority e) xs
+        → All (λ x. ¬ Rests x) xs
         → Ruled (kept NotStored xs)

@@ -1,5 +1,5 @@
--- Document 01, "Memory", for a whole call: what can become of an entry that memory held before the call, and where an entry that it
--- holds afterwards can come from. Displacement.antt says it of one store. Assumes nothing.
+-- Document 01, "Memory", for a whole call: what can become of an entry that memory held before the call, and where an
+-- entry that it holds afterwards can come from. Displacement.antt says it of one store. Assumes nothing.
 use mathlib.Core.Path.{_≡_}
 use mathlib.Core.Bool.{Bool, true, _&&_, cond}
 use mathlib.Core.List.{List, List·Memᴰ}
@@ -29,20 +29,23 @@ module _ (cfg : Configuration) where
   abbrev pub tickedBelow : ℕ → List ℕ → State → ℕ → State
   tickedBelow ms frame s k = forBelow k (λ e u. cond (timeRuns cfg (s .board) e) (ticks cfg ms frame e u) u) s
 
-  -- "If bit 0 was clear before, it is a fresh failure and memory is told": in an accepted call on state s, with b lent beside it, event k
-  -- fails afresh, with this frame, in the state that the parts of the call before its own have left
+  -- "If bit 0 was clear before, it is a fresh failure and memory is told": in an accepted call on state s, with b lent
+  -- beside it, event k fails afresh, with this frame, in the state that the parts of the call before its own have left
   pub data FailsAfresh (b : Beside) (s : State) : Call → ℕ → List ℕ → State → Type 0 where
     in-report : (k code : ℕ) (frame : List ℕ) → report cfg k code frame b s .answer ≡ 0
         → reported cfg k code (D s k) .verdict ≡ Failed → freshFailure (recordOf s k) ≡ true
         → FailsAfresh b s (Report k code frame) k frame s
-    in-tick : (ms : ℕ) (frame : List ℕ) (k : ℕ) → tick cfg ms frame b s .answer ≡ 0 → k < events cfg → timeRuns cfg (s .board) k ≡ true
+    in-tick : (ms : ℕ) (frame : List ℕ) (k : ℕ) → tick cfg ms frame b s .answer ≡ 0 → k < events cfg
+        → timeRuns cfg (s .board) k ≡ true
         → ticked cfg k ms (D (tickedBelow ms frame s k) k) .verdict ≡ Failed
         → freshFailure (recordOf (tickedBelow ms frame s k) k) ≡ true
         → FailsAfresh b s (Tick ms frame) k frame (tickedBelow ms frame s k)
 
-  -- v is the victim that rule 3 names where event k fails afresh in state u: "memory is told, last", so k has bit 0 set by then
+  -- v is the victim that rule 3 names where event k fails afresh in state u: "memory is told, last", so k has bit 0 set
+  -- by then
   abbrev pub IsVictim : ℕ → List ℕ → State → Entry → Type 0
-  IsVictim k frame u v = TakenOut (places cfg) (priorityOf cfg) (isQuiet cfg (happens cfg failed k u)) k frame (entries cfg u) v
+  IsVictim k frame u v =
+      TakenOut (places cfg) (priorityOf cfg) (isQuiet cfg (happens cfg failed k u)) k frame (entries cfg u) v
 
   -- "Stop, for its events: … at A the event ages": event k is one of those where cycle c stops
   abbrev pub agesIn : ℕ → State → ℕ → Bool
@@ -66,7 +69,8 @@ module _ (cfg : Configuration) where
     is-renewed : {x : Entry} {frame : List ℕ} {u : State} → FailsAfresh b s c (eventOf x) frame u
         → Fate b s c after (renewedEntry frame x) → Fate b s c after x
     -- another event fails afresh, and it is the victim that rule 3 names at that moment
-    is-pushed-out : {x : Entry} {k : ℕ} {frame : List ℕ} {u : State} → FailsAfresh b s c k frame u → IsVictim k frame u x → Fate b s c after x
+    is-pushed-out : {x : Entry} {k : ℕ} {frame : List ℕ} {u : State} → FailsAfresh b s c k frame u
+        → IsVictim k frame u x → Fate b s c after x
     -- its event ages at this stop
     is-aged : {x : Entry} → Ages b s c (eventOf x) → Fate b s c after x
     -- its event is cleared
@@ -80,4 +84,5 @@ module _ (cfg : Configuration) where
     renewed-from : {x : Entry} {frame : List ℕ} {u : State} → FailsAfresh b s c (eventOf x) frame u → Origin b s c x
         → Origin b s c (renewedEntry frame x)
     -- its event failed afresh and had none: "appended with count 1"
-    came : {k : ℕ} {frame : List ℕ} {u : State} → FailsAfresh b s c k frame u → Origin b s c (entryOf k 1 (payloadOf frame))
+    came : {k : ℕ} {frame : List ℕ} {u : State} → FailsAfresh b s c k frame u
+        → Origin b s c (entryOf k 1 (payloadOf frame))

@@ -44,10 +44,13 @@ row kind offset size = kind ∷ 0 ∷ (two offset ++ two size)
 -- the header of bodies of these lengths: "Bodies follow without gaps"
 abbrev pub header : ℕ → ℕ → ℕ → List ℕ
 header r m o =
-    bodyCount ∷ edition ∷ (row kindRecords headerLength r ++ (row kindMemory (headerLength + r) m ++ row kindOverflow (headerLength + r + m) o))
+    bodyCount ∷ edition
+    ∷ (row kindRecords headerLength r
+    ++ (row kindMemory (headerLength + r) m ++ row kindOverflow (headerLength + r + m) o))
 
 unfoldable pub imageFrom : List ℕ → List ℕ → List ℕ → List ℕ
-imageFrom records memory overflow = header (length records) (length memory) (length overflow) ++ (records ++ (memory ++ overflow))
+imageFrom records memory overflow =
+    header (length records) (length memory) (length overflow) ++ (records ++ (memory ++ overflow))
 
 -- "5 | … save, any cycle running"
 abbrev pub anyRuns : Board → Bool
@@ -80,7 +83,9 @@ module _ (cfg : Configuration) where
   stateOf image = record {
     records = recordsOf image;
     debounce = replicate (events cfg) (pos 0);
-    memory = take (usedIn image) (afterRecords image) ++ replicate (entryWidth (entryFrames cfg) * (places cfg - entryCount (afterRecords image))) 0;
+    memory =
+        take (usedIn image) (afterRecords image)
+        ++ replicate (entryWidth (entryFrames cfg) * (places cfg - entryCount (afterRecords image))) 0;
     board = record { running = allStopped; overflow = eqb (getD (drop (usedIn image) (afterRecords image)) 0 0) 1 };
   }
 
@@ -97,7 +102,8 @@ module _ (cfg : Configuration) where
   -- ---- save: "save 5, 7"
 
   unfoldable pub saveRules : Beside → State → List Rule
-  saveRules b s = begins cfg s true ((5 if anyRuns (s .board)) ∷ (7 if ltb (length (b .room)) (length (imageOf s))) ∷ [])
+  saveRules b s =
+      begins cfg s true ((5 if anyRuns (s .board)) ∷ (7 if ltb (length (b .room)) (length (imageOf s))) ∷ [])
 
   -- "Save writes the image, no more, and answers its length."
   abbrev pub saved : List ℕ → Beside → State → Outcome

@@ -1,5 +1,5 @@
--- Document 01, "Marked examples": E1 to E12 as one table of stories, run from the fresh state by the outcomes of the calls.
--- Assumes nothing.
+-- Document 01, "Marked examples": E1 to E12 as one table of stories, run from the fresh state by the outcomes of the
+-- calls. Assumes nothing.
 use mathlib.Core.Bool.{true, cond}
 use mathlib.Core.List.{List, [], _∷_}
 use Prim.Native.Nat.{ℕ, _*_}
@@ -15,8 +15,8 @@ use Rattle.manual.specs.Calls.{report, timeRuns}
 use Rattle.manual.specs.Answers.{alone}
 use Rattle.manual.specs.Sequences.{Call, Fresh, Report, Tick, Start, Stop, Clear, Read, Restore, Request, outcome}
 
--- what is seen after a call of event 0, the only one: the call's answer and verdict, status, D, g, and the memory of one place with no
--- frame
+-- what is seen after a call of event 0, the only one: the call's answer and verdict, status, D, g, and the memory of
+-- one place with no frame
 pub record Seen : Type 0 where
   pub answer : ℕ
   pub verdict : Verdict
@@ -39,8 +39,8 @@ pub record Story : Type 0 where
   pub config : Configuration
   pub rows : List Row
 
--- the verdict that a call gives event 0: "Each accepted report gives a verdict", which it answers; a tick answers none, so what is seen
--- of it is the verdict that debouncing gives
+-- the verdict that a call gives event 0: "Each accepted report gives a verdict", which it answers; a tick answers none,
+-- so what is seen of it is the verdict that debouncing gives
 abbrev pub verdictOf : Configuration → Call → State → Verdict
 verdictOf cfg Fresh s = None
 verdictOf cfg (Report k code frame) s = report cfg k code frame alone s .verdict
@@ -69,7 +69,9 @@ pub record After : Type 0 where
 
 module _ (cfg : Configuration) where
   abbrev pub afterCall : Call → State → After
-  afterCall c s = let o = outcome cfg c alone s in record { state = o .state; seen = see (o .answer) (verdictOf cfg c s) (o .state) }
+  afterCall c s =
+      let o = outcome cfg c alone s in
+      record { state = o .state; seen = see (o .answer) (verdictOf cfg c s) (o .state) }
 
   abbrev pub afterCalls : List Call → After → After
   afterCalls [] a = a
@@ -78,7 +80,8 @@ module _ (cfg : Configuration) where
   -- the rows with what is seen when their calls are made
   abbrev pub replayedRows : List Row → After → List Row
   replayedRows [] a = []
-  replayedRows (r ∷ rs) a = let next = afterCalls (r .calls) a in E (r .example) (r .calls) (next .seen) ∷ replayedRows rs next
+  replayedRows (r ∷ rs) a =
+      let next = afterCalls (r .calls) a in E (r .example) (r .calls) (next .seen) ∷ replayedRows rs next
 
 -- blocks of the right lengths, to make a fresh state in
 abbrev pub blank : Configuration → State
@@ -94,7 +97,8 @@ afterFresh cfg = afterCall cfg Fresh (blank cfg)
 
 abbrev pub replayed : List Story → List Story
 replayed [] = []
-replayed (t ∷ ts) = record { config = t .config; rows = replayedRows (t .config) (t .rows) (afterFresh (t .config)) } ∷ replayed ts
+replayed (t ∷ ts) =
+    record { config = t .config; rows = replayedRows (t .config) (t .rows) (afterFresh (t .config)) } ∷ replayed ts
 
 -- ---- the table
 
@@ -118,7 +122,8 @@ oneEntry = 1 ∷ 0 ∷ 0 ∷ 1 ∷ []
 -- one event, one place, no frame: kind, P, Q, up, down, jumps; "C 2, H 1, A 3, indicator 1"
 abbrev pub oneEvent : ℕ → ℤ → ℤ → ℕ → ℕ → ℕ → Configuration
 oneEvent kind p q up down jumps =
-    pos 1 ∷ pos 1 ∷ pos 0 ∷ pos 1 ∷ pos 1 ∷ pos 0 ∷ pos kind ∷ p ∷ q ∷ pos up ∷ pos down ∷ pos jumps ∷ pos 2 ∷ pos 1 ∷ pos 3 ∷ pos 1 ∷ []
+    pos 1 ∷ pos 1 ∷ pos 0 ∷ pos 1 ∷ pos 1 ∷ pos 0 ∷ pos kind ∷ p ∷ q ∷ pos up ∷ pos down ∷ pos jumps ∷ pos 2 ∷ pos 1
+    ∷ pos 3 ∷ pos 1 ∷ []
 
 -- "Event: kind 1, P −4, Q 4, up 2, down 1, jumps 0"
 abbrev pub marked : Configuration
@@ -142,9 +147,9 @@ reportPrePassed = Report 0 2 []
 abbrev pub reportPreFailed : Call
 reportPreFailed = Report 0 3 []
 
--- "Event: kind 1, P −4, Q 4, up 2, down 1, jumps 0, C 2, H 1, A 3, indicator 1. E1 start 50h; E2 pre-failed D 2, 50h; E3 pre-failed D 4,
--- 27h; E4 stop 27h, D 0; E5 start 65h; E6 failed AFh; E7 passed AEh; E8 stop, start ECh; E9 passed, stop 28h, g 1; E10 start, stop,
--- start, stop with no report 60h, entry gone."
+-- "Event: kind 1, P −4, Q 4, up 2, down 1, jumps 0, C 2, H 1, A 3, indicator 1. E1 start 50h; E2 pre-failed D 2, 50h;
+-- E3 pre-failed D 4, 27h; E4 stop 27h, D 0; E5 start 65h; E6 failed AFh; E7 passed AEh; E8 stop, start ECh; E9 passed,
+-- stop 28h, g 1; E10 start, stop, start, stop with no report 60h, entry gone."
 unfoldable pub e1ToE10 : List Row
 e1ToE10 =
     E 1 (Start 0 ∷ []) (shows None 0x50 (pos 0) 0 noEntry)

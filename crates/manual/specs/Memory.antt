@@ -11,7 +11,8 @@ use Rattle.manual.specs.declared.StoreAnswer.the-variants.{Untold, Renew
 use Rattle.manual.specs.Words.{firstOf, orElse, those}
 use Rattle.manual.specs.Configuration.{mostPlaces, mostPayload}
 
--- "event number (2 bytes, high first), occurrence count (1 to 255), F frame bytes": the payload is what it holds of its frame
+-- "event number (2 bytes, high first), occurrence count (1 to 255), F frame bytes": the payload is what it holds of its
+-- frame
 pub record Entry : Type 0 where
   pub high : ℕ
   pub low : ℕ
@@ -118,14 +119,15 @@ isLost NotStored = true
 module _ (M : ℕ) (priority : ℕ → ℕ) (quiet : ℕ → Bool) (e : ℕ) (frame : List ℕ) where
   -- "among entries whose priority number is greater than e's, the greatest"
   abbrev pub outranked : List Entry → Entry → Bool
-  outranked xs x = ltb (priority e) (priority (eventOf x)) && allOf (λ y. leb (priority (eventOf y)) (priority (eventOf x))) xs
+  outranked xs x =
+      ltb (priority e) (priority (eventOf x)) && allOf (λ y. leb (priority (eventOf y)) (priority (eventOf x))) xs
 
   -- "equal priority number whose event has bit 0 clear"
   abbrev pub resting : Entry → Bool
   resting x = eqb (priority (eventOf x)) (priority e) && quiet (eventOf x)
 
-  -- "3. Else the victim: among entries whose priority number is greater than e's, the greatest, and the oldest among equals.
-  -- If none: the oldest entry of equal priority number whose event has bit 0 clear."
+  -- "3. Else the victim: among entries whose priority number is greater than e's, the greatest, and the oldest among
+  -- equals. If none: the oldest entry of equal priority number whose event has bit 0 clear."
   unfoldable pub victim : List Entry → Option Entry
   victim xs = orElse (firstOf (outranked xs) xs) (firstOf resting xs)
 
@@ -143,7 +145,8 @@ module _ (M : ℕ) (priority : ℕ → ℕ) (quiet : ℕ → Bool) (e : ℕ) (fr
 
   -- "1. e has an entry: count up by one, at most 255; frame replaced; the entry moves to the end (newest)."
   unfoldable pub renewed : Option Entry → List Entry → Kept
-  renewed (some x) xs = kept Renewed (appended (min 255 (suc (x .count))) (renewedPayload (x .payload) frame) (without e xs))
+  renewed (some x) xs =
+      kept Renewed (appended (min 255 (suc (x .count))) (renewedPayload (x .payload) frame) (without e xs))
   renewed none xs = admitted xs
 
   unfoldable pub store : List Entry → Kept

@@ -62,7 +62,9 @@ module _ (cfg : Configuration) where
 
   -- "Stop, for its events: (a) … (b) … at A the event ages: …, its entry leaves memory. (c) D = 0."
   unfoldable pub stops : ℕ → State → State
-  stops e s = withD e (pos 0) (cond (agesAtStop (limitsOf cfg e) (recordOf s e)) (entryLeaves e (happens stop e s)) (happens stop e s))
+  stops e s =
+      withD e (pos 0)
+      (cond (agesAtStop (limitsOf cfg e) (recordOf s e)) (entryLeaves e (happens stop e s)) (happens stop e s))
 
   -- "each covered event gets status 50h, K = h = g = D = 0, its entry leaves"
   unfoldable pub clears : ℕ → State → State

@@ -125,7 +125,8 @@ module _ (cfg : Configuration) (request : List ℕ) (s : State) where
       -- "With the top bit set a positive reply has length 0 and the room stays untouched."
       suppressed : Suppressed → Replies (sends [] s)
       -- "01 mask: …", "02 mask: …", "0A: …"
-      positive : (bytes : List ℕ) → Due bytes → secondByte < 128 → length bytes ≤ length (b .room) → Replies (sends bytes s)
+      positive : (bytes : List ℕ) → Due bytes → secondByte < 128 → length bytes ≤ length (b .room)
+          → Replies (sends bytes s)
       -- "else clear and `54`"
       clears : service ≡ 0x14 → length request ≡ 4 → unknownCode cfg troubleCode ≡ false
           → Replies (sends (0x54 ∷ []) (cleared cfg troubleCode s))

@@ -15,7 +15,9 @@ use Rattle.manual.specs.Configuration.{Configuration}
 use Rattle.manual.specs.State.{State, D}
 use Rattle.manual.specs.Answers.{Beside, Outcome, Rule}
 use Rattle.manual.specs.Debouncing.{reported, ticked}
-use Rattle.manual.specs.Calls.{freshRules, reportRules, tickRules, startRules, stopRules, clearRules, readStatusRules, readFrameRules, fresh, report, tick, startCycle, stopCycle, clearCode, readStatus, readFrame, timeRuns, ofCycle, covers, unknownCode}
+use Rattle.manual.specs.Calls.{freshRules, reportRules, tickRules, startRules, stopRules, clearRules}
+use Rattle.manual.specs.Calls.{readStatusRules, readFrameRules, fresh, report, tick, startCycle, stopCycle}
+use Rattle.manual.specs.Calls.{clearCode, readStatus, readFrame, timeRuns, ofCycle, covers, unknownCode}
 use Rattle.manual.specs.Image.{saveRules, restoreRules, save, restore}
 use Rattle.manual.specs.Diagnostics.{requestRules, requestReply}
 
@@ -96,7 +98,8 @@ module _ (cfg : Configuration) where
   abbrev pub asksClear : List ℕ → Bool
   asksClear bytes = eqb (getD bytes 0 0) 0x14 && eqb (length bytes) 4 && not (unknownCode cfg (threeAt 1 bytes))
 
-  -- what an accepted call gives event e, by the board b and the event's own debounce number d: no status, K, h or g is looked at
+  -- what an accepted call gives event e, by the board b and the event's own debounce number d: no status, K, h or g is
+  -- looked at
   abbrev pub gives : Call → Board → ℕ → ℤ → List Token
   gives Fresh b e d = []
   gives (Report k code frame) b e d = onlyIf (eqb e k) (result (reported cfg e code d .verdict))
@@ -127,8 +130,8 @@ module _ (cfg : Configuration) where
     -- any call with any arguments, accepted or refused, "without a restore or a second fresh state"
     called : {s : State} {H : ℕ → History} → Reached s H → (c : Call) (b : Beside) → goesOn c b s ≡ true
         → Reached (outcome c b s .state) (λ e. tokensAt c b s e ++ H e)
-    -- "After restoring an image saved in that sequence, the history is the one up to that save, then what follows.": restored into any
-    -- blocks that restore accepts, as after a power cut they and the board may hold anything
+    -- "After restoring an image saved in that sequence, the history is the one up to that save, then what follows.":
+    -- restored into any blocks that restore accepts, as after a power cut they and the board may hold anything
     restored : {s : State} {H : ℕ → History} → Reached s H → (b : Beside) → save cfg b s .answer ≡ 0
         → (b′ : Beside) (s′ : State) → restore cfg (savedImage (save cfg b s)) b′ s′ .answer ≡ 0
         → Reached (restore cfg (savedImage (save cfg b s)) b′ s′ .state) H

@@ -51,7 +51,8 @@ storedAt e m = record {
 
 unfoldable pub withStored : ℕ → Stored → List ℕ → List ℕ
 withStored e r m =
-    set (set (set (set m (recordWidth * e) (r .status)) (recordWidth * e + 1) (r .K)) (recordWidth * e + 2) (r .h)) (recordWidth * e + 3) (r .g)
+    set (set (set (set m (recordWidth * e) (r .status)) (recordWidth * e + 1) (r .K)) (recordWidth * e + 2) (r .h))
+    (recordWidth * e + 3) (r .g)
 
 -- event e's status byte, and its record
 abbrev pub statusByte : State → ℕ → ℕ
@@ -67,7 +68,13 @@ D s e = getD (s .debounce) e (pos 0)
 -- ---- a state with one part changed
 
 abbrev pub withRecord : ℕ → EventRecord → State → State
-withRecord e r s = record { records = withStored e (stored r) (s .records); debounce = s .debounce; memory = s .memory; board = s .board }
+withRecord e r s =
+    record {
+      records = withStored e (stored r) (s .records);
+      debounce = s .debounce;
+      memory = s .memory;
+      board = s .board;
+    }
 
 abbrev pub withD : ℕ → ℤ → State → State
 withD e d s = record { records = s .records; debounce = set (s .debounce) e d; memory = s .memory; board = s .board }

@@ -67,8 +67,8 @@ module _ (cfg : Configuration) where
   abbrev pub zeroTail : State → Bool
   zeroTail s = allOf (λ b. eqb b 0) (drop (bytesInUse (entryFrames cfg) (entryCount (s .memory))) (s .memory))
 
-  -- "Memory has at most M entries, event numbers below n and no two equal, occurrence ≥ 1, each entry's event has bit 5 set, and
-  -- the bytes after the last entry are 0."
+  -- "Memory has at most M entries, event numbers below n and no two equal, occurrence ≥ 1, each entry's event has bit 5
+  -- set, and the bytes after the last entry are 0."
   unfoldable pub memoryOk : State → Bool
   memoryOk s = holds (atMostM s ∷ allOf (entryOk s) (entries s) ∷ noTwice (entries s) ∷ zeroTail s ∷ [])
 

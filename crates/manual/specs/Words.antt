@@ -1,4 +1,5 @@
--- Words that several sections of document 01 use: on the numbers below n, on lists, on bytes, on signed numbers. Assumes nothing.
+-- Words that several sections of document 01 use: on the numbers below n, on lists, on bytes, on signed numbers.
+-- Assumes nothing.
 use mathlib.Core.Bool.{Bool, true, false, _&&_, cond}
 use mathlib.Core.List.{List, [], _∷_, _++_}
 use mathlib.Core.Option.{Option, none, some}

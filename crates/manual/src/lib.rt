@@ -1,4 +1,5 @@
-// The types that the calls of document 01 speak of, and the numbers that they share. What the calls do is defined in specs/.
+// The types that the calls of document 01 speak of, and the numbers that they share. What the calls do is defined in
+// specs/.
 
 // "An event number is never taken for a place in memory."
 pub struct EventNumber(pub usize);
@@ -42,9 +43,9 @@ pub struct Board {
     pub overflow: bool,
 }
 
-// What memory did at an event's part of a call: it was not told, since there was no fresh failure; or, by rules 1 to 4 of a fresh
-// failure, the event's entry was renewed, one was added, one was displaced (the event is that of the entry that rule 3 takes out), or the
-// failure was not stored.
+// What memory did at an event's part of a call: it was not told, since there was no fresh failure; or, by rules 1 to 4
+// of a fresh failure, the event's entry was renewed, one was added, one was displaced (the event is that of the entry
+// that rule 3 takes out), or the failure was not stored.
 pub enum StoreAnswer {
     Untold,
     Renewed,

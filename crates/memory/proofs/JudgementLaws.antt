@@ -1,4 +1,5 @@
--- Laws of specs/Judgement.antt: its loops turn by turn, the bytes in use as a part of the block, and that it is the manual's judgement.
+-- Laws of specs/Judgement.antt: its loops turn by turn, the bytes in use as a part of the block, and that it is the
+-- manual's judgement.
 use mathlib.Core.Path.{_≡_, refl, sym, ap, _∙_}
 use mathlib.Core.Bool.{Bool, true, false, not, _&&_}
 use mathlib.Core.List.{List, [], _∷_, _++_}
@@ -11,7 +12,8 @@ use lib.Seq.{drop-cons, take-append-le, drop-append-le, drop-at, take-all, lengt
 use borrow.Author.Tests.{eq-eqb, ne-eqb, le-leb, lt-leb}
 use Rattle.history.specs.Words.{holds, anyOf, allOf}
 use Rattle.history.proofs.WordsLaws.{and-true, and-false}
-use Rattle.manual.specs.Memory.{Entry, eventOf, entryWidth, entryAt, memoryLength, entryCount, bytesInUse, entriesFrom, entriesOf, isOf, noTwice}
+use Rattle.manual.specs.Memory.{Entry, eventOf, entryWidth, entryAt, memoryLength, entryCount}
+use Rattle.manual.specs.Memory.{bytesInUse, entriesFrom, entriesOf, isOf, noTwice}
 use Rattle.memory.specs.Places.{blank, atPlace}
 use Rattle.memory.specs.Judgement.{soundEntry, zeros, usedOk, blockOk}
 use Rattle.memory.proofs.PlacesLaws.{starts-rise}
@@ -41,14 +43,17 @@ module _ {A : Type 0} (d : A) (q : A → Bool) (l : List A) (i : ℕ) where
   any-through h = ap (anyOf q) (drop-of-length-le l {i = i} h)
 
 module _ (xs : List Entry) (i : ℕ) where
-  twice-turn : i < length xs → noTwice (drop i xs) ≡ not (anyOf (isOf (eventOf (atPlace i xs))) (drop (i + 1) xs)) && noTwice (drop (i + 1) xs)
+  twice-turn : i < length xs
+      → noTwice (drop i xs) ≡ not (anyOf (isOf (eventOf (atPlace i xs))) (drop (i + 1) xs)) && noTwice (drop (i + 1) xs)
   unfolding noTwice
   twice-turn h = ap noTwice (next blank (λ x. true) xs i h)
 
-  pub twice-ends : i < length xs → anyOf (isOf (eventOf (atPlace i xs))) (drop (i + 1) xs) ≡ true → noTwice (drop i xs) ≡ false
+  pub twice-ends : i < length xs → anyOf (isOf (eventOf (atPlace i xs))) (drop (i + 1) xs) ≡ true
+      → noTwice (drop i xs) ≡ false
   twice-ends h e = twice-turn h ∙ rw e refl
 
-  pub twice-goes-on : i < length xs → anyOf (isOf (eventOf (atPlace i xs))) (drop (i + 1) xs) ≡ false → noTwice (drop i xs) ≡ noTwice (drop (i + 1) xs)
+  pub twice-goes-on : i < length xs → anyOf (isOf (eventOf (atPlace i xs))) (drop (i + 1) xs) ≡ false
+      → noTwice (drop i xs) ≡ noTwice (drop (i + 1) xs)
   twice-goes-on h e = twice-turn h ∙ rw e refl
 
   pub twice-through : length xs ≤ i → noTwice (drop i xs) ≡ true
@@ -62,7 +67,8 @@ entry-front : (F : ℕ) (a t : List ℕ) → entryWidth F ≤ length a → entry
 entry-front F [] t h = absurd (omega arith)
 entry-front F (x ∷ []) t h = absurd (omega arith)
 entry-front F (x ∷ y ∷ []) t h = absurd (omega arith)
-entry-front F (x ∷ y ∷ z ∷ a) t h = ap (λ (l : List ℕ). record { high = x; low = y; count = z; payload = l }) (take-append-le F a t (omega arith))
+entry-front F (x ∷ y ∷ z ∷ a) t h =
+    ap (λ (l : List ℕ). record { high = x; low = y; count = z; payload = l }) (take-append-le F a t (omega arith))
 
 entries-front : (F k : ℕ) (a t : List ℕ) → entryWidth F * k ≤ length a → entriesFrom F k (a ++ t) ≡ entriesFrom F k a
 unfolding entriesFrom
@@ -70,7 +76,9 @@ entries-front F zero a t h = refl
 entries-front F (suc k) a t h =
     let w : entryWidth F ≤ length a = omega (arith, mul-suc (entryWidth F) k) in
     (λ i. entry-front F a t w i ∷ entriesFrom F k (drop-append-le (entryWidth F) a t w i))
-    ∙ ap (λ (l : List Entry). entryAt F a ∷ l) (entries-front F k (drop (entryWidth F) a) t (omega (arith, length-drop (entryWidth F) a, mul-suc (entryWidth F) k)))
+    ∙ ap (λ (l : List Entry). entryAt F a ∷ l)
+    (entries-front F k (drop (entryWidth F) a) t
+    (omega (arith, length-drop (entryWidth F) a, mul-suc (entryWidth F) k)))
 
 module _ (F : ℕ) (used t : List ℕ) (h : length used ≡ bytesInUse F (entryCount used)) where
   pub count-in-front : entryCount (used ++ t) ≡ entryCount used
@@ -91,14 +99,16 @@ module _ (n M F : ℕ) (records : List ℕ) where
     unfolding usedOk holds
     used-many h = simp (lt-leb (entryCount used) M h)
 
-    pub used-other-length : entryCount used ≤ M → (length used ≡ bytesInUse F (entryCount used) → ⊥) → usedOk n M F records used ≡ false
+    pub used-other-length : entryCount used ≤ M → (length used ≡ bytesInUse F (entryCount used) → ⊥)
+        → usedOk n M F records used ≡ false
     unfolding usedOk holds
     used-other-length h e = simp (le-leb (entryCount used) M h, ne-eqb (length used) (bytesInUse F (entryCount used)) e)
 
     pub used-rest : entryCount used ≤ M → length used ≡ bytesInUse F (entryCount used)
         → usedOk n M F records used ≡ allOf (soundEntry n records) (entriesOf F used) && noTwice (entriesOf F used)
     unfolding usedOk holds
-    used-rest h e = simp (le-leb (entryCount used) M h, eq-eqb (length used) (bytesInUse F (entryCount used)) e, and-true)
+    used-rest h e =
+        simp (le-leb (entryCount used) M h, eq-eqb (length used) (bytesInUse F (entryCount used)) e, and-true)
 
   -- no byte is not even a number of entries
   pub used-empty : (used : List ℕ) → length used ≡ 0 → usedOk n M F records used ≡ false
@@ -115,16 +125,24 @@ module _ (n M F : ℕ) (records : List ℕ) where
     block-many h = simp (lt-leb (entryCount m) M h, and-false)
 
   -- the block is well formed where the bytes in use are and those behind them are 0
-  pub block-rest : (used t : List ℕ) → length used ≡ bytesInUse F (entryCount used) → length (used ++ t) ≡ memoryLength M F → entryCount used ≤ M
+  pub block-rest : (used t : List ℕ) → length used ≡ bytesInUse F (entryCount used)
+      → length (used ++ t) ≡ memoryLength M F → entryCount used ≤ M
       → blockOk n M F records (used ++ t) ≡ usedOk n M F records used && zeros t
   unfolding blockOk holds
   block-rest used t e l h =
       let c = count-in-front F used t e in
-      let d : drop (bytesInUse F (entryCount (used ++ t))) (used ++ t) ≡ t = ap (λ (k : ℕ). drop (bytesInUse F k) (used ++ t)) c ∙ drop-at used t _ e in
-      let x : blockOk n M F records (used ++ t) ≡ allOf (soundEntry n records) (entriesOf F (used ++ t)) && (noTwice (entriesOf F (used ++ t)) && (zeros (drop (bytesInUse F (entryCount (used ++ t))) (used ++ t)) && true)) =
+      let d : drop (bytesInUse F (entryCount (used ++ t))) (used ++ t) ≡ t =
+      ap (λ (k : ℕ). drop (bytesInUse F k) (used ++ t)) c ∙ drop-at used t _ e in
+      let x : blockOk n M F records (used ++ t)
+      ≡ allOf (soundEntry n records) (entriesOf F (used ++ t))
+      && (noTwice (entriesOf F (used ++ t))
+      && (zeros (drop (bytesInUse F (entryCount (used ++ t))) (used ++ t)) && true))
+      =
       simp (eq-eqb (length (used ++ t)) (memoryLength M F) l, le-leb (entryCount (used ++ t)) M (omega arith)) in
       x
-      ∙ (λ i. allOf (soundEntry n records) (entries-in-front F used t e i) && (noTwice (entries-in-front F used t e i) && (zeros (d i) && true)))
+      ∙
+      (λ i. allOf (soundEntry n records) (entries-in-front F used t e i)
+      && (noTwice (entries-in-front F used t e i) && (zeros (d i) && true)))
       ∙ regroup (allOf (soundEntry n records) (entriesOf F used)) (noTwice (entriesOf F used)) (zeros t)
       ∙ ap (λ (b : Bool). b && zeros t) (sym (used-rest used h e))
     where
@@ -149,10 +167,15 @@ module _ (M F : ℕ) (m : List ℕ) (l : length m ≡ memoryLength M F) (h : ent
   count-taken = getD-take end m 0 0 (omega arith)
 
 pub block-parts : (n M F : ℕ) (records m : List ℕ) → length m ≡ memoryLength M F → entryCount m ≤ M
-    → usedOk n M F records (take (bytesInUse F (entryCount m)) m) && zeros (take (length m - bytesInUse F (entryCount m)) (drop (bytesInUse F (entryCount m)) m)) ≡ blockOk n M F records m
+    → usedOk n M F records (take (bytesInUse F (entryCount m)) m)
+    && zeros (take (length m - bytesInUse F (entryCount m)) (drop (bytesInUse F (entryCount m)) m))
+    ≡ blockOk n M F records m
 block-parts n M F records m l h =
     let k = bytesInUse F (entryCount m) in
     let c = count-taken M F m l h in
-    ap (λ (t : List ℕ). usedOk n M F records (take k m) && zeros t) (take-all (length m - k) (drop k m) (omega (arith, length-drop k m)))
-    ∙ sym (block-rest n M F records (take k m) (drop k m) (end-length M F m l h ∙ ap (bytesInUse F) (sym c)) (ap length (take-append-drop k m) ∙ l) (omega arith))
+    ap (λ (t : List ℕ). usedOk n M F records (take k m) && zeros t)
+    (take-all (length m - k) (drop k m) (omega (arith, length-drop k m)))
+    ∙ sym
+    (block-rest n M F records (take k m) (drop k m) (end-length M F m l h ∙ ap (bytesInUse F) (sym c))
+    (ap length (take-append-drop k m) ∙ l) (omega arith))
     ∙ ap (blockOk n M F records) (take-append-drop k m)

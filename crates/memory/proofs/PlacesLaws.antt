@@ -1,4 +1,5 @@
--- Laws of specs/Places.antt and specs/Fits.antt: an entry's bytes by its place, and the searches by place, turn by turn.
+-- Laws of specs/Places.antt and specs/Fits.antt: an entry's bytes by its place, and the searches by place, turn by
+-- turn.
 use mathlib.Core.Path.{_≡_, refl, sym, ap, subst, _∙_}
 use mathlib.Core.Bool.{Bool, true, false, cond}
 use mathlib.Core.List.{List, [], _∷_}
@@ -32,15 +33,19 @@ pub starts-rise : (F p n : ℕ) → p ≤ n → bytesInUse F p ≤ bytesInUse F 
 starts-rise F p n h = omega (arith, mul-le-mul-left (entryWidth F) h)
 
 pub entry-within : (F p : ℕ) (m : List ℕ) → PlaceFits F m p → bytesInUse F p + entryWidth F ≤ length m
-entry-within F p m f = omega (arith, next-start F p, starts-rise F (suc p) (entryCount m) (f .below), f .entries .within)
+entry-within F p m f =
+    omega (arith, next-start F p, starts-rise F (suc p) (entryCount m) (f .below), f .entries .within)
 
-entry-from : (F n : ℕ) (m : List ℕ) (p : ℕ) → p < n → atPlace p (entriesFrom F n m) ≡ entryAt F (drop (entryWidth F * p) m)
+entry-from : (F n : ℕ) (m : List ℕ) (p : ℕ) → p < n
+    → atPlace p (entriesFrom F n m) ≡ entryAt F (drop (entryWidth F * p) m)
 unfolding entriesFrom
 entry-from F zero m p h = absurd (not-suc-le-zero h)
 entry-from F (suc n) m zero h = rw (mul-zero (entryWidth F))
 entry-from F (suc n) m (suc p) h =
     entry-from F n (drop (entryWidth F) m) p (le-of-suc-le-suc h)
-    ∙ ap (entryAt F) (drop-drop (entryWidth F * p) (entryWidth F) m ∙ ap (λ (k : ℕ). drop k m) (sym (mul-suc (entryWidth F) p ∙ add-comm _ _)))
+    ∙ ap (entryAt F)
+    (drop-drop (entryWidth F * p) (entryWidth F) m
+    ∙ ap (λ (k : ℕ). drop k m) (sym (mul-suc (entryWidth F) p ∙ add-comm _ _)))
 
 module _ (F : ℕ) (m : List ℕ) where
   pub entries-are-count : length (entriesOf F m) ≡ entryCount m
@@ -52,7 +57,8 @@ module _ (F : ℕ) (m : List ℕ) where
     unfolding entriesOf
     entry-is = entry-from F (entryCount m) (drop 1 m) p h ∙ ap (entryAt F) (drop-drop (entryWidth F * p) 1 m)
 
-    pub event-is-at : eventOf (atPlace p (entriesOf F m)) ≡ getD m (bytesInUse F p) 0 * 256 + getD m (bytesInUse F p + 1) 0
+    pub event-is-at : eventOf (atPlace p (entriesOf F m))
+        ≡ getD m (bytesInUse F p) 0 * 256 + getD m (bytesInUse F p + 1) 0
     event-is-at =
         ap eventOf entry-is
         ∙ (λ i. getD-drop (bytesInUse F p) m 0 0 i * 256 + getD-drop (bytesInUse F p) m 1 0 i)
@@ -70,14 +76,17 @@ pub next-entry : (xs : List Entry) (i : ℕ) → i < length xs → drop i xs ≡
 next-entry xs i h = drop-cons xs i blank h ∙ ap (λ (k : ℕ). atPlace i xs ∷ drop k xs) (sym (add-one i))
 
 module _ (q : Entry → Bool) (xs : List Entry) (i : ℕ) where
-  first-turn : i < length xs → firstPlaceFrom q i (drop i xs) ≡ cond (q (atPlace i xs)) (At (record { 0 = i })) (firstPlaceFrom q (i + 1) (drop (i + 1) xs))
+  first-turn : i < length xs
+      → firstPlaceFrom q i (drop i xs)
+      ≡ cond (q (atPlace i xs)) (At (record { 0 = i })) (firstPlaceFrom q (i + 1) (drop (i + 1) xs))
   unfolding firstPlaceFrom
   first-turn h = ap (firstPlaceFrom q i) (next-entry xs i h)
 
   pub first-hit : i < length xs → q (atPlace i xs) ≡ true → firstPlaceFrom q i (drop i xs) ≡ At (record { 0 = i })
   first-hit h e = first-turn h ∙ rw e refl
 
-  pub first-miss : i < length xs → q (atPlace i xs) ≡ false → firstPlaceFrom q i (drop i xs) ≡ firstPlaceFrom q (i + 1) (drop (i + 1) xs)
+  pub first-miss : i < length xs → q (atPlace i xs) ≡ false
+      → firstPlaceFrom q i (drop i xs) ≡ firstPlaceFrom q (i + 1) (drop (i + 1) xs)
   first-miss h e = first-turn h ∙ rw e refl
 
   pub first-end : length xs ≤ i → firstPlaceFrom q i (drop i xs) ≡ Nothing
@@ -106,11 +115,14 @@ unfolding firstPlaceFrom
 later-is q i [] = refl
 later-is q i (x ∷ xs) = rw (later-is q (i + 1) xs) (go (q x))
   where
-    go : (b : Bool) → cond b (At (record { 0 = i + 1 })) (later (firstPlaceFrom q (i + 1) xs)) ≡ later (cond b (At (record { 0 = i })) (firstPlaceFrom q (i + 1) xs))
+    go : (b : Bool)
+        → cond b (At (record { 0 = i + 1 })) (later (firstPlaceFrom q (i + 1) xs))
+        ≡ later (cond b (At (record { 0 = i })) (firstPlaceFrom q (i + 1) xs))
     go true = ap (λ (k : ℕ). At (record { 0 = k })) (add-one i)
     go false = refl
 
-later-finds : (q : Entry → Bool) (x : Entry) (xs : List Entry) (r : Find) → q x ≡ false → Finds q xs r → Finds q (x ∷ xs) (later r)
+later-finds : (q : Entry → Bool) (x : Entry) (xs : List Entry) (r : Find) → q x ≡ false → Finds q xs r
+    → Finds q (x ∷ xs) (later r)
 unfolding firstOf
 later-finds q x xs (At p) e f = record { inside = suc-le-suc (f .inside); passes = f .passes; first = rw e (f .first) }
 later-finds q x xs Nothing e f = rw e f
@@ -120,7 +132,8 @@ unfolding firstPlaceFrom firstOf
 first-finds q [] = refl
 first-finds q (x ∷ xs) = rw (later-is q 0 xs) (go (first-finds q xs) (q x) refl)
   where
-    go : Finds q xs (firstPlace q xs) → (b : Bool) → q x ≡ b → Finds q (x ∷ xs) (cond b (At (record { 0 = 0 })) (later (firstPlace q xs)))
+    go : Finds q xs (firstPlace q xs) → (b : Bool) → q x ≡ b
+        → Finds q (x ∷ xs) (cond b (At (record { 0 = 0 })) (later (firstPlace q xs)))
     go f true e = record { inside = suc-le-suc zero-le; passes = e; first = rw e refl }
     go f false e = later-finds q x xs (firstPlace q xs) e f
 
@@ -132,11 +145,14 @@ found-nothing q xs e = subst (Finds q xs) e (first-finds q xs)
 
 -- ---- each entry, by its place
 
-pub all-places : (q : Entry → Bool) (xs : List Entry) → ((k : ℕ) → k < length xs → q (atPlace k xs) ≡ true) → allOf q xs ≡ true
+pub all-places : (q : Entry → Bool) (xs : List Entry) → ((k : ℕ) → k < length xs → q (atPlace k xs) ≡ true)
+    → allOf q xs ≡ true
 all-places q [] h = refl
-all-places q (x ∷ xs) h = both (q x) (allOf q xs) (h 0 (suc-le-suc zero-le)) (all-places q xs (λ k l. h (suc k) (suc-le-suc l)))
+all-places q (x ∷ xs) h =
+    both (q x) (allOf q xs) (h 0 (suc-le-suc zero-le)) (all-places q xs (λ k l. h (suc k) (suc-le-suc l)))
 
-pub at-each-place : (q : Entry → Bool) (xs : List Entry) → allOf q xs ≡ true → (k : ℕ) → k < length xs → q (atPlace k xs) ≡ true
+pub at-each-place : (q : Entry → Bool) (xs : List Entry) → allOf q xs ≡ true → (k : ℕ) → k < length xs
+    → q (atPlace k xs) ≡ true
 at-each-place q [] e k h = absurd (not-suc-le-zero h)
 at-each-place q (x ∷ xs) e zero h = and-left (q x) (allOf q xs) e
 at-each-place q (x ∷ xs) e (suc k) h = at-each-place q xs (and-right (q x) (allOf q xs) e) k (le-of-suc-le-suc h)
@@ -144,12 +160,15 @@ at-each-place q (x ∷ xs) e (suc k) h = at-each-place q xs (and-right (q x) (al
 -- ---- where a search by place ends
 
 module _ (q : Entry → Bool) (xs : List Entry) where
-  none-before : (i : ℕ) → i ≤ length xs → ((k : ℕ) → k < i → q (atPlace k xs) ≡ false) → firstPlace q xs ≡ firstPlaceFrom q i (drop i xs)
+  none-before : (i : ℕ) → i ≤ length xs → ((k : ℕ) → k < i → q (atPlace k xs) ≡ false)
+      → firstPlace q xs ≡ firstPlaceFrom q i (drop i xs)
   none-before zero h n = refl
   none-before (suc i) h n =
-      none-before i (omega arith) (λ k l. n k (omega arith)) ∙ first-miss q xs i h (n i (omega arith)) ∙ ap (λ (k : ℕ). firstPlaceFrom q k (drop k xs)) (add-one i)
+      none-before i (omega arith) (λ k l. n k (omega arith)) ∙ first-miss q xs i h (n i (omega arith))
+      ∙ ap (λ (k : ℕ). firstPlaceFrom q k (drop k xs)) (add-one i)
 
-  pub first-place-is : (p : Place) → p .0 < length xs → q (atPlace (p .0) xs) ≡ true → ((k : ℕ) → k < p .0 → q (atPlace k xs) ≡ false) → firstPlace q xs ≡ At p
+  pub first-place-is : (p : Place) → p .0 < length xs → q (atPlace (p .0) xs) ≡ true
+      → ((k : ℕ) → k < p .0 → q (atPlace k xs) ≡ false) → firstPlace q xs ≡ At p
   first-place-is p h t n = none-before (p .0) (omega arith) n ∙ first-hit q xs (p .0) h t
 
   pub first-place-none : ((k : ℕ) → k < length xs → q (atPlace k xs) ≡ false) → firstPlace q xs ≡ Nothing
@@ -157,4 +176,6 @@ module _ (q : Entry → Bool) (xs : List Entry) where
 
 -- the event at a place is below 512
 pub event-small : (F p : ℕ) (m : List ℕ) → EventsFit F m → p < entryCount m → eventOf (atPlace p (entriesOf F m)) < 512
-event-small F p m f h = ltb-true _ 512 (at-each-place (λ x. ltb (eventOf x) 512) (entriesOf F m) (f .below) p (omega (arith, entries-are-count F m)))
+event-small F p m f h =
+    ltb-true _ 512
+    (at-each-place (λ x. ltb (eventOf x) 512) (entriesOf F m) (f .below) p (omega (arith, entries-are-count F m)))

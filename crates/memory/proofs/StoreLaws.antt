@@ -11,7 +11,8 @@ use borrow.Author.Tests.{eqb-true, ltb-true, lt-ltb, le-ltb}
 use Rattle.manual.specs.declared.Place.{Place}
 use Rattle.manual.specs.declared.StoreAnswer.the-variants.{Renewed, Added, NotStored}
 use Rattle.manual.specs.Configuration.{Configuration, events, places, entryFrames, priorityOf}
-use Rattle.manual.specs.Memory.{Entry, eventOf, entryOf, payloadOf, renewedPayload, entryCount, entriesOf, memoryOf, isOf, without, kept, displacing, victim, pushedOut, admitted, renewed, store}
+use Rattle.manual.specs.Memory.{Entry, eventOf, entryOf, payloadOf, renewedPayload, entryCount, entriesOf, memoryOf}
+use Rattle.manual.specs.Memory.{isOf, without, kept, displacing, victim, pushedOut, admitted, renewed, store}
 use Rattle.manual.proofs.MemoryLaws.{Fills, fills}
 use Rattle.memory.specs.declared.Find.the-variants.{At, Nothing}
 use Rattle.memory.specs.Block.{removed, added, replaced, renewedAt}
@@ -20,7 +21,8 @@ use Rattle.memory.specs.Fits.{EntriesFit, PlaceFits, RoomAt, EventsFit}
 use Rattle.memory.specs.InOrder.{InOrder}
 use Rattle.memory.specs.Store.{MayStore, quietIn, Left, leftWith, leftBy, admits, stores}
 use Rattle.memory.proofs.PlacesLaws.{entries-are-count, found, found-nothing, all-places, at-each-place}
-use Rattle.memory.proofs.SurgeryLaws.{entries-fit, room-at-end, added-at, place-framed, replaced-at, place-fits, forgotten-at, forgotten-nothing}
+use Rattle.memory.proofs.SurgeryLaws.{entries-fit, room-at-end, added-at, place-framed, replaced-at}
+use Rattle.memory.proofs.SurgeryLaws.{place-fits, forgotten-at, forgotten-nothing}
 use Rattle.memory.proofs.VictimLaws.{entryIn, victim-entry, victim-inside}
 
 -- ---- event e's entry leaves: F was read from the configuration, whose entries have payloads of F₀ bytes
@@ -77,20 +79,24 @@ module _ (n M F : ℕ) (m : List ℕ) (o : InOrder n M F m) (priority : ℕ → 
       ap (λ (b : List ℕ). leftWith b Renewed)
       (replaced-at n M F m o (p .0) below e c payload (fits .renewal (x .payload) (place-framed n M F m o (p .0) below))
       ∙ ap (λ (k : ℕ). memoryOf M F (without k xs ++ (entryOf e c payload ∷ []))) (eqb-true _ _ (f .passes)))
-      ∙ ap (λ (y : Option Entry). leftBy M F priority quiet e frame (renewed M priority quiet e frame y xs)) (sym (f .first))
+      ∙ ap (λ (y : Option Entry). leftBy M F priority quiet e frame (renewed M priority quiet e frame y xs))
+      (sym (f .first))
 
   -- rules 2 to 4: e has no entry
   rules-2-to-4 : placeOf e xs ≡ Nothing → admitsAll ≡ storesAll
   unfolding admits stores store renewed
   rules-2-to-4 h =
-      ap (λ (x : Option Entry). leftBy M F priority quiet e frame (renewed M priority quiet e frame x xs)) (sym (found-nothing (isOf e) xs h))
+      ap (λ (x : Option Entry). leftBy M F priority quiet e frame (renewed M priority quiet e frame x xs))
+      (sym (found-nothing (isOf e) xs h))
 
   -- what they leave, by whether there are fewer than M entries and by the victim
   abbrev by-room : Bool → Option Entry → Left
   by-room b v =
-      leftBy M F priority quiet e frame (cond b (kept Added (xs ++ (entryOf e 1 (payloadOf frame) ∷ []))) (pushedOut M priority quiet e frame v xs))
+      leftBy M F priority quiet e frame
+      (cond b (kept Added (xs ++ (entryOf e 1 (payloadOf frame) ∷ []))) (pushedOut M priority quiet e frame v xs))
 
-  admits-is : (b : Bool) (v : Option Entry) → ltb (length xs) M ≡ b → victim M priority quiet e frame xs ≡ v → by-room b v ≡ admitsAll
+  admits-is : (b : Bool) (v : Option Entry) → ltb (length xs) M ≡ b → victim M priority quiet e frame xs ≡ v
+      → by-room b v ≡ admitsAll
   unfolding admits admitted
   admits-is b v p q = λ i. by-room (sym p i) (sym q i)
 
@@ -98,21 +104,28 @@ module _ (n M F : ℕ) (m : List ℕ) (o : InOrder n M F m) (priority : ℕ → 
   rule-2 : entryCount m < M → leftWith (added F e 1 (payloadOf frame) m) Added ≡ admitsAll
   rule-2 h =
       ap (λ (b : List ℕ). leftWith b Added) (added-at n M F m o e 1 (payloadOf frame) (fits .new) h)
-      ∙ admits-is true (victim M priority quiet e frame xs) (lt-ltb (length xs) M (omega (arith, entries-are-count F m))) refl
+      ∙ admits-is true (victim M priority quiet e frame xs)
+      (lt-ltb (length xs) M (omega (arith, entries-are-count F m))) refl
 
   full : M ≤ entryCount m → ltb (length xs) M ≡ false
   full h = le-ltb (length xs) M (omega (arith, entries-are-count F m))
 
   victim-fits : (p : Place) → victimPlace priority quiet e xs ≡ At p → PlaceFits F m (p .0)
-  victim-fits p h = record { entries = entries-fit n M F m o; below = omega (arith, victim-inside M priority quiet e frame xs p h, entries-are-count F m) }
+  victim-fits p h =
+      record {
+        entries = entries-fit n M F m o;
+        below = omega (arith, victim-inside M priority quiet e frame xs p h, entries-are-count F m);
+      }
 
   -- rule 3: "The victim is taken out, e appended with count 1."
   rule-3 : M ≤ entryCount m → (p : Place) → victimPlace priority quiet e xs ≡ At p
       → leftWith (replaced F (p .0) e 1 (payloadOf frame) m) (displacing (atPlace (p .0) xs)) ≡ admitsAll
   unfolding pushedOut
   rule-3 h p v =
-      ap (λ (b : List ℕ). leftWith b (displacing (atPlace (p .0) xs))) (replaced-at n M F m o (p .0) (victim-fits p v .below) e 1 (payloadOf frame) (fits .new))
-      ∙ admits-is false (some (atPlace (p .0) xs)) (full h) (victim-entry M priority quiet e frame xs ∙ ap (entryIn xs) v)
+      ap (λ (b : List ℕ). leftWith b (displacing (atPlace (p .0) xs)))
+      (replaced-at n M F m o (p .0) (victim-fits p v .below) e 1 (payloadOf frame) (fits .new))
+      ∙ admits-is false (some (atPlace (p .0) xs)) (full h)
+      (victim-entry M priority quiet e frame xs ∙ ap (entryIn xs) v)
 
   -- rule 4: "Else not stored; overflow is set."
   rule-4 : M ≤ entryCount m → victimPlace priority quiet e xs ≡ Nothing → leftWith m NotStored ≡ admitsAll
@@ -123,7 +136,8 @@ module _ (n M F : ℕ) (m : List ℕ) (o : InOrder n M F m) (priority : ℕ → 
 
 -- ---- the same for a caller's configuration: W was read from it, and the frame has the length that it says
 
-module _ (cfg : Configuration) (records m : List ℕ) (e : ℕ) (frame : List ℕ) (r : MayStore cfg m e frame) {W : ℕ} (w : W ≡ entryFrames cfg) where
+module _ (cfg : Configuration) (records m : List ℕ) (e : ℕ) (frame : List ℕ) (r : MayStore cfg m e frame) {W : ℕ}
+    (w : W ≡ entryFrames cfg) where
   abbrev n : ℕ
   n = events cfg
 
@@ -149,35 +163,50 @@ module _ (cfg : Configuration) (records m : List ℕ) (e : ℕ) (frame : List �
   may-find = entries-fit n M W m order
 
   pub may-search : EventsFit W m × (e < 512)
-  may-search = (events-fit n M W m order (priorityOf cfg) quiet e frame fits-here, omega (arith, r .event-below, r .in-order .events-most))
+  may-search = (
+    events-fit n M W m order (priorityOf cfg) quiet e frame fits-here,
+    omega (arith, r .event-below, r .in-order .events-most),
+  )
 
   two-bytes : e < 65536
   two-bytes = omega (arith, may-search .1)
 
   pub may-renew : (p : Place) → placeOf e (entriesOf W m) ≡ At p
-      → PlaceFits W m (p .0) × ((e < 65536) × (length (renewedPayload (atPlace (p .0) (entriesOf W m) .payload) frame) ≡ W))
+      → PlaceFits W m (p .0) ×
+      ((e < 65536) × (length (renewedPayload (atPlace (p .0) (entriesOf W m) .payload) frame) ≡ W))
   may-renew p h =
-      let there = place-fits n M W m order (isOf e) p h in
-      (there, (two-bytes, fits-here .renewal (atPlace (p .0) (entriesOf W m) .payload) (place-framed n M W m order (p .0) (there .below))))
+      let there = place-fits n M W m order (isOf e) p h in (
+        there,
+        (
+          two-bytes,
+          fits-here .renewal (atPlace (p .0) (entriesOf W m) .payload)
+              (place-framed n M W m order (p .0) (there .below)),
+        ),
+      )
 
   pub may-append : entryCount m < places cfg → RoomAt W m (entryCount m) e × (length (payloadOf frame) ≡ W)
   may-append h = (room-at-end n M W m order e two-bytes h, fits-here .new)
 
   pub may-displace : (p : Place) → victimPlace (priorityOf cfg) quiet e (entriesOf W m) ≡ At p
       → PlaceFits W m (p .0) × ((e < 65536) × (length (payloadOf frame) ≡ W))
-  may-displace p h = (victim-fits n M W m order (priorityOf cfg) quiet e frame fits-here p h, (two-bytes, fits-here .new))
+  may-displace p h =
+      (victim-fits n M W m order (priorityOf cfg) quiet e frame fits-here p h, (two-bytes, fits-here .new))
 
-  pub renews : (p : Place) → placeOf e (entriesOf W m) ≡ At p → leftWith (renewedAt W (p .0) e frame m) Renewed ≡ storesAt (entryFrames cfg)
+  pub renews : (p : Place) → placeOf e (entriesOf W m) ≡ At p
+      → leftWith (renewedAt W (p .0) e frame m) Renewed ≡ storesAt (entryFrames cfg)
   renews p h = rule-1 n M W m order (priorityOf cfg) quiet e frame fits-here p h ∙ ap storesAt w
 
   pub has-none : placeOf e (entriesOf W m) ≡ Nothing → admitsAt (entryFrames cfg) ≡ storesAt (entryFrames cfg)
-  has-none h = ap admitsAt (sym w) ∙ rules-2-to-4 n M W m order (priorityOf cfg) quiet e frame fits-here h ∙ ap storesAt w
+  has-none h =
+      ap admitsAt (sym w) ∙ rules-2-to-4 n M W m order (priorityOf cfg) quiet e frame fits-here h ∙ ap storesAt w
 
-  pub appends : entryCount m < places cfg → leftWith (added W e 1 (payloadOf frame) m) Added ≡ admitsAt (entryFrames cfg)
+  pub appends : entryCount m < places cfg
+      → leftWith (added W e 1 (payloadOf frame) m) Added ≡ admitsAt (entryFrames cfg)
   appends h = rule-2 n M W m order (priorityOf cfg) quiet e frame fits-here h ∙ ap admitsAt w
 
   pub displaces : places cfg ≤ entryCount m → (p : Place) → victimPlace (priorityOf cfg) quiet e (entriesOf W m) ≡ At p
-      → leftWith (replaced W (p .0) e 1 (payloadOf frame) m) (displacing (atPlace (p .0) (entriesOf W m))) ≡ admitsAt (entryFrames cfg)
+      → leftWith (replaced W (p .0) e 1 (payloadOf frame) m) (displacing (atPlace (p .0) (entriesOf W m)))
+      ≡ admitsAt (entryFrames cfg)
   displaces h p v = rule-3 n M W m order (priorityOf cfg) quiet e frame fits-here h p v ∙ ap admitsAt w
 
   pub loses : places cfg ≤ entryCount m → victimPlace (priorityOf cfg) quiet e (entriesOf W m) ≡ Nothing

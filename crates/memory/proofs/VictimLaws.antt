@@ -1,5 +1,5 @@
--- The search for "among entries whose priority number is greater than e's, the greatest, and the oldest among equals": what its loop
--- keeps, turn by turn, and that its end is the place that the manual's tests name.
+-- The search for "among entries whose priority number is greater than e's, the greatest, and the oldest among equals":
+-- what its loop keeps, turn by turn, and that its end is the place that the manual's tests name.
 use mathlib.Core.Path.{_≡_, refl, sym, subst, _∙_}
 use mathlib.Core.Logic.{⊎-elim}
 use mathlib.Core.Bool.{Bool, true, false, _&&_, not-eq-not}
@@ -19,7 +19,8 @@ use Rattle.manual.specs.Memory.{Entry, eventOf, victim}
 use Rattle.memory.specs.declared.Find.{Find}
 use Rattle.memory.specs.declared.Find.the-variants.{At, Nothing}
 use Rattle.memory.specs.Places.{atPlace, firstPlace, orElsePlace, outranks, rests, victimPlace}
-use Rattle.memory.proofs.PlacesLaws.{Finds, first-finds, all-places, at-each-place, first-place-is, first-place-none}
+use Rattle.memory.proofs.PlacesLaws.{Finds, first-finds, all-places, at-each-place}
+use Rattle.memory.proofs.PlacesLaws.{first-place-is, first-place-none}
 
 -- ---- the loop: f gives the priority number of the entry at each place
 
@@ -36,7 +37,8 @@ Best f limit i (At v) top = Greatest f limit i (v .0) top
 Best f limit i Nothing top = (top ≡ limit) × ((k : ℕ) → k < i → f k ≤ limit)
 
 one-further : {P : ℕ → Type 0} (i : ℕ) → ((k : ℕ) → k < i → P k) → P i → (k : ℕ) → k < i + 1 → P k
-one-further {P} i h e k l = ⊎-elim (λ q. subst P (sym q) e) (λ q. h k q) (eq-or-lt-of-le (le-of-suc-le-suc (rw add-one at l)))
+one-further {P} i h e k l =
+    ⊎-elim (λ q. subst P (sym q) e) (λ q. h k q) (eq-or-lt-of-le (le-of-suc-le-suc (rw add-one at l)))
 
 module _ (f : ℕ → ℕ) (limit : ℕ) where
   pub best-of-none : Best f limit 0 Nothing limit
@@ -79,16 +81,24 @@ module _ (priority : ℕ → ℕ) (e : ℕ) (xs : List Entry) where
   refused : (k : ℕ) → (outranks priority e xs (atPlace k xs) ≡ true → ⊥) → outranks priority e xs (atPlace k xs) ≡ false
   refused k n = not-eq-not .0 n
 
-  pub best-is-first : (best : Find) (top : ℕ) → Best (priorityAt priority xs) (priority e) (length xs) best top → firstPlace (outranks priority e xs) xs ≡ best
+  pub best-is-first : (best : Find) (top : ℕ) → Best (priorityAt priority xs) (priority e) (length xs) best top
+      → firstPlace (outranks priority e xs) xs ≡ best
   best-is-first (At v) top b =
       first-place-is (outranks priority e xs) xs v (b .passed)
       (both _ _ (lt-ltb (priority e) (priorityAt priority xs (v .0)) (omega (arith, b .is, b .above)))
-      (all-places (λ y. leb (priority (eventOf y)) (priorityAt priority xs (v .0))) xs (λ k h. le-leb (priorityAt priority xs k) (priorityAt priority xs (v .0)) (omega (arith, b .is, b .most k h)))))
+      (all-places (λ y. leb (priority (eventOf y)) (priorityAt priority xs (v .0))) xs
+      (λ k h. le-leb (priorityAt priority xs k) (priorityAt priority xs (v .0)) (omega (arith, b .is, b .most k h)))))
       (λ k h. refused k (λ t.
-      let l : priorityAt priority xs (v .0) ≤ priorityAt priority xs k = leb-true _ _ (at-each-place (λ y. leb (priority (eventOf y)) (priorityAt priority xs k)) xs (and-right (ltb (priority e) (priorityAt priority xs k)) _ t) (v .0) (b .passed)) in
+      let l : priorityAt priority xs (v .0) ≤ priorityAt priority xs k =
+      leb-true _ _
+      (at-each-place (λ y. leb (priority (eventOf y)) (priorityAt priority xs k)) xs
+      (and-right (ltb (priority e) (priorityAt priority xs k)) _ t) (v .0) (b .passed)) in
       omega (arith, b .is, b .first k h)))
   best-is-first Nothing top b =
-      first-place-none (outranks priority e xs) xs (λ k h. refused k (λ t. let l : priority e < priorityAt priority xs k = ltb-true _ _ (and-left (ltb (priority e) (priorityAt priority xs k)) _ t) in omega (arith, b .1 k h)))
+      first-place-none (outranks priority e xs) xs
+      (λ k h. refused k
+      (λ t. let l : priority e < priorityAt priority xs k = ltb-true _ _
+      (and-left (ltb (priority e) (priorityAt priority xs k)) _ t) in omega (arith, b .1 k h)))
 
 -- ---- "the oldest entry of equal priority number whose event has bit 0 clear", the priority number being p
 

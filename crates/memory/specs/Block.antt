@@ -1,9 +1,11 @@
--- What the code does to the bytes of the memory block: bytes written over others, bytes taken out with the gap closed. Assumes nothing.
+-- What the code does to the bytes of the memory block: bytes written over others, bytes taken out with the gap closed.
+-- Assumes nothing.
 use mathlib.Core.List.{List, _++_}
 use Prim.Native.Nat.{ℕ, suc, _+_, _-_, min}
 use lib.ListN.{take, drop, set, replicate}
 use lib.Seq.{sets}
-use Rattle.manual.specs.Memory.{Entry, entryOf, renewedPayload, entryBytes, entryWidth, entryCount, bytesInUse, entriesOf}
+use Rattle.manual.specs.Memory.{Entry, entryOf, renewedPayload, entryBytes, entryWidth}
+use Rattle.manual.specs.Memory.{entryCount, bytesInUse, entriesOf}
 use Rattle.memory.specs.Places.{atPlace}
 
 -- m without its w bytes from `at` on: the later ones move down, and w bytes 0 stand at the end

@@ -1,4 +1,5 @@
--- What the functions on the bytes of the memory block ask of a caller: that what they read or write lies within the block.
+-- What the functions on the bytes of the memory block ask of a caller: that what they read or write lies within the
+-- block.
 use mathlib.Core.Path.{_≡_}
 use mathlib.Core.Bool.{true}
 use mathlib.Core.List.{List}

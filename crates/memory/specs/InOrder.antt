@@ -1,4 +1,5 @@
--- The memory block of a well-formed state, as a store and a removal ask for it: the block of its entries, and these in order.
+-- The memory block of a well-formed state, as a store and a removal ask for it: the block of its entries, and these in
+-- order.
 use mathlib.Core.Path.{_≡_}
 use mathlib.Core.Bool.{true}
 use mathlib.Core.List.{List}

@@ -31,8 +31,8 @@ soundEntry n records x = soundNumbers n records (eventOf x) (x .count)
 abbrev pub zeros : List ℕ → Bool
 zeros l = allOf (λ b. eqb b 0) l
 
--- the bytes in use, which are the number of entries and the entries: "Memory has at most M entries, event numbers below n and no two
--- equal, occurrence ≥ 1, each entry's event has bit 5 set"
+-- the bytes in use, which are the number of entries and the entries: "Memory has at most M entries, event numbers below
+-- n and no two equal, occurrence ≥ 1, each entry's event has bit 5 set"
 unfoldable pub usedOk : ℕ → ℕ → ℕ → List ℕ → List ℕ → Bool
 usedOk n M F records used =
     holds

@@ -8,7 +8,8 @@ use Rattle.manual.specs.Memory.{Entry, bytesInUse, isOf, outranked, resting}
 use Rattle.memory.specs.declared.Find.{Find}
 use Rattle.memory.specs.declared.Find.the-variants.{At, Nothing}
 
--- where the frame of the entry at a place starts: behind "event number (2 bytes, high first), occurrence count (1 to 255)"
+-- where the frame of the entry at a place starts: behind "event number (2 bytes, high first), occurrence count (1 to
+-- 255)"
 abbrev pub frameAt : ℕ → Place → ℕ
 frameAt F p = bytesInUse F (p .0) + 3
 
@@ -35,7 +36,8 @@ abbrev pub orElsePlace : Find → Find → Find
 orElsePlace (At p) b = At p
 orElsePlace Nothing b = b
 
--- the manual's tests for the victim of a fresh failure of event e; neither the number of places nor the frame has a say in them
+-- the manual's tests for the victim of a fresh failure of event e; neither the number of places nor the frame has a say
+-- in them
 abbrev pub outranks : (ℕ → ℕ) → ℕ → List Entry → Entry → Bool
 outranks priority e xs x = outranked 0 priority (λ k. false) e [] xs x
 
@@ -44,4 +46,5 @@ rests priority quiet e x = resting 0 priority quiet e [] x
 
 -- the manual's `victim`, by its place
 unfoldable pub victimPlace : (ℕ → ℕ) → (ℕ → Bool) → ℕ → List Entry → Find
-victimPlace priority quiet e xs = orElsePlace (firstPlace (outranks priority e xs) xs) (firstPlace (rests priority quiet e) xs)
+victimPlace priority quiet e xs =
+    orElsePlace (firstPlace (outranks priority e xs) xs) (firstPlace (rests priority quiet e) xs)

@@ -12,8 +12,10 @@ ghost use lib.Dec.{eqb};
 ghost use Prim.Native.Nat.{suc, min, _≤_, _<_};
 ghost use lib.ListN.{length, drop};
 ghost use Rattle.history.specs.Words.{anyOf, allOf};
-ghost use Rattle.manual.specs.Configuration.{mostEvents, mostPlaces, mostPayload, events, places, entryFrames, priorityOf};
-ghost use Rattle.manual.specs.Memory.{eventOf, payloadOf, renewedPayload, displacing, memoryLength, entryCount, bytesInUse, entriesOf, memoryOf, isOf, without, noTwice};
+ghost use Rattle.manual.specs.Configuration.{mostEvents, mostPlaces, mostPayload, events};
+ghost use Rattle.manual.specs.Configuration.{places, entryFrames, priorityOf};
+ghost use Rattle.manual.specs.Memory.{eventOf, payloadOf, renewedPayload, displacing, memoryLength, entryCount};
+ghost use Rattle.manual.specs.Memory.{bytesInUse, entriesOf, memoryOf, isOf, without, noTwice};
 ghost use Rattle.memory.specs.Places.{frameAt, atPlace, firstPlace, placeOf, outranks, rests, victimPlace};
 ghost use Rattle.memory.specs.Fits.{EntriesFit, PlaceFits, RoomAt, EventsFit};
 ghost use Rattle.memory.specs.InOrder.{InOrder};
@@ -63,7 +65,8 @@ pub fn memory_length(places: usize, payload_bytes: usize) -> usize
 
 // The bytes of the number of entries and of the entries.
 pub fn bytes_in_use(memory: &[u8], payload_bytes: usize) -> usize
-    requires { ⌜ (0 < length (now memory)) × ((entryCount (now memory) ≤ mostPlaces) × («payload_bytes» ≤ mostPayload)) ⌝ }
+    requires { ⌜ (0 < length (now memory))
+        × ((entryCount (now memory) ≤ mostPlaces) × («payload_bytes» ≤ mostPayload)) ⌝ }
     ensures { λ r. ⌜ r ≡ bytesInUse «payload_bytes» (entryCount (now (memory .entry))) ⌝ }
 {
     start_of(payload_bytes, Place(entry_count(memory)))
@@ -140,8 +143,10 @@ fn enter(
     count: u8,
     payload: &[u8],
 )
-    requires { ⌜ (RoomAt «payload_bytes» (now memory) (place .0) (event .0)) × (length (now payload) ≡ «payload_bytes») ⌝ }
-    ensures { λ _. ⌜ now (memory .exit) ≡ entered «payload_bytes» (place .0) (event .0) count (now (payload .entry)) (now (memory .entry)) ⌝ }
+    requires { ⌜ (RoomAt «payload_bytes» (now memory) (place .0) (event .0))
+        × (length (now payload) ≡ «payload_bytes») ⌝ }
+    ensures { λ _. ⌜ now (memory .exit)
+        ≡ entered «payload_bytes» (place .0) (event .0) count (now (payload .entry)) (now (memory .entry)) ⌝ }
 {
     let start = start_of(payload_bytes, place);
     let high = (event.0 / 256) as u8;
@@ -152,8 +157,10 @@ fn enter(
 
 // Puts an entry of the event, with an occurrence count and a payload, at the end.
 fn append(memory: &mut [u8], payload_bytes: usize, event: EventNumber, count: u8, payload: &[u8])
-    requires { ⌜ (RoomAt «payload_bytes» (now memory) (entryCount (now memory)) (event .0)) × (length (now payload) ≡ «payload_bytes») ⌝ }
-    ensures { λ _. ⌜ now (memory .exit) ≡ added «payload_bytes» (event .0) count (now (payload .entry)) (now (memory .entry)) ⌝ }
+    requires { ⌜ (RoomAt «payload_bytes» (now memory) (entryCount (now memory)) (event .0)) ×
+        (length (now payload) ≡ «payload_bytes») ⌝ }
+    ensures { λ _. ⌜ now (memory .exit)
+        ≡ added «payload_bytes» (event .0) count (now (payload .entry)) (now (memory .entry)) ⌝ }
 {
     let end = Place(entry_count(memory));
     memory[0] = memory[0] + 1;
@@ -169,8 +176,10 @@ fn replace(
     count: u8,
     payload: &[u8],
 )
-    requires { ⌜ (PlaceFits «payload_bytes» (now memory) (place .0)) × ((event .0 < 65536) × (length (now payload) ≡ «payload_bytes»)) ⌝ }
-    ensures { λ _. ⌜ now (memory .exit) ≡ replaced «payload_bytes» (place .0) (event .0) count (now (payload .entry)) (now (memory .entry)) ⌝ }
+    requires { ⌜ (PlaceFits «payload_bytes» (now memory) (place .0)) ×
+        ((event .0 < 65536) × (length (now payload) ≡ «payload_bytes»)) ⌝ }
+    ensures { λ _. ⌜ now (memory .exit)
+        ≡ replaced «payload_bytes» (place .0) (event .0) count (now (payload .entry)) (now (memory .entry)) ⌝ }
 {
     let newest = Place(entry_count(memory) - 1);
     close_gap(memory, payload_bytes, place);
@@ -180,7 +189,9 @@ fn replace(
 // The event's entry leaves, where it has one.
 pub fn forget(cfg: &[i32], memory: &mut [u8], event: EventNumber)
     requires { ⌜ InOrder (events (now cfg)) (places (now cfg)) (entryFrames (now cfg)) (now memory) ⌝ }
-    ensures { λ _. ⌜ now (memory .exit) ≡ memoryOf (places (now (cfg .entry))) (entryFrames (now (cfg .entry))) (without (event .0) (entriesOf (entryFrames (now (cfg .entry))) (now (memory .entry)))) ⌝ }
+    ensures { λ _. ⌜ now (memory .exit)
+        ≡ memoryOf (places (now (cfg .entry))) (entryFrames (now (cfg .entry)))
+        (without (event .0) (entriesOf (entryFrames (now (cfg .entry))) (now (memory .entry)))) ⌝ }
 {
     let payload_bytes = entry_frames(cfg);
     let own = place_of(memory, payload_bytes, event);
@@ -193,7 +204,10 @@ pub fn forget(cfg: &[i32], memory: &mut [u8], event: EventNumber)
 // "among entries whose priority number is greater than e's, the greatest, and the oldest among equals"
 fn place_of_greatest(cfg: &[i32], memory: &[u8], payload_bytes: usize, event: EventNumber) -> Find
     requires { ⌜ (EventsFit «payload_bytes» (now memory)) × (event .0 < mostEvents) ⌝ }
-    ensures { λ r. ⌜ r ≡ firstPlace (outranks (priorityOf (now (cfg .entry))) (event .0) (entriesOf «payload_bytes» (now (memory .entry)))) (entriesOf «payload_bytes» (now (memory .entry))) ⌝ }
+    ensures { λ r. ⌜ r
+        ≡ firstPlace
+        (outranks (priorityOf (now (cfg .entry))) (event .0) (entriesOf «payload_bytes» (now (memory .entry))))
+        (entriesOf «payload_bytes» (now (memory .entry))) ⌝ }
 {
     let entries = entry_count(memory);
     let mut best = Find::Nothing;
@@ -210,10 +224,12 @@ fn place_of_greatest(cfg: &[i32], memory: &[u8], payload_bytes: usize, event: Ev
     best
 }
 
-// "equal priority number whose event has bit 0 clear": the other event's, compared with that of an event of priority number p.
+// "equal priority number whose event has bit 0 clear": the other event's, compared with that of an event of priority
+// number p.
 fn gives_way(cfg: &[i32], records: &[u8], other: EventNumber, p: usize) -> bool
     requires { ⌜ other .0 < mostEvents ⌝ }
-    ensures { λ r. ⌜ r ≡ eqb (priorityOf (now (cfg .entry)) (other .0)) p && quietIn (now (records .entry)) (other .0) ⌝ }
+    ensures { λ r. ⌜ r
+        ≡ eqb (priorityOf (now (cfg .entry)) (other .0)) p && quietIn (now (records .entry)) (other .0) ⌝ }
 {
     let equal = config::priority_of(cfg, other) == p;
     equal & readings::is_quiet(records, other)
@@ -228,7 +244,9 @@ fn place_of_resting(
     event: EventNumber,
 ) -> Find
     requires { ⌜ (EventsFit «payload_bytes» (now memory)) × (event .0 < mostEvents) ⌝ }
-    ensures { λ r. ⌜ r ≡ firstPlace (rests (priorityOf (now (cfg .entry))) (quietIn (now (records .entry))) (event .0)) (entriesOf «payload_bytes» (now (memory .entry))) ⌝ }
+    ensures { λ r. ⌜ r
+        ≡ firstPlace (rests (priorityOf (now (cfg .entry))) (quietIn (now (records .entry))) (event .0))
+        (entriesOf «payload_bytes» (now (memory .entry))) ⌝ }
 {
     let entries = entry_count(memory);
     let p = config::priority_of(cfg, event);
@@ -251,7 +269,9 @@ fn victim(
     event: EventNumber,
 ) -> Find
     requires { ⌜ (EventsFit «payload_bytes» (now memory)) × (event .0 < mostEvents) ⌝ }
-    ensures { λ r. ⌜ r ≡ victimPlace (priorityOf (now (cfg .entry))) (quietIn (now (records .entry))) (event .0) (entriesOf «payload_bytes» (now (memory .entry))) ⌝ }
+    ensures { λ r. ⌜ r
+        ≡ victimPlace (priorityOf (now (cfg .entry))) (quietIn (now (records .entry))) (event .0)
+        (entriesOf «payload_bytes» (now (memory .entry))) ⌝ }
 {
     let greatest = place_of_greatest(cfg, memory, payload_bytes, event);
     match greatest {
@@ -269,8 +289,12 @@ fn one_more(count: u8) -> u8
 
 // Rule 1: "e has an entry: count up by one, at most 255; frame replaced; the entry moves to the end (newest)."
 fn renew(memory: &mut [u8], payload_bytes: usize, place: Place, event: EventNumber, frame: &[u8])
-    requires { ⌜ (PlaceFits «payload_bytes» (now memory) (place .0)) × ((event .0 < 65536) × (length (renewedPayload (atPlace (place .0) (entriesOf «payload_bytes» (now memory)) .payload) (now frame)) ≡ «payload_bytes»)) ⌝ }
-    ensures { λ _. ⌜ now (memory .exit) ≡ renewedAt «payload_bytes» (place .0) (event .0) (now (frame .entry)) (now (memory .entry)) ⌝ }
+    requires { ⌜ (PlaceFits «payload_bytes» (now memory) (place .0)) ×
+        ((event .0 < 65536) ×
+        (length (renewedPayload (atPlace (place .0) (entriesOf «payload_bytes» (now memory)) .payload) (now frame))
+        ≡ «payload_bytes»)) ⌝ }
+    ensures { λ _. ⌜ now (memory .exit)
+        ≡ renewedAt «payload_bytes» (place .0) (event .0) (now (frame .entry)) (now (memory .entry)) ⌝ }
 {
     let count = one_more(count_at(memory, payload_bytes, place));
     replace(memory, payload_bytes, place, event, count, frame);
@@ -284,8 +308,12 @@ fn displace(
     event: EventNumber,
     frame: &[u8],
 ) -> StoreAnswer
-    requires { ⌜ (PlaceFits «payload_bytes» (now memory) (place .0)) × ((event .0 < 65536) × (length (payloadOf (now frame)) ≡ «payload_bytes»)) ⌝ }
-    ensures { λ r. ⌜ leftWith (now (memory .exit)) r ≡ leftWith (replaced «payload_bytes» (place .0) (event .0) 1 (payloadOf (now (frame .entry))) (now (memory .entry))) (displacing (atPlace (place .0) (entriesOf «payload_bytes» (now (memory .entry))))) ⌝ }
+    requires { ⌜ (PlaceFits «payload_bytes» (now memory) (place .0)) ×
+        ((event .0 < 65536) × (length (payloadOf (now frame)) ≡ «payload_bytes»)) ⌝ }
+    ensures { λ r. ⌜ leftWith (now (memory .exit)) r
+        ≡ leftWith
+        (replaced «payload_bytes» (place .0) (event .0) 1 (payloadOf (now (frame .entry))) (now (memory .entry)))
+        (displacing (atPlace (place .0) (entriesOf «payload_bytes» (now (memory .entry))))) ⌝ }
 {
     let out = event_at(memory, payload_bytes, place);
     replace(memory, payload_bytes, place, event, 1, frame);
@@ -301,8 +329,12 @@ fn admit(
     event: EventNumber,
     frame: &[u8],
 ) -> StoreAnswer
-    requires { ⌜ (MayStore (now cfg) (now memory) (event .0) (now frame)) × («payload_bytes» ≡ entryFrames (now cfg)) ⌝ }
-    ensures { λ r. ⌜ leftWith (now (memory .exit)) r ≡ admits (places (now (cfg .entry))) (entryFrames (now (cfg .entry))) (priorityOf (now (cfg .entry))) (quietIn (now (records .entry))) (event .0) (now (frame .entry)) (entriesOf (entryFrames (now (cfg .entry))) (now (memory .entry))) ⌝ }
+    requires { ⌜ (MayStore (now cfg) (now memory) (event .0) (now frame))
+        × («payload_bytes» ≡ entryFrames (now cfg)) ⌝ }
+    ensures { λ r. ⌜ leftWith (now (memory .exit)) r
+        ≡ admits (places (now (cfg .entry))) (entryFrames (now (cfg .entry))) (priorityOf (now (cfg .entry)))
+        (quietIn (now (records .entry))) (event .0) (now (frame .entry))
+        (entriesOf (entryFrames (now (cfg .entry))) (now (memory .entry))) ⌝ }
 {
     if entry_count(memory) < config::places(cfg) {
         append(memory, payload_bytes, event, 1, frame);
@@ -324,7 +356,10 @@ pub fn store(
     frame: &[u8],
 ) -> StoreAnswer
     requires { ⌜ MayStore (now cfg) (now memory) (event .0) (now frame) ⌝ }
-    ensures { λ r. ⌜ leftWith (now (memory .exit)) r ≡ stores (places (now (cfg .entry))) (entryFrames (now (cfg .entry))) (priorityOf (now (cfg .entry))) (quietIn (now (records .entry))) (event .0) (now (frame .entry)) (entriesOf (entryFrames (now (cfg .entry))) (now (memory .entry))) ⌝ }
+    ensures { λ r. ⌜ leftWith (now (memory .exit)) r
+        ≡ stores (places (now (cfg .entry))) (entryFrames (now (cfg .entry))) (priorityOf (now (cfg .entry)))
+        (quietIn (now (records .entry))) (event .0) (now (frame .entry))
+        (entriesOf (entryFrames (now (cfg .entry))) (now (memory .entry))) ⌝ }
 {
     let payload_bytes = entry_frames(cfg);
     let own = place_of(memory, payload_bytes, event);
@@ -352,7 +387,8 @@ fn entry_ok(events: usize, records: &[u8], event: EventNumber, count: u8) -> boo
 // Whether each entry is so.
 fn each_ok(events: usize, payload_bytes: usize, memory: &[u8], records: &[u8]) -> bool
     requires { ⌜ (events ≤ mostEvents) × EntriesFit «payload_bytes» (now memory) ⌝ }
-    ensures { λ r. ⌜ r ≡ allOf (soundEntry events (now (records .entry))) (entriesOf «payload_bytes» (now (memory .entry))) ⌝ }
+    ensures { λ r. ⌜ r
+        ≡ allOf (soundEntry events (now (records .entry))) (entriesOf «payload_bytes» (now (memory .entry))) ⌝ }
 {
     let entries = entry_count(memory);
     let mut i = 0;
@@ -401,7 +437,8 @@ fn none_twice(memory: &[u8], payload_bytes: usize) -> bool
     true
 }
 
-// The number of entries and the entries are as a well-formed memory of so many places has them. Any bytes may be judged, of any number.
+// The number of entries and the entries are as a well-formed memory of so many places has them. Any bytes may be
+// judged, of any number.
 pub fn entries_ok(
     events: usize,
     places: usize,

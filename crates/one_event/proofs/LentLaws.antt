@@ -32,25 +32,33 @@ use Rattle.status.specs.Records.{storedIs, recordIs, limits, FailedIs, RoomToRi
 use Rattle.status.proofs.RecordsLaws.{step-written, has-room}
 use Rattle.memory.specs.Store.{quietIn, Left, leftWith, stores}
 use Rattle.one_event.specs.Ready.{accepts, BlocksFit, EventFits, Ready}
-use Rattle.one_event.specs.Steps.{Stepped, stepped, tellsMemory, failing, qualifying, applying, reporting, ticking}
+use Rattle.one_event.specs.Steps.{Stepped, stepped, tellsMemory, failing, qualifying}
+use Rattle.one_event.specs.Steps.{applying, reporting, ticking}
 
 -- ---- what the functions of the crates below ask
 
-pub record-within : {cfg : Configuration} {records memory : List ℕ} {e : ℕ} → BlocksFit cfg records memory e → recordWidth * e + recordWidth ≤ length records
+pub record-within : {cfg : Configuration} {records memory : List ℕ} {e : ℕ} → BlocksFit cfg records memory e
+    → recordWidth * e + recordWidth ≤ length records
 record-within f = omega (arith, f .below, f .records-fit)
 
-pub may-stop : {cfg : Configuration} {records : List ℕ} {debounce : List ℤ} {memory : List ℕ} {e : ℕ} → EventFits cfg records debounce memory e
+pub may-stop : {cfg : Configuration} {records : List ℕ} {debounce : List ℤ} {memory : List ℕ} {e : ℕ}
+    → EventFits cfg records debounce memory e
     → (r : Record) → storedIs r ≡ storedAt e records → RoomToRise r
-may-stop {cfg} {e = e} f r p = let t = config-tells cfg (f .configured) .row e (f .blocks .below) in has-room (limitsOf cfg e) r p (t .heal-most) (t .age-most) (f .kept)
+may-stop {cfg} {e = e} f r p =
+    let t = config-tells cfg (f .configured) .row e (f .blocks .below) in has-room (limitsOf cfg e) r p (t .heal-most)
+    (t .age-most) (f .kept)
 
 -- ---- the record
 
 module _ (cfg : Configuration) (e : ℕ) (records : List ℕ) where
   -- a record read, stepped and written back
-  pub happens-is : (t : Token) {records′ : List ℕ} (r r′ : Record) → storedIs r ≡ storedAt e records → storedIs r′ ≡ stored (step (limitsOf cfg e) t (recordIs r))
-      → records′ ≡ withStored e (storedIs r′) records → (d : List ℤ) (m : List ℕ) (b : Board) → lent records′ d m b ≡ happens cfg t e (lent records d m b)
+  pub happens-is : (t : Token) {records′ : List ℕ} (r r′ : Record) → storedIs r ≡ storedAt e records
+      → storedIs r′ ≡ stored (step (limitsOf cfg e) t (recordIs r))
+      → records′ ≡ withStored e (storedIs r′) records → (d : List ℤ) (m : List ℕ) (b : Board)
+      → lent records′ d m b ≡ happens cfg t e (lent records d m b)
   unfolding happens
-  happens-is t r r′ p q w d m b = ap (λ (l : List ℕ). lent l d m b) (step-written (limitsOf cfg e) t e records r r′ p q w)
+  happens-is t r r′ p q w d m b =
+      ap (λ (l : List ℕ). lent l d m b) (step-written (limitsOf cfg e) t e records r r′ p q w)
 
 -- ---- the entry
 
@@ -61,30 +69,38 @@ module _ (cfg : Configuration) (e : ℕ) (memory : List ℕ) where
   abbrev leavesIf : Bool → List ℕ → List ℤ → Board → State
   leavesIf test r d b = cond test (entryLeaves cfg e (lent r d memory b)) (lent r d memory b)
 
-  pub leaves-where : {test : Bool} {memory′ : List ℕ} → test ≡ true → memory′ ≡ forgotten → (r : List ℕ) (d : List ℤ) (b : Board) → lent r d memory′ b ≡ leavesIf test r d b
+  pub leaves-where : {test : Bool} {memory′ : List ℕ} → test ≡ true → memory′ ≡ forgotten
+      → (r : List ℕ) (d : List ℤ) (b : Board) → lent r d memory′ b ≡ leavesIf test r d b
   unfolding entryLeaves
   leaves-where t p r d b = ap (λ (l : List ℕ). lent r d l b) p ∙ ap (λ (test : Bool). leavesIf test r d b) (sym t)
 
-  pub stays-where : {test : Bool} → test ≡ false → (r : List ℕ) (d : List ℤ) (b : Board) → lent r d memory b ≡ leavesIf test r d b
+  pub stays-where : {test : Bool} → test ≡ false → (r : List ℕ) (d : List ℤ) (b : Board)
+      → lent r d memory b ≡ leavesIf test r d b
   stays-where t r d b = ap (λ (test : Bool). leavesIf test r d b) (sym t)
 
 -- ---- stop and clear
 
-module _ (cfg : Configuration) (e : ℕ) (records : List ℕ) (debounce : List ℤ) (memory : List ℕ) {records′ : List ℕ} {debounce′ : List ℤ} {memory′ : List ℕ}
+module _ (cfg : Configuration) (e : ℕ) (records : List ℕ) (debounce : List ℤ) (memory : List ℕ) {records′ : List ℕ}
+    {debounce′ : List ℤ} {memory′ : List ℕ}
     (d : debounce′ ≡ set debounce e (pos 0)) where
-  pub stops-is : (l : Limits) (r : Record) (f : AfterStop) → limitsIs l ≡ limitsOf cfg e → storedIs r ≡ storedAt e records
-      → ((C : ℕ) (i : Bool) → StoppedIs (limits C (l .heal) (l .age) i) r f) → records′ ≡ withStored e (storedIs (f .«record»)) records
+  pub stops-is : (l : Limits) (r : Record) (f : AfterStop) → limitsIs l ≡ limitsOf cfg e
+      → storedIs r ≡ storedAt e records
+      → ((C : ℕ) (i : Bool) → StoppedIs (limits C (l .heal) (l .age) i) r f)
+      → records′ ≡ withStored e (storedIs (f .«record»)) records
       → ((r : List ℕ) (d : List ℤ) (b : Board) → lent r d memory′ b ≡ leavesIf cfg e memory (f .aged) r d b)
       → (b : Board) → lent records′ debounce′ memory′ b ≡ stops cfg e (lent records debounce memory b)
   unfolding stops
   stops-is l r f p q s w m b =
-      let is : StoppedIs (limitsOf cfg e) r f = subst (λ (n : status.Limits). StoppedIs n r f) p (s (l .confirm) (l .indicator)) in
+      let is : StoppedIs (limitsOf cfg e) r f =
+      subst (λ (n : status.Limits). StoppedIs n r f) p (s (l .confirm) (l .indicator)) in
       let after = happens-is cfg e records stop r (f .«record») q (is .after) w debounce memory b in
-      let aged : f .aged ≡ agesAtStop (limitsOf cfg e) (opened (storedAt e records)) = is .aged ∙ ap (λ (x : Stored). agesAtStop (limitsOf cfg e) (opened x)) q in
+      let aged : f .aged ≡ agesAtStop (limitsOf cfg e) (opened (storedAt e records)) =
+      is .aged ∙ ap (λ (x : Stored). agesAtStop (limitsOf cfg e) (opened x)) q in
       ap (λ (x : List ℤ). lent records′ x memory′ b) d
       ∙ ap (withD e (pos 0)) (m records′ debounce b ∙ (λ i. cond (aged i) (entryLeaves cfg e (after i)) (after i)))
 
-  pub clears-is : (r : Record) → storedIs r ≡ stored freshRecord → records′ ≡ withStored e (storedIs r) records → memory′ ≡ forgotten cfg e memory
+  pub clears-is : (r : Record) → storedIs r ≡ stored freshRecord → records′ ≡ withStored e (storedIs r) records
+      → memory′ ≡ forgotten cfg e memory
       → (b : Board) → lent records′ debounce′ memory′ b ≡ clears cfg e (lent records debounce memory b)
   unfolding clears happens entryLeaves
   clears-is r p w m b = λ i. lent ((w ∙ ap (λ (x : Stored). withStored e x records) p) i) (d i) (m i) b
@@ -93,17 +109,26 @@ module _ (cfg : Configuration) (e : ℕ) (records : List ℕ) (debounce : List �
 
 module _ (cfg : Configuration) (e : ℕ) (frame records memory : List ℕ) (board : Board) where
   abbrev told : Left
-  told = stores (places cfg) (entryFrames cfg) (priorityOf cfg) (quietIn records) e frame (entriesOf (entryFrames cfg) memory)
+  told =
+      stores (places cfg) (entryFrames cfg) (priorityOf cfg) (quietIn records) e frame
+      (entriesOf (entryFrames cfg) memory)
 
   pub told-is : {memory′ : List ℕ} (did : StoreAnswer) {lost : Bool} → leftWith memory′ did ≡ told → lost ≡ isLost did
-      → (d : List ℤ) → stepped (lent records d memory′ (record { running = board .running; overflow = board .overflow || lost })) did ≡ tellsMemory cfg frame e (lent records d memory board)
+      → (d : List ℤ)
+      → stepped (lent records d memory′ (record { running = board .running; overflow = board .overflow || lost }))
+      did
+      ≡ tellsMemory cfg frame e (lent records d memory board)
   unfolding memoryTold keeps stores storedAt
   told-is did p q d =
       let lost-is = q ∙ ap (λ (x : Left). isLost (x .did)) p in
-      λ i. stepped (lent records d (p i .block) (record { running = board .running; overflow = board .overflow || lost-is i })) (p i .did)
+      λ i. stepped
+      (lent records d (p i .block) (record { running = board .running; overflow = board .overflow || lost-is i }))
+      (p i .did)
 
-  module _ {records′ : List ℕ} (l : Limits) (r : Record) (f : AfterFailed) (p : limitsIs l ≡ limitsOf cfg e) (q : storedIs r ≡ storedAt e records)
-      (s : (H A : ℕ) → FailedIs (limits (l .confirm) H A (l .indicator)) r f) (w : records′ ≡ withStored e (storedIs (f .«record»)) records) where
+  module _ {records′ : List ℕ} (l : Limits) (r : Record) (f : AfterFailed) (p : limitsIs l ≡ limitsOf cfg e)
+      (q : storedIs r ≡ storedAt e records)
+      (s : (H A : ℕ) → FailedIs (limits (l .confirm) H A (l .indicator)) r f)
+      (w : records′ ≡ withStored e (storedIs (f .«record»)) records) where
     is : FailedIs (limitsOf cfg e) r f
     is = subst (λ (n : status.Limits). FailedIs n r f) p (s (l .heal) (l .age))
 
@@ -116,16 +141,21 @@ module _ (cfg : Configuration) (e : ℕ) (frame records memory : List ℕ) (boar
     abbrev failsBy : Bool → State → Stepped State
     failsBy b u = stepped (cond b (memoryTold cfg frame e u) u) (cond b (storedFor cfg frame e u .did) Untold)
 
-    fails-is : {b : Bool} → f .«fresh_failure» ≡ b → (d : List ℤ) → failsBy b (lent records′ d memory board) ≡ failing cfg frame e (lent records d memory board)
+    fails-is : {b : Bool} → f .«fresh_failure» ≡ b → (d : List ℤ)
+        → failsBy b (lent records′ d memory board) ≡ failing cfg frame e (lent records d memory board)
     unfolding fails failsDid
     fails-is t d = λ i. failsBy ((sym t ∙ fresh) i) (after d i)
 
     pub fails-told : {records″ memory″ : List ℕ} {board″ : Board} {did : StoreAnswer} → f .«fresh_failure» ≡ true
-        → ((d : List ℤ) → stepped (lent records″ d memory″ board″) did ≡ tellsMemory cfg frame e (lent records′ d memory board))
-        → (d : List ℤ) → stepped (lent records″ d memory″ board″) did ≡ failing cfg frame e (lent records d memory board)
+        →
+        ((d : List ℤ)
+        → stepped (lent records″ d memory″ board″) did ≡ tellsMemory cfg frame e (lent records′ d memory board))
+        → (d : List ℤ)
+        → stepped (lent records″ d memory″ board″) did ≡ failing cfg frame e (lent records d memory board)
     fails-told t m d = m d ∙ fails-is t d
 
-    pub fails-untold : f .«fresh_failure» ≡ false → (d : List ℤ) → stepped (lent records′ d memory board) Untold ≡ failing cfg frame e (lent records d memory board)
+    pub fails-untold : f .«fresh_failure» ≡ false → (d : List ℤ)
+        → stepped (lent records′ d memory board) Untold ≡ failing cfg frame e (lent records d memory board)
     fails-untold t d = fails-is t d
 
 -- ---- a verdict, and a report or a tick
@@ -133,33 +163,46 @@ module _ (cfg : Configuration) (e : ℕ) (frame records memory : List ℕ) (boar
 module _ (cfg : Configuration) (e : ℕ) (frame records memory : List ℕ) (board : Board) where
   -- these blocks and this board are left, and memory did this, whatever the debounce numbers are
   abbrev Qualified : List ℕ → List ℕ → Board → StoreAnswer → Verdict → Type 0
-  Qualified records′ memory′ board′ did v = (d : List ℤ) → stepped (lent records′ d memory′ board′) did ≡ qualifying cfg frame e v (lent records d memory board)
+  Qualified records′ memory′ board′ did v =
+      (d : List ℤ)
+      → stepped (lent records′ d memory′ board′) did ≡ qualifying cfg frame e v (lent records d memory board)
 
   module _ {records′ memory′ : List ℕ} {board′ : Board} {did : StoreAnswer} where
-    pub qualifies-by : {verdict : Verdict} (v : Verdict) → verdict ≡ v → Qualified records′ memory′ board′ did v → Qualified records′ memory′ board′ did verdict
+    pub qualifies-by : {verdict : Verdict} (v : Verdict) → verdict ≡ v → Qualified records′ memory′ board′ did v
+        → Qualified records′ memory′ board′ did verdict
     qualifies-by v p q = subst (Qualified records′ memory′ board′ did) (sym p) q
 
-    pub applied-is : (debounce : List ℤ) {debounce′ : List ℤ} (x : Debounced) → debounce′ ≡ set debounce e (x .number) → Qualified records′ memory′ board′ did (x .verdict)
-        → stepped (lent records′ debounce′ memory′ board′) did ≡ applying cfg frame e x (lent records debounce memory board)
+    pub applied-is : (debounce : List ℤ) {debounce′ : List ℤ} (x : Debounced) → debounce′ ≡ set debounce e (x .number)
+        → Qualified records′ memory′ board′ did (x .verdict)
+        → stepped (lent records′ debounce′ memory′ board′) did
+        ≡ applying cfg frame e x (lent records debounce memory board)
     unfolding applied appliedDid
-    applied-is debounce {debounce′} x p q = q debounce′ ∙ ap (λ (l : List ℤ). qualifying cfg frame e (x .verdict) (lent records l memory board)) p
+    applied-is debounce {debounce′} x p q =
+        q debounce′ ∙ ap (λ (l : List ℤ). qualifying cfg frame e (x .verdict) (lent records l memory board)) p
 
 module _ (cfg : Configuration) (e : ℕ) (s : State) where
   module _ (f : Ready cfg s e) (row : Row) (o : RowOf cfg e row) {n : ℤ} (p : n ≡ D s e) where
     pub may-report : SmallReport row n
-    may-report = subst (SmallReport row) (sym p) (small-report cfg e row o (f .event .configured) (f .event .blocks .below) _ (D s e) (f .number))
+    may-report =
+        subst (SmallReport row) (sym p)
+        (small-report cfg e row o (f .event .configured) (f .event .blocks .below) _ (D s e) (f .number))
 
     pub may-tick : (ms : ℕ) → ms ≤ 60000 → SmallTick row ms n
-    may-tick ms h = subst (SmallTick row ms) (sym p) (small-tick cfg e row o (f .event .configured) (f .event .blocks .below) _ (D s e) (f .number) ms h)
+    may-tick ms h =
+        subst (SmallTick row ms) (sym p)
+        (small-tick cfg e row o (f .event .configured) (f .event .blocks .below) _ (D s e) (f .number) ms h)
 
-  module _ (frame : List ℕ) (row : Row) (o : RowOf cfg e row) {n : ℤ} (p : n ≡ D s e) (x : Debounced) {t : State} {did : StoreAnswer}
+  module _ (frame : List ℕ) (row : Row) (o : RowOf cfg e row) {n : ℤ} (p : n ≡ D s e) (x : Debounced) {t : State}
+      {did : StoreAnswer}
       (a : stepped t did ≡ applying cfg frame e x s) where
     by-row : {y : Debounced} → x ≡ y → stepped t did ≡ applying cfg frame e y s
     by-row q = a ∙ ap (λ (y : Debounced). applying cfg frame e y s) q
 
-    pub reports-is : (code : ℕ) → x ≡ reportedBy row code n → stepped (accepts (x .verdict) t) did ≡ reporting cfg frame e code s
+    pub reports-is : (code : ℕ) → x ≡ reportedBy row code n
+        → stepped (accepts (x .verdict) t) did ≡ reporting cfg frame e code s
     reports-is code q =
-        let is : x ≡ reported cfg e code (D s e) = q ∙ ap (reportedBy row code) p ∙ reported-is cfg e row o code (D s e) in
+        let is : x ≡ reported cfg e code (D s e) =
+        q ∙ ap (reportedBy row code) p ∙ reported-is cfg e row o code (D s e) in
         λ i. stepped (accepts (is i .verdict) (by-row is i .left)) (by-row is i .did)
 
     pub ticks-is : (ms : ℕ) → x ≡ tickedBy row ms n → stepped t did ≡ ticking cfg frame e ms s

@@ -28,7 +28,9 @@ module _ (cfg : Configuration) (s : State) (ok : configOk cfg ≡ true) where
     sized = ap length (m .block) ∙ memory-length (places cfg) (entryFrames cfg) (entries cfg s) framed (m .good .few);
     few = omega (arith, count, m .good .few);
     block = m .block;
-    below = test-of-all (EntryGood (events cfg) (entryFrames cfg) (hasFailedBit cfg s)) (λ x. ltb (eventOf x) (events cfg)) (λ x g. lt-ltb (eventOf x) (events cfg) (g .below)) (entries cfg s) (m .good .each);
+    below =
+        test-of-all (EntryGood (events cfg) (entryFrames cfg) (hasFailedBit cfg s)) (λ x. ltb (eventOf x) (events cfg))
+        (λ x g. lt-ltb (eventOf x) (events cfg) (g .below)) (entries cfg s) (m .good .each);
     once = m .good .once;
   }
     where

@@ -26,12 +26,14 @@ module _ (p : ℕ → Bool) (one : ℕ → State → State) where
   unfolding forBelow
   next-turn i s h q = rw add-one (q ∙ ap (turn i) h)
 
-  pub last-turn : (cfg : Configuration) (i : ℕ) (s : State) {t : State} → i ≡ events cfg → t ≡ forBelow i turn s → t ≡ forThose cfg p one s
+  pub last-turn : (cfg : Configuration) (i : ℕ) (s : State) {t : State} → i ≡ events cfg → t ≡ forBelow i turn s
+      → t ≡ forThose cfg p one s
   unfolding forThose
   last-turn cfg i s n h = h ∙ ap (λ (k : ℕ). forBelow k turn s) n
 
   -- what a step may count on at its turn
-  pub ready-at-turn : (cfg : Configuration) (s : State) → Keeps cfg p one s → configOk cfg ≡ true → wellFormed cfg s ≡ true
+  pub ready-at-turn : (cfg : Configuration) (s : State) → Keeps cfg p one s → configOk cfg ≡ true
+      → wellFormed cfg s ≡ true
       → (i : ℕ) {t : State} → i < events cfg → t ≡ forBelow i turn s → Ready cfg t i
   ready-at-turn cfg s keeps ok formed i h q =
       subst (λ (t : State). Ready cfg t i) (sym q) (ready-of cfg _ ok i h (loop-ready cfg keeps formed i h))

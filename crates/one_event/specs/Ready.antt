@@ -23,7 +23,8 @@ pub record BlocksFit (cfg : Configuration) (records memory : List ℕ) (e : ℕ)
   pub in-order : InOrder (events cfg) (places cfg) (entryFrames cfg) memory
 
 -- under an accepted configuration, the debounce numbers have room for it too, and its record is as "well formed" asks
-pub record EventFits (cfg : Configuration) (records : List ℕ) (debounce : List ℤ) (memory : List ℕ) (e : ℕ) : Type 0 where
+pub record EventFits (cfg : Configuration) (records : List ℕ) (debounce : List ℤ) (memory : List ℕ) (e : ℕ)
+    : Type 0 where
   pub configured : configOk cfg ≡ true
   pub blocks : BlocksFit cfg records memory e
   pub debounce-fits : length debounce ≡ events cfg

@@ -23,7 +23,8 @@ ghost use Rattle.one_event.specs.Steps.{stepped, tellsMemory, failing, q
 // "Start of a stopped cycle: for its events clears 1, sets 6."
 pub fn starts(records: &mut [u8], event: EventNumber)
     requires { ⌜ recordWidth * event .0 + recordWidth ≤ length (now records) ⌝ }
-    ensures { λ _. ⌜ ((cfg : Configuration) (d : List ℤ) (m : List ℕ) (b : Board) → lent (now (records .exit)) d m b ≡ happens cfg start (event .0) (lent (now (records .entry)) d m b)) ⌝ }
+    ensures { λ _. ⌜ ((cfg : Configuration) (d : List ℤ) (m : List ℕ) (b : Board)
+        → lent (now (records .exit)) d m b ≡ happens cfg start (event .0) (lent (now (records .entry)) d m b)) ⌝ }
 {
     let before = status::read_record(records, event);
     status::write_record(records, event, status::started(before));
@@ -32,7 +33,8 @@ pub fn starts(records: &mut [u8], event: EventNumber)
 // "Passed: clears 0, 4, 6."
 pub fn passes(records: &mut [u8], event: EventNumber)
     requires { ⌜ recordWidth * event .0 + recordWidth ≤ length (now records) ⌝ }
-    ensures { λ _. ⌜ ((cfg : Configuration) (d : List ℤ) (m : List ℕ) (b : Board) → lent (now (records .exit)) d m b ≡ happens cfg passed (event .0) (lent (now (records .entry)) d m b)) ⌝ }
+    ensures { λ _. ⌜ ((cfg : Configuration) (d : List ℤ) (m : List ℕ) (b : Board)
+        → lent (now (records .exit)) d m b ≡ happens cfg passed (event .0) (lent (now (records .entry)) d m b)) ⌝ }
 {
     let before = status::read_record(records, event);
     status::write_record(records, event, status::passed(before));
@@ -41,7 +43,10 @@ pub fn passes(records: &mut [u8], event: EventNumber)
 // Where the test holds, "its entry leaves memory".
 fn entry_leaves_if(test: bool, cfg: &[i32], memory: &mut [u8], event: EventNumber)
     requires { ⌜ InOrder (events (now cfg)) (places (now cfg)) (entryFrames (now cfg)) (now memory) ⌝ }
-    ensures { λ _. ⌜ ((r : List ℕ) (d : List ℤ) (b : Board) → lent r d (now (memory .exit)) b ≡ cond test (entryLeaves (now (cfg .entry)) (event .0) (lent r d (now (memory .entry)) b)) (lent r d (now (memory .entry)) b)) ⌝ }
+    ensures { λ _. ⌜ ((r : List ℕ) (d : List ℤ) (b : Board)
+        → lent r d (now (memory .exit)) b
+        ≡ cond test (entryLeaves (now (cfg .entry)) (event .0) (lent r d (now (memory .entry)) b))
+        (lent r d (now (memory .entry)) b)) ⌝ }
 {
     if test {
         memory::forget(cfg, memory, event);
@@ -65,7 +70,10 @@ pub fn stops(
     event: EventNumber,
 )
     requires { ⌜ EventFits (now cfg) (now records) (now debounce) (now memory) (event .0) ⌝ }
-    ensures { λ _. ⌜ ((b : Board) → lent (now (records .exit)) (now (debounce .exit)) (now (memory .exit)) b ≡ stops (now (cfg .entry)) (event .0) (lent (now (records .entry)) (now (debounce .entry)) (now (memory .entry)) b)) ⌝ }
+    ensures { λ _. ⌜ ((b : Board)
+        → lent (now (records .exit)) (now (debounce .exit)) (now (memory .exit)) b
+        ≡ stops (now (cfg .entry)) (event .0)
+        (lent (now (records .entry)) (now (debounce .entry)) (now (memory .entry)) b)) ⌝ }
 {
     let limits = config::limits_of(cfg, event);
     let before = status::read_record(records, event);
@@ -84,7 +92,10 @@ pub fn clears(
     event: EventNumber,
 )
     requires { ⌜ EventFits (now cfg) (now records) (now debounce) (now memory) (event .0) ⌝ }
-    ensures { λ _. ⌜ ((b : Board) → lent (now (records .exit)) (now (debounce .exit)) (now (memory .exit)) b ≡ clears (now (cfg .entry)) (event .0) (lent (now (records .entry)) (now (debounce .entry)) (now (memory .entry)) b)) ⌝ }
+    ensures { λ _. ⌜ ((b : Board)
+        → lent (now (records .exit)) (now (debounce .exit)) (now (memory .exit)) b
+        ≡ clears (now (cfg .entry)) (event .0)
+        (lent (now (records .entry)) (now (debounce .entry)) (now (memory .entry)) b)) ⌝ }
 {
     status::write_record(records, event, status::fresh_record());
     memory::forget(cfg, memory, event);
@@ -120,7 +131,10 @@ fn tell_memory(
     frame: &[u8],
 ) -> Part
     requires { ⌜ MayStore (now cfg) (now memory) (event .0) (now frame) ⌝ }
-    ensures { λ r. ⌜ ((d : List ℤ) → stepped (lent (now (records .entry)) d (now (memory .exit)) (r .board)) (r .did) ≡ tellsMemory (now (cfg .entry)) (now (frame .entry)) (event .0) (lent (now (records .entry)) d (now (memory .entry)) board)) ⌝ }
+    ensures { λ r. ⌜ ((d : List ℤ)
+        → stepped (lent (now (records .entry)) d (now (memory .exit)) (r .board)) (r .did)
+        ≡ tellsMemory (now (cfg .entry)) (now (frame .entry)) (event .0)
+        (lent (now (records .entry)) d (now (memory .entry)) board)) ⌝ }
 {
     let did = memory::store(cfg, records, memory, event, frame);
     let running = board.running;
@@ -140,8 +154,12 @@ pub fn fails(
     event: EventNumber,
     frame: &[u8],
 ) -> Part
-    requires { ⌜ (BlocksFit (now cfg) (now records) (now memory) (event .0)) × (length (now frame) ≡ frameBytes (now cfg)) ⌝ }
-    ensures { λ r. ⌜ ((d : List ℤ) → stepped (lent (now (records .exit)) d (now (memory .exit)) (r .board)) (r .did) ≡ failing (now (cfg .entry)) (now (frame .entry)) (event .0) (lent (now (records .entry)) d (now (memory .entry)) board)) ⌝ }
+    requires { ⌜ (BlocksFit (now cfg) (now records) (now memory) (event .0)) ×
+        (length (now frame) ≡ frameBytes (now cfg)) ⌝ }
+    ensures { λ r. ⌜ ((d : List ℤ)
+        → stepped (lent (now (records .exit)) d (now (memory .exit)) (r .board)) (r .did)
+        ≡ failing (now (cfg .entry)) (now (frame .entry)) (event .0)
+        (lent (now (records .entry)) d (now (memory .entry)) board)) ⌝ }
 {
     let limits = config::limits_of(cfg, event);
     let before = status::read_record(records, event);
@@ -167,8 +185,12 @@ pub fn qualifies(
     frame: &[u8],
     verdict: Verdict,
 ) -> Part
-    requires { ⌜ (BlocksFit (now cfg) (now records) (now memory) (event .0)) × (length (now frame) ≡ frameBytes (now cfg)) ⌝ }
-    ensures { λ r. ⌜ ((d : List ℤ) → stepped (lent (now (records .exit)) d (now (memory .exit)) (r .board)) (r .did) ≡ qualifying (now (cfg .entry)) (now (frame .entry)) (event .0) verdict (lent (now (records .entry)) d (now (memory .entry)) board)) ⌝ }
+    requires { ⌜ (BlocksFit (now cfg) (now records) (now memory) (event .0)) ×
+        (length (now frame) ≡ frameBytes (now cfg)) ⌝ }
+    ensures { λ r. ⌜ ((d : List ℤ)
+        → stepped (lent (now (records .exit)) d (now (memory .exit)) (r .board)) (r .did)
+        ≡ qualifying (now (cfg .entry)) (now (frame .entry)) (event .0) verdict
+        (lent (now (records .entry)) d (now (memory .entry)) board)) ⌝ }
 {
     match verdict {
         Verdict::None => Part {
@@ -197,8 +219,12 @@ pub fn applies(
     frame: &[u8],
     d: debounce::Debounced,
 ) -> Part
-    requires { ⌜ (EventFits (now cfg) (now records) (now debounce) (now memory) (event .0)) × (length (now frame) ≡ frameBytes (now cfg)) ⌝ }
-    ensures { λ r. ⌜ stepped (lent (now (records .exit)) (now (debounce .exit)) (now (memory .exit)) (r .board)) (r .did) ≡ applying (now (cfg .entry)) (now (frame .entry)) (event .0) (answered d) (lent (now (records .entry)) (now (debounce .entry)) (now (memory .entry)) board) ⌝ }
+    requires { ⌜ (EventFits (now cfg) (now records) (now debounce) (now memory) (event .0)) ×
+        (length (now frame) ≡ frameBytes (now cfg)) ⌝ }
+    ensures { λ r. ⌜ stepped (lent (now (records .exit)) (now (debounce .exit)) (now (memory .exit)) (r .board))
+        (r .did)
+        ≡ applying (now (cfg .entry)) (now (frame .entry)) (event .0) (answered d)
+        (lent (now (records .entry)) (now (debounce .entry)) (now (memory .entry)) board) ⌝ }
 {
     let verdict = d.verdict;
     status::write_number(debounce, event, d.number);
@@ -223,8 +249,13 @@ pub fn reports(
     code: u32,
     frame: &[u8],
 ) -> Reported
-    requires { ⌜ (Ready (now cfg) (lent (now records) (now debounce) (now memory) board) (event .0)) × (length (now frame) ≡ frameBytes (now cfg)) ⌝ }
-    ensures { λ r. ⌜ stepped (accepts (r .verdict) (lent (now (records .exit)) (now (debounce .exit)) (now (memory .exit)) (r .board))) (r .did) ≡ reporting (now (cfg .entry)) (now (frame .entry)) (event .0) code (lent (now (records .entry)) (now (debounce .entry)) (now (memory .entry)) board) ⌝ }
+    requires { ⌜ (Ready (now cfg) (lent (now records) (now debounce) (now memory) board) (event .0)) ×
+        (length (now frame) ≡ frameBytes (now cfg)) ⌝ }
+    ensures { λ r. ⌜ stepped
+        (accepts (r .verdict) (lent (now (records .exit)) (now (debounce .exit)) (now (memory .exit)) (r .board)))
+        (r .did)
+        ≡ reporting (now (cfg .entry)) (now (frame .entry)) (event .0) code
+        (lent (now (records .entry)) (now (debounce .entry)) (now (memory .entry)) board) ⌝ }
 {
     let row = debounce::row_of(cfg, event);
     let d = debounce::report_step(row, code, status::read_number(debounce, event));
@@ -250,8 +281,12 @@ pub fn ticks(
     ms: u32,
     frame: &[u8],
 ) -> Part
-    requires { ⌜ (Ready (now cfg) (lent (now records) (now debounce) (now memory) board) (event .0)) × ((length (now frame) ≡ frameBytes (now cfg)) × (ms ≤ 60000)) ⌝ }
-    ensures { λ r. ⌜ stepped (lent (now (records .exit)) (now (debounce .exit)) (now (memory .exit)) (r .board)) (r .did) ≡ ticking (now (cfg .entry)) (now (frame .entry)) (event .0) ms (lent (now (records .entry)) (now (debounce .entry)) (now (memory .entry)) board) ⌝ }
+    requires { ⌜ (Ready (now cfg) (lent (now records) (now debounce) (now memory) board) (event .0)) ×
+        ((length (now frame) ≡ frameBytes (now cfg)) × (ms ≤ 60000)) ⌝ }
+    ensures { λ r. ⌜ stepped (lent (now (records .exit)) (now (debounce .exit)) (now (memory .exit)) (r .board))
+        (r .did)
+        ≡ ticking (now (cfg .entry)) (now (frame .entry)) (event .0) ms
+        (lent (now (records .entry)) (now (debounce .entry)) (now (memory .entry)) board) ⌝ }
 {
     let row = debounce::row_of(cfg, event);
     let d = debounce::tick_step(row, ms, status::read_number(debounce, event));

@@ -1,5 +1,5 @@
--- The statements of `read_status`, `read_frame` and `frame_part` allow one outcome only: one result. The calls are lent nothing to be
--- written; of a frame the result says where it starts and how long it is.
+-- The statements of `read_status`, `read_frame` and `frame_part` allow one outcome only: one result. The calls are lent
+-- nothing to be written; of a frame the result says where it starts and how long it is.
 use mathlib.Core.Path.{_≡_, refl, sym, _∙_}
 use mathlib.Core.List.{List, []}
 use Prim.Native.Nat.{ℕ}
@@ -22,11 +22,15 @@ module _ (cfg : Configuration) (event : ℕ) (s : State) where
 
   -- the answer is read off its number, its start and its length
   abbrev answerIn : FrameRead → FrameAnswer
-  answerIn f = answerAt (λ a. At (record { start = f .start; length = f .length })) FrameAnswer.Refused (answered (f .outcome .answer) (f .outcome .verdict) (f .outcome .value))
+  answerIn f =
+      answerAt (λ a. At (record { start = f .start; length = f .length })) FrameAnswer.Refused
+      (answered (f .outcome .answer) (f .outcome .verdict) (f .outcome .value))
 
   answer-back : (r : FrameAnswer) → answerIn (says r s) ≡ r
   answer-back (At part) = refl
-  answer-back (FrameAnswer.Refused r) = refused-back (λ a. At (record { start = 0; length = 0 })) FrameAnswer.Refused r (ofFrame (FrameAnswer.Refused r)) refl
+  answer-back (FrameAnswer.Refused r) =
+      refused-back (λ a. At (record { start = 0; length = 0 })) FrameAnswer.Refused r (ofFrame (FrameAnswer.Refused r))
+      refl
 
   pub one-read-frame : (r r′ : FrameAnswer)
       → says r s ≡ frameRead cfg event s
@@ -34,5 +38,6 @@ module _ (cfg : Configuration) (event : ℕ) (s : State) where
       → r ≡ r′
   one-read-frame r r′ p q = one-outcome answerIn (answer-back r) (answer-back r′) p q
 
-pub one-frame-part : (memory : List ℕ) (answer : FrameAnswer) (part part′ : List ℕ) → part ≡ partOf answer memory → part′ ≡ partOf answer memory → part ≡ part′
+pub one-frame-part : (memory : List ℕ) (answer : FrameAnswer) (part part′ : List ℕ) → part ≡ partOf answer memory
+    → part′ ≡ partOf answer memory → part ≡ part′
 one-frame-part memory answer part part′ p q = p ∙ sym q

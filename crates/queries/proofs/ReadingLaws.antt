@@ -46,7 +46,8 @@ module _ (start size : ℕ) (m : List ℕ) where
 -- ---- the answer of a search
 
 module _ (W F e : ℕ) (m : List ℕ) {W′ : ℕ} (w : W′ ≡ W) where
-  pub found-most : EntriesFit W m → (p : Place) → placeOf e (entriesOf W′ m) ≡ Find.At p → (W′ ≤ mostPayload) × (p .0 ≤ mostPlaces)
+  pub found-most : EntriesFit W m → (p : Place) → placeOf e (entriesOf W′ m) ≡ Find.At p
+      → (W′ ≤ mostPayload) × (p .0 ≤ mostPlaces)
   found-most fits p q =
       let inside = found (isOf e) (entriesOf W′ m) p q .inside in
       let most = fits .count-most in
@@ -55,31 +56,36 @@ module _ (W F e : ℕ) (m : List ℕ) {W′ : ℕ} (w : W′ ≡ W) where
   same-answer : entryAnswer W′ F (placeOf e (entriesOf W′ m)) ≡ entryAnswer W F (placeOf e (entriesOf W m))
   same-answer = λ i. entryAnswer (w i) F (placeOf e (entriesOf (w i) m))
 
-  pub answers-at : (p : Place) {start size : ℕ} → placeOf e (entriesOf W′ m) ≡ Find.At p → start ≡ frameAt W′ p → size ≡ F
+  pub answers-at : (p : Place) {start size : ℕ} → placeOf e (entriesOf W′ m) ≡ Find.At p → start ≡ frameAt W′ p
+      → size ≡ F
       → At (record { start = start; length = size }) ≡ entryAnswer W F (placeOf e (entriesOf W m))
   answers-at p q k l = (λ i. At (record { start = k i; length = l i })) ∙ ap (entryAnswer W′ F) (sym q) ∙ same-answer
 
-  pub answers-nothing : placeOf e (entriesOf W′ m) ≡ Nothing → FrameAnswer.Refused NoEntry ≡ entryAnswer W F (placeOf e (entriesOf W m))
+  pub answers-nothing : placeOf e (entriesOf W′ m) ≡ Nothing
+      → FrameAnswer.Refused NoEntry ≡ entryAnswer W F (placeOf e (entriesOf W m))
   answers-nothing q = ap (entryAnswer W′ F) (sym q) ∙ same-answer
 
 -- "read frame 4, 10"
 abbrev ten : Configuration → State → ℕ → List Rule
 ten cfg s e = (10 if not (anyOf (isOf e) (entries cfg s))) ∷ []
 
-then-ten : (cfg : Configuration) (s : State) (e : ℕ) → let first = firstThatApplies (begins cfg s true (four (noSuchEvent cfg e))) in
+then-ten : (cfg : Configuration) (s : State) (e : ℕ)
+    → let first = firstThatApplies (begins cfg s true (four (noSuchEvent cfg e))) in
     firstThatApplies (readFrameRules cfg e s) ≡ cond (eqb first 0) (firstThatApplies (ten cfg s e)) first
 unfolding readFrameRules
 then-ten cfg s e = first-of-both (begins cfg s true (four (noSuchEvent cfg e))) (ten cfg s e) refl
 
 -- a refused read says no place
-refused-is : (r : Refusal) (s : State) (o : Outcome) (start size : ℕ) → refused (numberOf r) alone s ≡ o → says (FrameAnswer.Refused r) s ≡ placed o start size
+refused-is : (r : Refusal) (s : State) (o : Outcome) (start size : ℕ) → refused (numberOf r) alone s ≡ o
+    → says (FrameAnswer.Refused r) s ≡ placed o start size
 refused-is r s o start size q =
     let here : says (FrameAnswer.Refused r) s ≡ placed (refused (numberOf r) alone s) start size = rw (not-done r) in
     here ∙ ap (λ (o : Outcome). placed o start size) q
 
 -- ---- where 2, 3 and 4 do not apply
 
-module _ (cfg : Configuration) (s : State) (e : ℕ) (z : firstThatApplies (begins cfg s true (four (noSuchEvent cfg e))) ≡ 0) where
+module _ (cfg : Configuration) (s : State) (e : ℕ)
+    (z : firstThatApplies (begins cfg s true (four (noSuchEvent cfg e))) ≡ 0) where
   tells : StateTells cfg s
   tells = state-tells cfg s (not-false (wellFormed cfg s) (none-applies _ z refl 1))
 
@@ -90,7 +96,8 @@ module _ (cfg : Configuration) (s : State) (e : ℕ) (z : firstThatApplies (begi
       let few = tells .few in
       record { payload-most = t .payload-most; count-most = omega arith; within = used-fits cfg s tells }
 
-  pub status-is : {byte : ℕ} → byte ≡ statusByte s e → leaves (answered 0 None byte) [] alone s ≡ readStatus cfg e alone s
+  pub status-is : {byte : ℕ} → byte ≡ statusByte s e
+      → leaves (answered 0 None byte) [] alone s ≡ readStatus cfg e alone s
   unfolding readStatus readStatusRules
   status-is q = ap (λ (b : ℕ). leaves (answered 0 None b) [] alone s) q ∙ sym (goes-through _ alone s _ z)
 
@@ -99,12 +106,18 @@ module _ (cfg : Configuration) (s : State) (e : ℕ) (z : firstThatApplies (begi
 
   -- the event has an entry
   frame-there : (p : Place) → placeOf e (entries cfg s) ≡ Find.At p
-      → leaves (answered 0 None 0) (partAt (frameAt (entryFrames cfg) p) (frameBytes cfg) (s .memory)) alone s ≡ readFrame cfg e alone s
+      → leaves (answered 0 None 0) (partAt (frameAt (entryFrames cfg) p) (frameBytes cfg) (s .memory)) alone s
+      ≡ readFrame cfg e alone s
   unfolding readFrame firstThatApplies
   frame-there p q =
       let own = found (isOf e) (entries cfg s) p q in
-      let fits : PlaceFits (entryFrames cfg) (s .memory) (p .0) = record { entries = may-seek; below = omega (arith, own .inside, entries-are-count (entryFrames cfg) (s .memory)) } in
-      let part : partAt (frameAt (entryFrames cfg) p) (frameBytes cfg) (s .memory) ≡ frameOf (entryFor e (entries cfg s)) =
+      let fits : PlaceFits (entryFrames cfg) (s .memory) (p .0) =
+      record {
+        entries = may-seek;
+        below = omega (arith, own .inside, entries-are-count (entryFrames cfg) (s .memory));
+      } in
+      let part : partAt (frameAt (entryFrames cfg) p) (frameBytes cfg) (s .memory)
+      ≡ frameOf (entryFor e (entries cfg s)) =
       sym (part-within _ _ _ (omega (arith, entry-within (entryFrames cfg) (p .0) (s .memory) fits)))
       ∙ sym (frame-is-at (entryFrames cfg) (s .memory) (p .0) (fits .below))
       ∙ ap frameOf (sym (own .first)) in
@@ -114,20 +127,25 @@ module _ (cfg : Configuration) (s : State) (e : ℕ) (z : firstThatApplies (begi
   -- it has none
   frame-nowhere : placeOf e (entries cfg s) ≡ Nothing → refused 10 alone s ≡ readFrame cfg e alone s
   unfolding readFrame firstThatApplies
-  frame-nowhere q = stops-with _ alone s _ NoEntry (sym (only-ten ∙ rw (first-none (isOf e) (entries cfg s) (found-nothing (isOf e) (entries cfg s) q))))
+  frame-nowhere q =
+      stops-with _ alone s _ NoEntry
+      (sym (only-ten ∙ rw (first-none (isOf e) (entries cfg s) (found-nothing (isOf e) (entries cfg s) q))))
 
   pub frame-is : says (entryAnswer (entryFrames cfg) (frameBytes cfg) (placeOf e (entries cfg s))) s ≡ frameRead cfg e s
   unfolding frameRead
   frame-is = go (placeOf e (entries cfg s)) refl
     where
       go : (f : Find) → placeOf e (entries cfg s) ≡ f
-          → says (entryAnswer (entryFrames cfg) (frameBytes cfg) f) s ≡ placed (readFrame cfg e alone s) (frameStart (entryFrames cfg) (placeOf e (entries cfg s))) (frameBytes cfg)
+          → says (entryAnswer (entryFrames cfg) (frameBytes cfg) f) s
+          ≡ placed (readFrame cfg e alone s) (frameStart (entryFrames cfg) (placeOf e (entries cfg s)))
+          (frameBytes cfg)
       go (Find.At p) q = λ i. placed (frame-there p q i) (frameStart (entryFrames cfg) (sym q i)) (frameBytes cfg)
       go Nothing q = refused-is NoEntry s _ _ _ (frame-nowhere q)
 
 -- ---- where 2, 3 or 4 applies
 
-module _ (cfg : Configuration) (s : State) (e : ℕ) (r : Refusal) (q : numberOf r ≡ firstThatApplies (begins cfg s true (four (noSuchEvent cfg e)))) where
+module _ (cfg : Configuration) (s : State) (e : ℕ) (r : Refusal)
+    (q : numberOf r ≡ firstThatApplies (begins cfg s true (four (noSuchEvent cfg e)))) where
   pub status-refused : refused (numberOf r) alone s ≡ readStatus cfg e alone s
   unfolding readStatus readStatusRules
   status-refused = stops-with _ alone s _ r q

@@ -1,4 +1,5 @@
--- Read status and read frame: their refusal 4, and where in the caller's own memory block the frame stands. Assumes nothing.
+-- Read status and read frame: their refusal 4, and where in the caller's own memory block the frame stands. Assumes
+-- nothing.
 use mathlib.Core.Bool.{Bool, cond}
 use mathlib.Core.List.{List, [], _∷_}
 use Prim.Native.Nat.{ℕ, _+_}
@@ -48,7 +49,8 @@ pub record FrameRead : Type 0 where
 
 -- what an answer says of a state that is left as found
 abbrev pub says : FrameAnswer → State → FrameRead
-says a s = record { outcome = leaves (ofFrame a) (partOf a (s .memory)) alone s; start = startIn a; length = lengthIn a }
+says a s =
+    record { outcome = leaves (ofFrame a) (partOf a (s .memory)) alone s; start = startIn a; length = lengthIn a }
 
 abbrev pub frameStart : ℕ → Find → ℕ
 frameStart W (Find.At p) = frameAt W p
@@ -61,8 +63,11 @@ entryAnswer W F Nothing = FrameAnswer.Refused NoEntry
 
 -- "a frame part empty": a refusal has neither start nor length
 abbrev pub placed : Outcome → ℕ → ℕ → FrameRead
-placed o start size = record { outcome = o; start = cond (eqb (o .answer) 0) start 0; length = cond (eqb (o .answer) 0) size 0 }
+placed o start size =
+    record { outcome = o; start = cond (eqb (o .answer) 0) start 0; length = cond (eqb (o .answer) 0) size 0 }
 
--- "The stored frame is read as a part of the caller's own memory block, no copy.": the F bytes that stand in the event's own entry
+-- "The stored frame is read as a part of the caller's own memory block, no copy.": the F bytes that stand in the
+-- event's own entry
 unfoldable pub frameRead : Configuration → ℕ → State → FrameRead
-frameRead cfg e s = placed (readFrame cfg e alone s) (frameStart (entryFrames cfg) (placeOf e (entries cfg s))) (frameBytes cfg)
+frameRead cfg e s =
+    placed (readFrame cfg e alone s) (frameStart (entryFrames cfg) (placeOf e (entries cfg s))) (frameBytes cfg)

@@ -41,7 +41,10 @@ fn judge(
     board: Board,
     event: EventNumber,
 ) -> Check
-    ensures { λ r. ⌜ checkNumber r ≡ firstThatApplies (begins (now (cfg .entry)) (lent (now (records .entry)) (now (debounce .entry)) (now (memory .entry)) board) true (four (noSuchEvent (now (cfg .entry)) (event .0)))) ⌝ }
+    ensures { λ r. ⌜ checkNumber r
+        ≡ firstThatApplies
+        (begins (now (cfg .entry)) (lent (now (records .entry)) (now (debounce .entry)) (now (memory .entry)) board)
+        true (four (noSuchEvent (now (cfg .entry)) (event .0)))) ⌝ }
 {
     match judgement::begin(cfg, records, debounce, memory, board, true) {
         Check::Go => four(config::events(cfg) <= event.0),
@@ -60,7 +63,10 @@ pub fn read_status(
     board: Board,
     event: EventNumber,
 ) -> StatusAnswer
-    ensures { λ r. ⌜ leaves (ofStatus r) [] alone (lent (now (records .entry)) (now (debounce .entry)) (now (memory .entry)) board) ≡ readStatus (now (cfg .entry)) (event .0) alone (lent (now (records .entry)) (now (debounce .entry)) (now (memory .entry)) board) ⌝ }
+    ensures { λ r. ⌜ leaves (ofStatus r) [] alone
+        (lent (now (records .entry)) (now (debounce .entry)) (now (memory .entry)) board)
+        ≡ readStatus (now (cfg .entry)) (event .0) alone
+        (lent (now (records .entry)) (now (debounce .entry)) (now (memory .entry)) board) ⌝ }
 {
     match judge(cfg, records, debounce, memory, board, event) {
         Check::Go => StatusAnswer::Status(status::status_of(records, event).0),
@@ -73,7 +79,9 @@ pub fn read_status(
 // Where the frame of the event's entry stands; "10 | event has no memory entry".
 fn frame_of(cfg: &[i32], memory: &[u8], event: EventNumber) -> FrameAnswer
     requires { ⌜ EntriesFit (entryFrames (now cfg)) (now memory) ⌝ }
-    ensures { λ r. ⌜ r ≡ entryAnswer (entryFrames (now (cfg .entry))) (frameBytes (now (cfg .entry))) (placeOf (event .0) (entriesOf (entryFrames (now (cfg .entry))) (now (memory .entry)))) ⌝ }
+    ensures { λ r. ⌜ r
+        ≡ entryAnswer (entryFrames (now (cfg .entry))) (frameBytes (now (cfg .entry)))
+        (placeOf (event .0) (entriesOf (entryFrames (now (cfg .entry))) (now (memory .entry)))) ⌝ }
 {
     let frame_bytes = config::frame_bytes(cfg);
     let payload_bytes = memory::entry_frames(cfg);
@@ -96,7 +104,9 @@ pub fn read_frame(
     board: Board,
     event: EventNumber,
 ) -> FrameAnswer
-    ensures { λ r. ⌜ says r (lent (now (records .entry)) (now (debounce .entry)) (now (memory .entry)) board) ≡ frameRead (now (cfg .entry)) (event .0) (lent (now (records .entry)) (now (debounce .entry)) (now (memory .entry)) board) ⌝ }
+    ensures { λ r. ⌜ says r (lent (now (records .entry)) (now (debounce .entry)) (now (memory .entry)) board)
+        ≡ frameRead (now (cfg .entry)) (event .0)
+        (lent (now (records .entry)) (now (debounce .entry)) (now (memory .entry)) board) ⌝ }
 {
     match judge(cfg, records, debounce, memory, board, event) {
         Check::Go => frame_of(cfg, memory, event),
@@ -120,8 +130,9 @@ fn part_at<'a>(memory: &'a [u8], start: usize, length: usize) -> &'a [u8]
     &memory[start..end]
 }
 
-// "The stored frame is read as a part of the caller's own memory block, no copy.": the part that an answer of `read_frame` names, in
-// the block that it was asked of. It is empty on a refusal, and where a block does not reach so far.
+// "The stored frame is read as a part of the caller's own memory block, no copy.": the part that an answer of
+// `read_frame` names, in the block that it was asked of. It is empty on a refusal, and where a block does not reach so
+// far.
 pub fn frame_part<'a>(memory: &'a [u8], answer: FrameAnswer) -> &'a [u8]
     ensures { λ r. ⌜ now r ≡ partOf answer (now (memory .entry)) ⌝ }
 {

@@ -1,4 +1,5 @@
-// Document 01, "Replay program": reads a story of calls from standard input, makes them on the manager, and writes a line a call.
+// Document 01, "Replay program": reads a story of calls from standard input, makes them on the manager, and writes a
+// line a call.
 use manual::Board;
 use replay_step::Begun;
 use replay_step::Stepped;

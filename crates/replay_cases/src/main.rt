@@ -1,5 +1,5 @@
-// Plays every case of data/ through the library step of the replay program, compares what it would print with what is expected, and
-// prints the file and the first line of each that differs, and how many cases ran and how many differed.
+// Plays every case of data/ through the library step of the replay program, compares what it would print with what is
+// expected, and prints the file and the first line of each that differs, and how many cases ran and how many differed.
 use manual::Board;
 use replay_step::Begun;
 use replay_step::Stepped;
@@ -9,7 +9,8 @@ ghost use Rattle.replay_step.specs.Turn.{Playable, Buffers};
 
 // ---- comparing
 
-// How much of the expected output was printed so far, whether all of it was as expected, and the first line that is not so far.
+// How much of the expected output was printed so far, whether all of it was as expected, and the first line that is not
+// so far.
 struct Printed {
     to: usize,
     agrees: bool,
@@ -80,7 +81,8 @@ fn nothing() -> Printed {
 
 // ---- playing
 
-// How far the input is played: the board, the cursor behind the last call, whether a further call may follow, and what was printed.
+// How far the input is played: the board, the cursor behind the last call, whether a further call may follow, and what
+// was printed.
 struct Played {
     board: Board,
     next: Cursor,
@@ -256,7 +258,8 @@ fn read_file(path: &[u8], buffer: &mut [u8]) -> usize {
     length
 }
 
-// The first line at which the case of these two files does not print what is expected, or more or less; 0 where there is none.
+// The first line at which the case of these two files does not print what is expected, or more or less; 0 where there
+// is none.
 fn differing_line(input: &[u8], output: &[u8]) -> u32 {
     let mut text = [0; 32769];
     let mut expected = [0; 131072];

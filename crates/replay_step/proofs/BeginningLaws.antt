@@ -1,5 +1,5 @@
--- Laws of specs/Beginning.antt: the numbers that were read so far, that one which cannot be read makes all unreadable, and the rest of
--- the buffer as found.
+-- Laws of specs/Beginning.antt: the numbers that were read so far, that one which cannot be read makes all unreadable,
+-- and the rest of the buffer as found.
 use mathlib.Core.Path.{_≡_, refl, sym, ap, _∙_}
 use mathlib.Core.Bool.{Bool, true, false, _&&_, cond}
 use mathlib.Core.List.{List, [], _∷_, _++_}
@@ -25,7 +25,9 @@ use Rattle.transcript.specs.Text.{nextRead}
 use Rattle.replay_step.specs.declared.Numbers.{Numbers}
 use Rattle.replay_step.specs.declared.Begun.{Begun}
 use Rattle.replay_step.specs.declared.Begun.the-variants.{Ready}
-use Rattle.replay_step.specs.Beginning.{Read, readTo, unread, withNext, oneMore, numbersRead, Beginning, ready, refused, unreadable, judgedNumbers, ofNumbers, withCount, ofCount, beginning}
+use Rattle.replay_step.specs.Beginning.{Read, readTo, unread, withNext, oneMore, numbersRead, Beginning, ready}
+use Rattle.replay_step.specs.Beginning.{refused, unreadable, judgedNumbers, ofNumbers, withCount, ofCount}
+use Rattle.replay_step.specs.Beginning.{beginning}
 use Rattle.replay_step.specs.Beginning.{Leaving, leaving, laid, cursor, numbersLeft, beginningLeft}
 
 -- an argument has 32 bits
@@ -34,7 +36,8 @@ argument-fits (pos n) h t = (tt, record { fits = lt-of-lt-of-le h (lit≤ tt) })
 argument-fits (negsuc n) h t = clash true refl t
 
 -- one number more
-pub more-read : (text : List ℕ) (at k : ℕ) {r : Read} → numbersRead k at text ≡ r → numbersRead (suc k) at text ≡ oneMore text r
+pub more-read : (text : List ℕ) (at k : ℕ) {r : Read} → numbersRead k at text ≡ r
+    → numbersRead (suc k) at text ≡ oneMore text r
 unfolding numbersRead
 more-read text at k e = ap (oneMore text) e
 
@@ -43,9 +46,11 @@ pub stays-unread : (text : List ℕ) (at k n : ℕ) {zs : List ℤ} → k ≤ n
 stays-unread text at k zero h u = ap (λ (j : ℕ). numbersRead j at text) (let e : 0 ≡ k = omega arith in e) ∙ u
 stays-unread text at k (suc n) {zs} h u = go (leb k n) refl (λ l. stays-unread text at k n l u)
   where
-    go : (b : Bool) → leb k n ≡ b → (k ≤ n → numbersRead n at text ≡ unread zs) → numbersRead (suc n) at text ≡ unread zs
+    go : (b : Bool) → leb k n ≡ b → (k ≤ n → numbersRead n at text ≡ unread zs)
+        → numbersRead (suc n) at text ≡ unread zs
     go true q ih = more-read text at n (ih (leb-true k n q))
-    go false q ih = ap (λ (j : ℕ). numbersRead j at text) (let l = leb-false k n q in let e : suc n ≡ k = omega arith in e) ∙ u
+    go false q ih =
+        ap (λ (j : ℕ). numbersRead j at text) (let l = leb-false k n q in let e : suc n ≡ k = omega arith in e) ∙ u
 
 -- so many numbers are read, or fewer before one that cannot be
 abbrev pub Counts : ℕ → Read → Type 0
@@ -93,8 +98,10 @@ pub laid-again : (zs l : List ℤ) → laid zs (laid zs l) ≡ laid zs l
 laid-again zs l = ap (λ (r : List ℤ). zs ++ r) (drop-append-seam zs (drop (length zs) l))
 
 -- over a buffer with the same rest
-laid-over : (zs : List ℤ) {place : ℕ} (l m : List ℤ) → length zs ≡ place → drop place l ≡ drop place m → laid zs l ≡ laid zs m
-laid-over zs {place} l m n e = ap (λ (k : ℕ). zs ++ drop k l) n ∙ ap (λ (r : List ℤ). zs ++ r) e ∙ ap (λ (k : ℕ). zs ++ drop k m) (sym n)
+laid-over : (zs : List ℤ) {place : ℕ} (l m : List ℤ) → length zs ≡ place → drop place l ≡ drop place m
+    → laid zs l ≡ laid zs m
+laid-over zs {place} l m n e =
+    ap (λ (k : ℕ). zs ++ drop k l) n ∙ ap (λ (r : List ℤ). zs ++ r) e ∙ ap (λ (k : ℕ). zs ++ drop k m) (sym n)
 
 -- what the turn of the loop at a place leaves: `l` before the turn, `l′` after it, `m` before the loop
 module _ (text : List ℕ) (at place : ℕ) (m l : List ℤ) {p : ℕ} (within : place < length l)
@@ -111,7 +118,8 @@ module _ (text : List ℕ) (at place : ℕ) (m l : List ℤ) {p : ℕ} (within :
 
   pub turn-read : {l′ : List ℤ} {next : Cursor} (w : Word) → nextRead p text ≡ w
       → leaving (Numbers.Read next) l′ ≡ numbersLeft (withNext (take place l) w) l
-      → (numbersRead (suc place) at text ≡ readTo (take (suc place) l′) (next .at)) × (drop (suc place) l′ ≡ drop (suc place) m)
+      → (numbersRead (suc place) at text ≡ readTo (take (suc place) l′) (next .at)) ×
+      (drop (suc place) l′ ≡ drop (suc place) m)
   turn-read {l′} {next} (Number r) q e =
       let b : l′ ≡ laid (take place l ++ r .value ∷ []) l = ap (λ (x : Leaving Numbers). x .buffer) e in
       let t = ap (take (suc place)) b ∙ take-at (take place l ++ r .value ∷ []) _ (suc place) (longer (r .value)) in
@@ -138,16 +146,19 @@ module _ (text : List ℕ) (at place : ℕ) (m l : List ℤ) {p : ℕ} (within :
       → leaving Numbers.Unreadable l′ ≡ numbersLeft (numbersRead count at text) m
   turn-unread count h (Number r) q e = clash true refl (ap (λ (x : Leaving Numbers). isRead (x .answer)) (sym e))
   turn-unread count h Word.Unreadable q e =
-      stopped count h (more-read text at place so-far ∙ ap (withNext (take place l)) q) (ap (λ (x : Leaving Numbers). x .buffer) e)
+      stopped count h (more-read text at place so-far ∙ ap (withNext (take place l)) q)
+      (ap (λ (x : Leaving Numbers). x .buffer) e)
   turn-unread count h End q e =
-      stopped count h (more-read text at place so-far ∙ ap (withNext (take place l)) q) (ap (λ (x : Leaving Numbers). x .buffer) e)
+      stopped count h (more-read text at place so-far ∙ ap (withNext (take place l)) q)
+      (ap (λ (x : Leaving Numbers). x .buffer) e)
 
 -- the loop at its end
 pub all-read : (text : List ℕ) (at place : ℕ) (m : List ℤ) {l : List ℤ} {next : Cursor} → place ≤ length l
     → numbersRead place at text ≡ readTo (take place l) (next .at) → drop place l ≡ drop place m
     → leaving (Numbers.Read next) l ≡ numbersLeft (numbersRead place at text) m
 all-read text at place m {l} {next} h e rest =
-    ap (leaving (Numbers.Read next)) (sym (laid-front l place h) ∙ laid-over (take place l) l m (length-take-le place l h) rest)
+    ap (leaving (Numbers.Read next))
+    (sym (laid-front l place h) ∙ laid-over (take place l) l m (length-take-le place l h) rest)
     ∙ ap (λ (r : Read). numbersLeft r m) (sym e)
 
 -- ---- numbers that are read are judged
@@ -157,12 +168,14 @@ judged-over : (zs : List ℤ) (at : ℕ) (l m : List ℤ) → laid zs l ≡ laid
 unfolding judgedNumbers
 judged-over zs at l m e = go (configOk zs)
   where
-    go : (b : Bool) → beginningLeft (cond b (ready zs at) (refused zs)) l ≡ beginningLeft (cond b (ready zs at) (refused zs)) m
+    go : (b : Bool)
+        → beginningLeft (cond b (ready zs at) (refused zs)) l ≡ beginningLeft (cond b (ready zs at) (refused zs)) m
     go true = ap (leaving (Ready (length zs) (cursor at))) e
     go false = ap (leaving Begun.Refused) e
 
 pub read-judged : (count : ℕ) (r : Read) {next : Cursor} {b : Begun} {l : List ℤ} (m : List ℤ) → Counts count r
-    → leaving (Numbers.Read next) l ≡ numbersLeft r m → leaving b l ≡ beginningLeft (judgedNumbers (take count l) (next .at)) l
+    → leaving (Numbers.Read next) l ≡ numbersLeft r m
+    → leaving b l ≡ beginningLeft (judgedNumbers (take count l) (next .at)) l
     → leaving b l ≡ beginningLeft (ofNumbers r) m
 read-judged count (readTo zs at) {next} {b} {l} m n e j =
     let o : l ≡ laid zs m = ap (λ (x : Leaving Numbers). x .buffer) e in
@@ -209,7 +222,8 @@ count-tells : (z : ℤ) (at : ℕ) (text : List ℕ) → tells (withCount z at t
 unfolding withCount
 count-tells z at text = go (between (pos 0) (pos mostNumbers) z) refl
   where
-    go : (b : Bool) → between (pos 0) (pos mostNumbers) z ≡ b → tells (cond b (ofNumbers (numbersRead (natOf z) at text)) (unreadable [])) ≡ true
+    go : (b : Bool) → between (pos 0) (pos mostNumbers) z ≡ b
+        → tells (cond b (ofNumbers (numbersRead (natOf z) at text)) (unreadable [])) ≡ true
     go true q = numbers-tell (natOf z) (numbersRead (natOf z) at text) (counts text at (natOf z)) (count-small z q)
     go false q = refl
 
@@ -237,12 +251,14 @@ left-tells : (b : Beginning) {count : ℕ} {next : Cursor} {l : List ℤ} (m : L
     → leaving (Ready count next) l ≡ beginningLeft b m → (count ≤ mostNumbers) × (configOk (take count l) ≡ true)
 left-tells (ready zs at) {count} {next} {l} m t e =
     let n : count ≡ length zs = ap (λ (x : Leaving Begun). countOf (x .answer)) e in
-    let front : take count l ≡ zs = ap (take count) (ap (λ (x : Leaving Begun). x .buffer) e) ∙ take-at zs _ count (sym n) in
+    let front : take count l ≡ zs =
+    ap (take count) (ap (λ (x : Leaving Begun). x .buffer) e) ∙ take-at zs _ count (sym n) in
     let small = leb-true (length zs) mostNumbers (and-left (leb (length zs) mostNumbers) (configOk zs) t) in
     (omega (arith, n, small), ap configOk front ∙ and-right (leb (length zs) mostNumbers) (configOk zs) t)
 left-tells (refused zs) m t e = clash true refl (ap (λ (x : Leaving Begun). isReady (x .answer)) e)
 left-tells (unreadable zs) m t e = clash true refl (ap (λ (x : Leaving Begun). isReady (x .answer)) e)
 
 pub ready-tells : (longer : Bool) (text : List ℕ) (m : List ℤ) {count : ℕ} {next : Cursor} {l : List ℤ}
-    → leaving (Ready count next) l ≡ beginningLeft (beginning longer text) m → (count ≤ mostNumbers) × (configOk (take count l) ≡ true)
+    → leaving (Ready count next) l ≡ beginningLeft (beginning longer text) m
+    → (count ≤ mostNumbers) × (configOk (take count l) ≡ true)
 ready-tells longer text m e = left-tells (beginning longer text) m (beginning-tells longer text) e

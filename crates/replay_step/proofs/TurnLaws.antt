@@ -25,19 +25,25 @@ use Rattle.replay_step.specs.declared.Asked.the-variants.{Makes, Nothing
 use Rattle.replay_step.specs.declared.Stepped.{Stepped}
 use Rattle.replay_step.specs.declared.Stepped.the-variants.{Line, End, BadInput}
 use Rattle.replay_step.specs.Asked.{askedAt}
-use Rattle.replay_step.specs.Turn.{Made, made, madeBy, callIs, Turned, turned, withLine, zeroFrame, lineAfter, lined, turnBy, turn, Buffers}
+use Rattle.replay_step.specs.Turn.{Made, made, madeBy, callIs, Turned, turned, withLine}
+use Rattle.replay_step.specs.Turn.{zeroFrame, lineAfter, lined, turnBy, turn, Buffers}
 
-pub made-by : {answer : ℕ} (a : Answered) {records : List ℕ} {debounce : List ℤ} {memory : List ℕ} {b b′ : Board} {o : Outcome} → answer ≡ a .number → b ≡ b′
+pub made-by : {answer : ℕ} (a : Answered) {records : List ℕ} {debounce : List ℤ} {memory : List ℕ} {b b′ : Board}
+    {o : Outcome}
+    → answer ≡ a .number → b ≡ b′
     → leaves a [] alone (lent records debounce memory b′) ≡ o → made answer (lent records debounce memory b) ≡ madeBy o
 made-by a {records} {debounce} {memory} p q e = (λ i. made (p i) (lent records debounce memory (q i))) ∙ ap madeBy e
 
 module _ (cfg : Configuration) (call : Call) (next : Cursor) (buffer : List ℕ) (s : State) where
-  pub line-made : {frame : List ℕ} {answer n size : ℕ} {buffer′ : List ℕ} {s′ : State} → frame ≡ zeroFrame cfg → n ≡ events cfg
-      → made answer s′ ≡ madeBy (outcome cfg (callIs frame call) alone s) → written size buffer′ ≡ filled (line answer (statusBytes n (s′ .records))) buffer
+  pub line-made : {frame : List ℕ} {answer n size : ℕ} {buffer′ : List ℕ} {s′ : State} → frame ≡ zeroFrame cfg
+      → n ≡ events cfg
+      → made answer s′ ≡ madeBy (outcome cfg (callIs frame call) alone s)
+      → written size buffer′ ≡ filled (line answer (statusBytes n (s′ .records))) buffer
       → turned (Line size next) buffer′ s′ ≡ turnBy cfg buffer s (Makes call next)
   unfolding lined
   line-made {answer = answer} {s′ = s′} f p m w =
-      ap (λ (x : Written). withLine next x s′) (w ∙ ap (λ (k : ℕ). filled (line answer (statusBytes k (s′ .records))) buffer) p)
+      ap (λ (x : Written). withLine next x s′)
+      (w ∙ ap (λ (k : ℕ). filled (line answer (statusBytes k (s′ .records))) buffer) p)
       ∙ ap (lined cfg next buffer) (m ∙ ap (λ (l : List ℕ). madeBy (outcome cfg (callIs l call) alone s)) f)
 
 -- the front of 32 zeros
@@ -72,20 +78,23 @@ module _ (cfg : Configuration) (buffer : List ℕ) (s : State) where
   asked-fits Nothing = refl
   asked-fits Asked.Unreadable = refl
 
-  pub line-within : (at : ℕ) (text : List ℕ) {n : ℕ} {next : Cursor} {buffer′ : List ℕ} {s′ : State} → turned (Line n next) buffer′ s′ ≡ turn cfg at text buffer s → n ≤ length buffer′
+  pub line-within : (at : ℕ) (text : List ℕ) {n : ℕ} {next : Cursor} {buffer′ : List ℕ} {s′ : State}
+      → turned (Line n next) buffer′ s′ ≡ turn cfg at text buffer s → n ≤ length buffer′
   unfolding turn
   line-within at text {n} {buffer′ = buffer′} e = leb-true n (length buffer′) (ap fits e ∙ asked-fits (askedAt at text))
 
 -- ---- the blocks are parts of the program's buffers
 
-module _ (cfg : Configuration) {records : List ℕ} {debounce : List ℤ} {memory : List ℕ} (b : Buffers cfg records debounce memory) where
+module _ (cfg : Configuration) {records : List ℕ} {debounce : List ℤ} {memory : List ℕ}
+    (b : Buffers cfg records debounce memory) where
   -- so many bytes or numbers of each, as the code counts them
   pub record BlocksWithin (r d m : ℕ) : Type 0 where
     pub records-within : r ≤ length records
     pub numbers-within : d ≤ length debounce
     pub memory-within : m ≤ length memory
 
-  pub blocks-within : {n m : ℕ} → n ≡ events cfg → m ≡ memoryLength (places cfg) (entryFrames cfg) → BlocksWithin (recordWidth * n) n m
+  pub blocks-within : {n m : ℕ} → n ≡ events cfg → m ≡ memoryLength (places cfg) (entryFrames cfg)
+      → BlocksWithin (recordWidth * n) n m
   blocks-within {n} {m} e q =
       let t = config-tells cfg (b .accepted) in
       let few = t .n-most in

@@ -1,5 +1,5 @@
--- Document 01, "Replay program": the calls that the input asks for, "`1 event code`, `2 cycle` (start), `3 cycle` (stop), `4 ms`,
--- `5 code` (clear)". Assumes nothing.
+-- Document 01, "Replay program": the calls that the input asks for, "`1 event code`, `2 cycle` (start), `3 cycle`
+-- (stop), `4 ms`, `5 code` (clear)". Assumes nothing.
 use mathlib.Core.Bool.{cond}
 use mathlib.Core.List.{List}
 use Prim.Native.Nat.{ℕ}

@@ -53,7 +53,8 @@ ofNumbers (unread numbers) = unreadable numbers
 
 -- "a count outside 0 to 6,659: only the line `bad input`"
 unfoldable pub withCount : ℤ → ℕ → List ℕ → Beginning
-withCount count at text = cond (between (pos 0) (pos mostNumbers) count) (ofNumbers (numbersRead (natOf count) at text)) (unreadable [])
+withCount count at text =
+    cond (between (pos 0) (pos mostNumbers) count) (ofNumbers (numbersRead (natOf count) at text)) (unreadable [])
 
 abbrev pub ofCount : List ℕ → Word → Beginning
 ofCount text (Number r) = withCount (r .value) (r .next .at) text

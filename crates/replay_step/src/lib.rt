@@ -16,7 +16,8 @@ ghost use Rattle.manual.specs.Answers.{alone, ofAnswer, ofReport};
 ghost use Rattle.manual.specs.Sequences.{outcome};
 ghost use Rattle.transcript.specs.Text.{nextRead};
 ghost use Rattle.replay_step.specs.Asked.{argumentOf, argumentAt, reportAsked, callAsked, callWith, askedAt};
-ghost use Rattle.replay_step.specs.Beginning.{withNext, numbersRead, judgedNumbers, ofNumbers, withCount, beginning, leaving, numbersLeft, beginningLeft};
+ghost use Rattle.replay_step.specs.Beginning.{withNext, numbersRead, judgedNumbers, ofNumbers, withCount};
+ghost use Rattle.replay_step.specs.Beginning.{beginning, leaving, numbersLeft, beginningLeft};
 ghost use Rattle.replay_step.specs.declared.Asked.the-variants.{Makes};
 ghost use Rattle.replay_step.specs.Turn.{callIs, made, madeBy, turned, turnBy, turn, Playable};
 
@@ -138,7 +139,9 @@ enum Numbers {
 // Reads the next number into its place.
 fn read_into(text: &[u8], from: Cursor, cfg: &mut [i32], place: usize) -> Numbers
     requires { ⌜ place < length (now cfg) ⌝ }
-    ensures { λ r. ⌜ leaving r (now (cfg .exit)) ≡ numbersLeft (withNext (take place (now (cfg .entry))) (nextRead (from .at) (now (text .entry)))) (now (cfg .entry)) ⌝ }
+    ensures { λ r. ⌜ leaving r (now (cfg .exit))
+        ≡ numbersLeft (withNext (take place (now (cfg .entry))) (nextRead (from .at) (now (text .entry))))
+        (now (cfg .entry)) ⌝ }
 {
     match transcript::next_number(text, from) {
         Word::Number(read) => {
@@ -155,7 +158,8 @@ fn read_into(text: &[u8], from: Cursor, cfg: &mut [i32], place: usize) -> Number
 // Reads so many numbers into the front of cfg.
 fn read_numbers(text: &[u8], from: Cursor, cfg: &mut [i32], count: usize) -> Numbers
     requires { ⌜ count ≤ length (now cfg) ⌝ }
-    ensures { λ r. ⌜ leaving r (now (cfg .exit)) ≡ numbersLeft (numbersRead count (from .at) (now (text .entry))) (now (cfg .entry)) ⌝ }
+    ensures { λ r. ⌜ leaving r (now (cfg .exit))
+        ≡ numbersLeft (numbersRead count (from .at) (now (text .entry))) (now (cfg .entry)) ⌝ }
 {
     let mut next = from;
     for place in 0..count {
@@ -167,8 +171,8 @@ fn read_numbers(text: &[u8], from: Cursor, cfg: &mut [i32], count: usize) -> Num
     Numbers::Read(next)
 }
 
-// How the input begins: with an accepted configuration of so many numbers, and the cursor behind it; with one that is refused; or
-// with what cannot be read.
+// How the input begins: with an accepted configuration of so many numbers, and the cursor behind it; with one that is
+// refused; or with what cannot be read.
 pub enum Begun {
     Ready(usize, Cursor),
     Refused,
@@ -181,7 +185,8 @@ const MOST_NUMBERS: i32 = manual::MOST_NUMBERS as i32;
 // The numbers in front of cfg as a configuration: "Refused configuration: one line `2`."
 fn judged(cfg: &[i32], count: usize, next: Cursor) -> Begun
     requires { ⌜ count ≤ length (now cfg) ⌝ }
-    ensures { λ r. ⌜ leaving r (now (cfg .entry)) ≡ beginningLeft (judgedNumbers (take count (now (cfg .entry))) (next .at)) (now (cfg .entry)) ⌝ }
+    ensures { λ r. ⌜ leaving r (now (cfg .entry))
+        ≡ beginningLeft (judgedNumbers (take count (now (cfg .entry))) (next .at)) (now (cfg .entry)) ⌝ }
 {
     if config::config_ok(&cfg[..count]) {
         Begun::Ready(count, next)
@@ -192,7 +197,8 @@ fn judged(cfg: &[i32], count: usize, next: Cursor) -> Begun
 
 fn read_configuration(text: &[u8], from: Cursor, cfg: &mut [i32], count: usize) -> Begun
     requires { ⌜ count ≤ length (now cfg) ⌝ }
-    ensures { λ r. ⌜ leaving r (now (cfg .exit)) ≡ beginningLeft (ofNumbers (numbersRead count (from .at) (now (text .entry)))) (now (cfg .entry)) ⌝ }
+    ensures { λ r. ⌜ leaving r (now (cfg .exit))
+        ≡ beginningLeft (ofNumbers (numbersRead count (from .at) (now (text .entry)))) (now (cfg .entry)) ⌝ }
 {
     match read_numbers(text, from, cfg, count) {
         Numbers::Read(next) => judged(cfg, count, next),
@@ -210,7 +216,8 @@ fn count_allowed(count: i32) -> bool
 // The configuration of so many numbers, if so many are allowed.
 fn counted(text: &[u8], count: i32, from: Cursor, cfg: &mut [i32]) -> Begun
     requires { ⌜ mostNumbers ≤ length (now cfg) ⌝ }
-    ensures { λ r. ⌜ leaving r (now (cfg .exit)) ≡ beginningLeft (withCount count (from .at) (now (text .entry))) (now (cfg .entry)) ⌝ }
+    ensures { λ r. ⌜ leaving r (now (cfg .exit))
+        ≡ beginningLeft (withCount count (from .at) (now (text .entry))) (now (cfg .entry)) ⌝ }
 {
     if !count_allowed(count) {
         return Begun::Unreadable;
@@ -222,7 +229,8 @@ fn counted(text: &[u8], count: i32, from: Cursor, cfg: &mut [i32]) -> Begun
 // The numbers that were read are left in front of cfg, which has room for the most, and the rest of it as it was.
 pub fn begin(text: &[u8], longer: bool, cfg: &mut [i32]) -> Begun
     requires { ⌜ mostNumbers ≤ length (now cfg) ⌝ }
-    ensures { λ r. ⌜ leaving r (now (cfg .exit)) ≡ beginningLeft (beginning longer (now (text .entry))) (now (cfg .entry)) ⌝ }
+    ensures { λ r. ⌜ leaving r (now (cfg .exit))
+        ≡ beginningLeft (beginning longer (now (text .entry))) (now (cfg .entry)) ⌝ }
 {
     if longer {
         return Begun::Unreadable;
@@ -239,8 +247,8 @@ pub fn begin(text: &[u8], longer: bool, cfg: &mut [i32]) -> Begun
 
 // ---- a turn
 
-// What a turn answers: the length of the line in front of the buffer, and the cursor behind the call; that the input ends; or that
-// it is bad.
+// What a turn answers: the length of the line in front of the buffer, and the cursor behind the call; that the input
+// ends; or that it is bad.
 pub enum Stepped {
     Line(usize, Cursor),
     End,
@@ -291,11 +299,10 @@ fn make(
     call: Call,
     frame: &[u8],
 ) -> Made
-    ensures { λ r.
-        ⌜
+    ensures { λ r. ⌜
         made (r .answer) (lent (now (records .exit)) (now (debounce .exit)) (now (memory .exit)) (r .board))
-        ≡ madeBy (outcome (now (cfg .entry)) (callIs (now (frame .entry)) call) alone (lent (now (records .entry)) (now (debounce .entry)) (now (memory .entry)) board))
-        ⌝ }
+        ≡ madeBy (outcome (now (cfg .entry)) (callIs (now (frame .entry)) call) alone
+        (lent (now (records .entry)) (now (debounce .entry)) (now (memory .entry)) board)) ⌝ }
 {
     match call {
         Call::Report(event, code) => made_of_report(reporting::report(
@@ -337,8 +344,10 @@ fn play(
     requires { ⌜ Playable (now cfg) (now records) (now buffer) ⌝ }
     ensures { λ r.
         ⌜
-        turned (r .stepped) (now (buffer .exit)) (lent (now (records .exit)) (now (debounce .exit)) (now (memory .exit)) (r .board))
-        ≡ turnBy (now (cfg .entry)) (now (buffer .entry)) (lent (now (records .entry)) (now (debounce .entry)) (now (memory .entry)) board) (Makes call next)
+        turned (r .stepped) (now (buffer .exit))
+        (lent (now (records .exit)) (now (debounce .exit)) (now (memory .exit)) (r .board))
+        ≡ turnBy (now (cfg .entry)) (now (buffer .entry))
+        (lent (now (records .entry)) (now (debounce .entry)) (now (memory .entry)) board) (Makes call next)
         ⌝ }
 {
     let zeros = [0; manual::MOST_FRAME];
@@ -352,8 +361,8 @@ fn play(
     }
 }
 
-// Reads the next call of the text from the cursor on, makes it on the manager, and fills its line. Where the input ends, or is bad,
-// nothing is done.
+// Reads the next call of the text from the cursor on, makes it on the manager, and fills its line. Where the input
+// ends, or is bad, nothing is done.
 pub fn step(
     cfg: &[i32],
     records: &mut [u8],
@@ -367,8 +376,10 @@ pub fn step(
     requires { ⌜ Playable (now cfg) (now records) (now buffer) ⌝ }
     ensures { λ r.
         ⌜
-        turned (r .stepped) (now (buffer .exit)) (lent (now (records .exit)) (now (debounce .exit)) (now (memory .exit)) (r .board))
-        ≡ turn (now (cfg .entry)) (from .at) (now (text .entry)) (now (buffer .entry)) (lent (now (records .entry)) (now (debounce .entry)) (now (memory .entry)) board)
+        turned (r .stepped) (now (buffer .exit))
+        (lent (now (records .exit)) (now (debounce .exit)) (now (memory .exit)) (r .board))
+        ≡ turn (now (cfg .entry)) (from .at) (now (text .entry)) (now (buffer .entry))
+        (lent (now (records .entry)) (now (debounce .entry)) (now (memory .entry)) board)
         ⌝ }
 {
     match next_call(text, from) {

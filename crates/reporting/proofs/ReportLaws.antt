@@ -16,9 +16,13 @@ use Rattle.one_event.specs.Ready.{Ready}
 use Rattle.one_event.proofs.ReadyLaws.{ready-of}
 
 module _ (cfg : Configuration) (s : State) (e code : ℕ) (frame : List ℕ) where
-  pub may-report : firstThatApplies (reportRules cfg e code frame s) ≡ 0 → Ready cfg s e × (length frame ≡ frameBytes cfg)
+  pub may-report : firstThatApplies (reportRules cfg e code frame s) ≡ 0
+      → Ready cfg s e × (length frame ≡ frameBytes cfg)
   unfolding reportRules
-  may-report z = (ready-of cfg s configured e below (ready-at-once cfg s formed e below), eqb-true _ _ (not-false _ (none-applies _ z refl 5)))
+  may-report z = (
+    ready-of cfg s configured e below (ready-at-once cfg s formed e below),
+    eqb-true _ _ (not-false _ (none-applies _ z refl 5)),
+  )
     where
       configured : configOk cfg ≡ true
       configured = not-false _ (none-applies _ z refl 0)

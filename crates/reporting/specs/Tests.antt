@@ -11,7 +11,8 @@ use Rattle.manual.specs.Calls.{noSuchEvent, wrongFrame, cycleRuns}
 module _ (cfg : Configuration) where
   -- "report …, 6, 9, 5", of an event that has a row
   abbrev pub rowTests : Board → ℕ → ℕ → List ℕ → List Rule
-  rowTests b e code frame = (6 if (isInternal cfg e && ltb 1 code)) ∷ (9 if wrongFrame cfg frame) ∷ (5 if not (cycleRuns cfg b e)) ∷ []
+  rowTests b e code frame =
+      (6 if (isInternal cfg e && ltb 1 code)) ∷ (9 if wrongFrame cfg frame) ∷ (5 if not (cycleRuns cfg b e)) ∷ []
 
   -- "report 4, 1, 6, 9, 5"
   abbrev pub reportTests : Board → ℕ → ℕ → List ℕ → List Rule

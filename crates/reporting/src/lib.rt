@@ -18,7 +18,8 @@ ghost use Rattle.manual.specs.Configuration.{mostEvents, frameBytes, isInternal
 ghost use Rattle.manual.specs.State.{lent};
 ghost use Rattle.manual.specs.Answers.{alone, refused, firstThatApplies, numberOf, ofAnswer, ofReport, leaves};
 ghost use Rattle.manual.specs.OneEvent.{forThose};
-ghost use Rattle.manual.specs.Calls.{wrongFrame, cycleRuns, reportRules, reportDone, report, tickRules, timeRuns, ticks, tick};
+ghost use Rattle.manual.specs.Calls.{wrongFrame, cycleRuns, reportRules, reportDone};
+ghost use Rattle.manual.specs.Calls.{report, tickRules, timeRuns, ticks, tick};
 ghost use Rattle.judgement.specs.Checks.{checkNumber};
 ghost use Rattle.one_event.specs.Ready.{Ready};
 ghost use Rattle.reporting.specs.Accepted.{MayTick};
@@ -55,7 +56,8 @@ fn no_pre_result(cfg: &[i32], event: EventNumber, code: u32) -> bool
 // "report …, 6, 9, 5", of an event that has a row.
 fn row_tests(cfg: &[i32], board: Board, event: EventNumber, code: u32, frame: &[u8]) -> Check
     requires { ⌜ event .0 < mostEvents ⌝ }
-    ensures { λ r. ⌜ checkNumber r ≡ firstThatApplies (rowTests (now (cfg .entry)) board (event .0) code (now (frame .entry))) ⌝ }
+    ensures { λ r. ⌜ checkNumber r
+        ≡ firstThatApplies (rowTests (now (cfg .entry)) board (event .0) code (now (frame .entry))) ⌝ }
 {
     let pre_refused = no_pre_result(cfg, event, code);
     let frame_refused = wrong_frame(cfg, frame);
@@ -75,7 +77,8 @@ fn row_tests(cfg: &[i32], board: Board, event: EventNumber, code: u32, frame: &[
 // "report 4, 1, 6, 9, 5". An event past the last has no row, so 4 is judged before the row is read.
 fn report_tests(cfg: &[i32], board: Board, event: EventNumber, code: u32, frame: &[u8]) -> Check
     requires { ⌜ configOk (now cfg) ≡ true ⌝ }
-    ensures { λ r. ⌜ checkNumber r ≡ firstThatApplies (reportTests (now (cfg .entry)) board (event .0) code (now (frame .entry))) ⌝ }
+    ensures { λ r. ⌜ checkNumber r
+        ≡ firstThatApplies (reportTests (now (cfg .entry)) board (event .0) code (now (frame .entry))) ⌝ }
 {
     let event_refused = config::events(cfg) <= event.0;
     let code_refused = debounce::PRE_FAILED < code;
@@ -99,7 +102,10 @@ fn judge_report(
     code: u32,
     frame: &[u8],
 ) -> Check
-    ensures { λ r. ⌜ checkNumber r ≡ firstThatApplies (reportRules (now (cfg .entry)) (event .0) code (now (frame .entry)) (lent (now (records .entry)) (now (debounce .entry)) (now (memory .entry)) board)) ⌝ }
+    ensures { λ r. ⌜ checkNumber r
+        ≡ firstThatApplies
+        (reportRules (now (cfg .entry)) (event .0) code (now (frame .entry))
+        (lent (now (records .entry)) (now (debounce .entry)) (now (memory .entry)) board)) ⌝ }
 {
     match judgement::begin(cfg, records, debounce, memory, board, true) {
         Check::Go => report_tests(cfg, board, event, code, frame),
@@ -118,8 +124,12 @@ fn accept_report(
     code: u32,
     frame: &[u8],
 ) -> ReportReturned
-    requires { ⌜ (Ready (now cfg) (lent (now records) (now debounce) (now memory) board) (event .0)) × (length (now frame) ≡ frameBytes (now cfg)) ⌝ }
-    ensures { λ r. ⌜ leaves (ofReport (r .answer)) [] alone (lent (now (records .exit)) (now (debounce .exit)) (now (memory .exit)) (r .board)) ≡ reportDone (now (cfg .entry)) (event .0) code (now (frame .entry)) alone (lent (now (records .entry)) (now (debounce .entry)) (now (memory .entry)) board) ⌝ }
+    requires { ⌜ (Ready (now cfg) (lent (now records) (now debounce) (now memory) board) (event .0)) ×
+        (length (now frame) ≡ frameBytes (now cfg)) ⌝ }
+    ensures { λ r. ⌜ leaves (ofReport (r .answer)) [] alone
+        (lent (now (records .exit)) (now (debounce .exit)) (now (memory .exit)) (r .board))
+        ≡ reportDone (now (cfg .entry)) (event .0) code (now (frame .entry)) alone
+        (lent (now (records .entry)) (now (debounce .entry)) (now (memory .entry)) board) ⌝ }
 {
     let after = one_event::reports(cfg, records, debounce, memory, board, event, code, frame);
     let verdict = after.verdict;
@@ -132,14 +142,16 @@ fn accept_report(
 
 // "A refusal changes nothing lent and hands back the board it was given; …, a verdict none."
 fn refuse_report(refusal: Refusal, board: Board) -> ReportReturned
-    ensures { λ r. ⌜ ((records : List ℕ) (debounce : List ℤ) (memory : List ℕ) → leaves (ofReport (r .answer)) [] alone (lent records debounce memory (r .board)) ≡ refused (numberOf refusal) alone (lent records debounce memory board)) ⌝ }
+    ensures { λ r. ⌜ ((records : List ℕ) (debounce : List ℤ) (memory : List ℕ)
+        → leaves (ofReport (r .answer)) [] alone (lent records debounce memory (r .board))
+        ≡ refused (numberOf refusal) alone (lent records debounce memory board)) ⌝ }
 {
     let answer = ReportAnswer::Refused(refusal);
     ReportReturned { answer, board }
 }
 
-// A test of the event has a result: code "0 passed, 1 failed, 2 pre-passed, 3 pre-failed". Memory is told of a fresh failure, with the
-// lent frame. Answers the verdict, or the first of 2, 3, 4, 1, 6, 9, 5 that applies.
+// A test of the event has a result: code "0 passed, 1 failed, 2 pre-passed, 3 pre-failed". Memory is told of a fresh
+// failure, with the lent frame. Answers the verdict, or the first of 2, 3, 4, 1, 6, 9, 5 that applies.
 pub fn report(
     cfg: &[i32],
     records: &mut [u8],
@@ -150,7 +162,10 @@ pub fn report(
     code: u32,
     frame: &[u8],
 ) -> ReportReturned
-    ensures { λ r. ⌜ leaves (ofReport (r .answer)) [] alone (lent (now (records .exit)) (now (debounce .exit)) (now (memory .exit)) (r .board)) ≡ report (now (cfg .entry)) (event .0) code (now (frame .entry)) alone (lent (now (records .entry)) (now (debounce .entry)) (now (memory .entry)) board) ⌝ }
+    ensures { λ r. ⌜ leaves (ofReport (r .answer)) [] alone
+        (lent (now (records .exit)) (now (debounce .exit)) (now (memory .exit)) (r .board))
+        ≡ report (now (cfg .entry)) (event .0) code (now (frame .entry)) alone
+        (lent (now (records .entry)) (now (debounce .entry)) (now (memory .entry)) board) ⌝ }
 {
     match judge_report(cfg, records, debounce, memory, board, event, code, frame) {
         Check::Go => accept_report(cfg, records, debounce, memory, board, event, code, frame),
@@ -185,7 +200,10 @@ fn judge_tick(
     ms: u32,
     frame: &[u8],
 ) -> Check
-    ensures { λ r. ⌜ checkNumber r ≡ firstThatApplies (tickRules (now (cfg .entry)) ms (now (frame .entry)) (lent (now (records .entry)) (now (debounce .entry)) (now (memory .entry)) board)) ⌝ }
+    ensures { λ r. ⌜ checkNumber r
+        ≡ firstThatApplies
+        (tickRules (now (cfg .entry)) ms (now (frame .entry))
+        (lent (now (records .entry)) (now (debounce .entry)) (now (memory .entry)) board)) ⌝ }
 {
     match judgement::begin(cfg, records, debounce, memory, board, true) {
         Check::Go => tick_tests(cfg, ms, frame),
@@ -213,8 +231,13 @@ fn tick_event(
     ms: u32,
     frame: &[u8],
 ) -> Board
-    requires { ⌜ (Ready (now cfg) (lent (now records) (now debounce) (now memory) board) (event .0)) × ((length (now frame) ≡ frameBytes (now cfg)) × (ms ≤ 60000)) ⌝ }
-    ensures { λ r. ⌜ lent (now (records .exit)) (now (debounce .exit)) (now (memory .exit)) r ≡ cond (timeRuns (now (cfg .entry)) «at_start» (event .0)) (ticks (now (cfg .entry)) ms (now (frame .entry)) (event .0) (lent (now (records .entry)) (now (debounce .entry)) (now (memory .entry)) board)) (lent (now (records .entry)) (now (debounce .entry)) (now (memory .entry)) board) ⌝ }
+    requires { ⌜ (Ready (now cfg) (lent (now records) (now debounce) (now memory) board) (event .0)) ×
+        ((length (now frame) ≡ frameBytes (now cfg)) × (ms ≤ 60000)) ⌝ }
+    ensures { λ r. ⌜ lent (now (records .exit)) (now (debounce .exit)) (now (memory .exit)) r
+        ≡ cond (timeRuns (now (cfg .entry)) «at_start» (event .0))
+        (ticks (now (cfg .entry)) ms (now (frame .entry)) (event .0)
+        (lent (now (records .entry)) (now (debounce .entry)) (now (memory .entry)) board))
+        (lent (now (records .entry)) (now (debounce .entry)) (now (memory .entry)) board) ⌝ }
 {
     if time_runs(cfg, at_start, event) {
         let part = one_event::ticks(cfg, records, debounce, memory, board, event, ms, frame);
@@ -235,7 +258,10 @@ fn tick_events(
     frame: &[u8],
 ) -> Board
     requires { ⌜ MayTick (now cfg) (lent (now records) (now debounce) (now memory) board) ms (now frame) ⌝ }
-    ensures { λ r. ⌜ lent (now (records .exit)) (now (debounce .exit)) (now (memory .exit)) r ≡ forThose (now (cfg .entry)) (timeRuns (now (cfg .entry)) board) (ticks (now (cfg .entry)) ms (now (frame .entry))) (lent (now (records .entry)) (now (debounce .entry)) (now (memory .entry)) board) ⌝ }
+    ensures { λ r. ⌜ lent (now (records .exit)) (now (debounce .exit)) (now (memory .exit)) r
+        ≡ forThose (now (cfg .entry)) (timeRuns (now (cfg .entry)) board)
+        (ticks (now (cfg .entry)) ms (now (frame .entry)))
+        (lent (now (records .entry)) (now (debounce .entry)) (now (memory .entry)) board) ⌝ }
 {
     let n = config::events(cfg);
     let mut after = board;
@@ -257,14 +283,16 @@ fn tick_events(
 
 // "A refusal changes nothing lent and hands back the board it was given"
 fn refuse_tick(refusal: Refusal, board: Board) -> Returned
-    ensures { λ r. ⌜ ((records : List ℕ) (debounce : List ℤ) (memory : List ℕ) → leaves (ofAnswer (r .answer)) [] alone (lent records debounce memory (r .board)) ≡ refused (numberOf refusal) alone (lent records debounce memory board)) ⌝ }
+    ensures { λ r. ⌜ ((records : List ℕ) (debounce : List ℤ) (memory : List ℕ)
+        → leaves (ofAnswer (r .answer)) [] alone (lent records debounce memory (r .board))
+        ≡ refused (numberOf refusal) alone (lent records debounce memory board)) ⌝ }
 {
     let answer = Answer::Refused(refusal);
     Returned { answer, board }
 }
 
-// "Tick of d ms (0 to 60,000)": time passes for the events of kind 2 whose cycle runs. "Every event so qualified takes the lent frame."
-// Answers done, or the first of 2, 3, 1, 9 that applies.
+// "Tick of d ms (0 to 60,000)": time passes for the events of kind 2 whose cycle runs. "Every event so qualified takes
+// the lent frame." Answers done, or the first of 2, 3, 1, 9 that applies.
 pub fn tick(
     cfg: &[i32],
     records: &mut [u8],
@@ -274,7 +302,10 @@ pub fn tick(
     ms: u32,
     frame: &[u8],
 ) -> Returned
-    ensures { λ r. ⌜ leaves (ofAnswer (r .answer)) [] alone (lent (now (records .exit)) (now (debounce .exit)) (now (memory .exit)) (r .board)) ≡ tick (now (cfg .entry)) ms (now (frame .entry)) alone (lent (now (records .entry)) (now (debounce .entry)) (now (memory .entry)) board) ⌝ }
+    ensures { λ r. ⌜ leaves (ofAnswer (r .answer)) [] alone
+        (lent (now (records .exit)) (now (debounce .exit)) (now (memory .exit)) (r .board))
+        ≡ tick (now (cfg .entry)) ms (now (frame .entry)) alone
+        (lent (now (records .entry)) (now (debounce .entry)) (now (memory .entry)) board) ⌝ }
 {
     match judge_tick(cfg, records, debounce, memory, board, ms, frame) {
         Check::Go => {

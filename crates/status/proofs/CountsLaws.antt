@@ -32,7 +32,8 @@ K-risen false K = refl
 -- ---- h and g
 
 -- a count that rises where two tests hold, with room to rise, and whether it then stands at its limit N
-pub counted : {a b : Bool} (a' b' : Bool) (c N : ℕ) {c' : ℕ} → a ≡ a' → b ≡ b' → c < 255 → c' ≡ cond (a && b) (min 255 (suc c)) c
+pub counted : {a b : Bool} (a' b' : Bool) (c N : ℕ) {c' : ℕ} → a ≡ a' → b ≡ b' → c < 255
+    → c' ≡ cond (a && b) (min 255 (suc c)) c
     → (c' ≡ cond (a' && b') (suc c) c) × (a && b && eqb c' N ≡ a' && b' && eqb (suc c) N)
 counted a' b' c N p q h e =
     let risen-is = e ∙ (λ i. cond (p i && q i) (min 255 (suc c)) c) ∙ one-more (a' && b') in

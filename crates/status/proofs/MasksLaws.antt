@@ -1,4 +1,5 @@
--- A status byte and a mask: what `bitOr`, `bitAnd` and the tests on them are, bit by bit, in the words of history's specs/StatusByte.antt.
+-- A status byte and a mask: what `bitOr`, `bitAnd` and the tests on them are, bit by bit, in the words of history's
+-- specs/StatusByte.antt.
 use mathlib.Core.Path.{_≡_, refl, sym, ap, fun-ext, _∙_}
 use mathlib.Core.Bool.{Bool, true, false, not, _&&_, _||_, cond}
 use mathlib.Core.List.{List, [], _∷_}
@@ -10,7 +11,10 @@ use lib.Pow.{pow-pos}
 use lib.Bits.{bitAnd, bitOr, and-le-r, and-shr, and-mod, or-shr, or-mod, and-high}
 use borrow.Author.Tests.{eq-eqb, ne-eqb}
 use Rattle.history.specs.Words.{same, anyOf}
-use Rattle.history.specs.StatusByte.{Bit, testFailed, testFailedThisOperationCycle, pendingDTC, confirmedDTC, testNotCompletedSinceLastClear, testFailedSinceLastClear, testNotCompletedThisOperationCycle, warningIndicatorRequested, Status, weight, byteOf, statusOf, among, setBits, clearBits, setBitsIf, clearBitsIf}
+use Rattle.history.specs.StatusByte.{Bit, testFailed, testFailedThisOperationCycle, pendingDTC, confirmedDTC}
+use Rattle.history.specs.StatusByte.{testNotCompletedSinceLastClear, testFailedSinceLastClear}
+use Rattle.history.specs.StatusByte.{testNotCompletedThisOperationCycle, warningIndicatorRequested, Status, weight}
+use Rattle.history.specs.StatusByte.{byteOf, statusOf, among, setBits, clearBits, setBitsIf, clearBitsIf}
 use Rattle.history.proofs.WordsLaws.{and-true, and-false}
 use Rattle.history.proofs.Truth.{Law, always, truth, same-eq}
 use Rattle.history.proofs.StatusByteLaws.{eight, rowOf, each-bit, status-of-byte, byte-of-status}
@@ -63,40 +67,55 @@ digitwise : (op : ℕ → ℕ → ℕ) (test : Bool → Bool → Bool)
     → statusOf (op s m) b ≡ test (statusOf m b) (statusOf s b)
 digitwise op test shifted lowest digit s m =
     by-power (λ w. eqb (op s m / w % 2) 1 ≡ test (eqb (m / w % 2) 1) (eqb (s / w % 2) 1))
-    (λ k. rw (shifted s m k, lowest (s / 2 ^ k) (m / 2 ^ k) 1) (digit (s / 2 ^ k % 2) (m / 2 ^ k % 2) (low (s / 2 ^ k)) (low (m / 2 ^ k))))
+    (λ k. rw (shifted s m k, lowest (s / 2 ^ k) (m / 2 ^ k) 1)
+    (digit (s / 2 ^ k % 2) (m / 2 ^ k % 2) (low (s / 2 ^ k)) (low (m / 2 ^ k))))
 
 pub bit-of-or : (s m : ℕ) (b : Bit) → statusOf (bitOr s m) b ≡ (statusOf m b || statusOf s b)
-bit-of-or = digitwise bitOr _||_ or-shr or-mod (digits (λ x y. eqb (bitOr x y) 1 ≡ (eqb y 1 || eqb x 1)) refl refl refl refl)
+bit-of-or =
+    digitwise bitOr _||_ or-shr or-mod (digits (λ x y. eqb (bitOr x y) 1 ≡ (eqb y 1 || eqb x 1)) refl refl refl refl)
 
 pub bit-of-and : (s m : ℕ) (b : Bit) → statusOf (bitAnd s m) b ≡ (statusOf m b && statusOf s b)
-bit-of-and = digitwise bitAnd _&&_ and-shr and-mod (digits (λ x y. eqb (bitAnd x y) 1 ≡ (eqb y 1 && eqb x 1)) refl refl refl refl)
+bit-of-and =
+    digitwise bitAnd _&&_ and-shr and-mod
+    (digits (λ x y. eqb (bitAnd x y) 1 ≡ (eqb y 1 && eqb x 1)) refl refl refl refl)
 
 -- ---- setting and clearing
 
 -- the bits of 255 less a byte are the other ones, by the table
 abbrev others : Bit → Law 8
-others b b0 b1 b2 b3 b4 b5 b6 b7 = same (statusOf (255 - byteOf (eight b0 b1 b2 b3 b4 b5 b6 b7)) b) (not (eight b0 b1 b2 b3 b4 b5 b6 b7 b))
+others b b0 b1 b2 b3 b4 b5 b6 b7 =
+    same (statusOf (255 - byteOf (eight b0 b1 b2 b3 b4 b5 b6 b7)) b) (not (eight b0 b1 b2 b3 b4 b5 b6 b7 b))
 
 other-bits : (t : Status) (b : Bit) → statusOf (255 - byteOf t) b ≡ not (t b)
 other-bits t = each-bit (λ b. statusOf (255 - byteOf t) b ≡ not (t b))
     (by testFailed tt) (by testFailedThisOperationCycle tt) (by pendingDTC tt) (by confirmedDTC tt)
-    (by testNotCompletedSinceLastClear tt) (by testFailedSinceLastClear tt) (by testNotCompletedThisOperationCycle tt) (by warningIndicatorRequested tt)
+    (by testNotCompletedSinceLastClear tt) (by testFailedSinceLastClear tt) (by testNotCompletedThisOperationCycle tt)
+    (by warningIndicatorRequested tt)
   where
-    by : (b : Bit) → T (always 8 (others b)) → statusOf (255 - byteOf t) b ≡ not (eight (t testFailed) (t testFailedThisOperationCycle) (t pendingDTC) (t confirmedDTC) (t testNotCompletedSinceLastClear) (t testFailedSinceLastClear) (t testNotCompletedThisOperationCycle) (t warningIndicatorRequested) b)
+    by : (b : Bit) → T (always 8 (others b))
+        → statusOf (255 - byteOf t) b
+        ≡ not
+        (eight (t testFailed) (t testFailedThisOperationCycle) (t pendingDTC) (t confirmedDTC)
+        (t testNotCompletedSinceLastClear) (t testFailedSinceLastClear) (t testNotCompletedThisOperationCycle)
+        (t warningIndicatorRequested) b)
     by b h = same-eq _ _ (truth 8 (others b) h (rowOf t))
 
 module _ (bits : List Bit) (s : ℕ) where
   after-set : statusOf (bitOr s (maskOf bits)) ≡ setBits bits (statusOf s)
-  after-set = fun-ext (λ b. bit-of-or s (maskOf bits) b ∙ ap (λ (t : Bool). t || statusOf s b) (status-of-byte (among bits) b))
+  after-set =
+      fun-ext (λ b. bit-of-or s (maskOf bits) b ∙ ap (λ (t : Bool). t || statusOf s b) (status-of-byte (among bits) b))
 
   after-clear : statusOf (bitAnd s (255 - maskOf bits)) ≡ clearBits bits (statusOf s)
-  after-clear = fun-ext (λ b. bit-of-and s (255 - maskOf bits) b ∙ ap (λ (t : Bool). t && statusOf s b) (other-bits (among bits) b))
+  after-clear =
+      fun-ext
+      (λ b. bit-of-and s (255 - maskOf bits) b ∙ ap (λ (t : Bool). t && statusOf s b) (other-bits (among bits) b))
 
   after-set-if : (test : Bool) → statusOf (cond test (bitOr s (maskOf bits)) s) ≡ setBitsIf test bits (statusOf s)
   after-set-if true = after-set ∙ fun-ext (λ b. ap (λ (t : Bool). t || statusOf s b) (sym (and-true (among bits b))))
   after-set-if false = fun-ext (λ b. ap (λ (t : Bool). t || statusOf s b) (sym (and-false (among bits b))))
 
-  after-clear-if : (test : Bool) → statusOf (cond test (bitAnd s (255 - maskOf bits)) s) ≡ clearBitsIf test bits (statusOf s)
+  after-clear-if : (test : Bool)
+      → statusOf (cond test (bitAnd s (255 - maskOf bits)) s) ≡ clearBitsIf test bits (statusOf s)
   after-clear-if true = after-clear ∙ fun-ext (λ b. go (among bits b) (statusOf s b))
     where
       go : (a t : Bool) → (not a && t) ≡ cond (a && true) false t
@@ -112,10 +131,12 @@ module _ (bits : List Bit) (s : ℕ) where
     pub clear-is : x ≡ bitAnd s (255 - maskOf bits) → statusOf s ≡ t → statusOf x ≡ clearBits bits t
     clear-is e p = ap statusOf e ∙ after-clear ∙ ap (clearBits bits) p
 
-    pub set-if-is : (test : Bool) → x ≡ cond test (bitOr s (maskOf bits)) s → statusOf s ≡ t → statusOf x ≡ setBitsIf test bits t
+    pub set-if-is : (test : Bool) → x ≡ cond test (bitOr s (maskOf bits)) s → statusOf s ≡ t
+        → statusOf x ≡ setBitsIf test bits t
     set-if-is test e p = ap statusOf e ∙ after-set-if test ∙ ap (setBitsIf test bits) p
 
-    pub clear-if-is : (test : Bool) → x ≡ cond test (bitAnd s (255 - maskOf bits)) s → statusOf s ≡ t → statusOf x ≡ clearBitsIf test bits t
+    pub clear-if-is : (test : Bool) → x ≡ cond test (bitAnd s (255 - maskOf bits)) s → statusOf s ≡ t
+        → statusOf x ≡ clearBitsIf test bits t
     clear-if-is test e p = ap statusOf e ∙ after-clear-if test ∙ ap (clearBitsIf test bits) p
 
 -- ---- testing
@@ -123,7 +144,8 @@ module _ (bits : List Bit) (s : ℕ) where
 -- one bit of a byte alone
 one-bit : (s : ℕ) (b : Bit) → bitAnd s (weight b) ≡ s / weight b % 2 * weight b
 one-bit s = each-bit (λ b. bitAnd s (weight b) ≡ s / weight b % 2 * weight b)
-    (and-high s 1 0) (and-high s 1 1) (and-high s 1 2) (and-high s 1 3) (and-high s 1 4) (and-high s 1 5) (and-high s 1 6) (and-high s 1 7)
+    (and-high s 1 0) (and-high s 1 1) (and-high s 1 2) (and-high s 1 3) (and-high s 1 4) (and-high s 1 5)
+    (and-high s 1 6) (and-high s 1 7)
 
 whole-digit : (d w : ℕ) → d < 2 → 0 < w → eqb d 1 ≡ eqb (d * w) w
 whole-digit zero w h k = sym (ne-eqb (0 * w) w (λ (e : 0 * w ≡ w). omega arith))
@@ -132,20 +154,27 @@ whole-digit (suc (suc d)) w h k = absurd (omega arith)
 
 -- the test that a byte contains one bit
 pub contains-is : (s : ℕ) (b : Bit) {r : Bool} → r ≡ eqb (bitAnd s (weight b)) (weight b) → r ≡ statusOf s b
-contains-is s b e = e ∙ rw one-bit (sym (whole-digit (s / weight b % 2) (weight b) (low (s / weight b)) (by-power (λ w. 0 < w) pow-pos b)))
+contains-is s b e =
+    e
+    ∙ rw one-bit
+    (sym (whole-digit (s / weight b % 2) (weight b) (low (s / weight b)) (by-power (λ w. 0 < w) pow-pos b)))
 
 -- a byte is not 0 where one of its bits is set, by the table
 abbrev someSet : Law 8
-someSet b0 b1 b2 b3 b4 b5 b6 b7 = same (not (eqb (byteOf (eight b0 b1 b2 b3 b4 b5 b6 b7)) 0)) (anyOf (eight b0 b1 b2 b3 b4 b5 b6 b7) everyBit)
+someSet b0 b1 b2 b3 b4 b5 b6 b7 =
+    same (not (eqb (byteOf (eight b0 b1 b2 b3 b4 b5 b6 b7)) 0)) (anyOf (eight b0 b1 b2 b3 b4 b5 b6 b7) everyBit)
 
 some-set : (t : Status) → not (eqb (byteOf t) 0) ≡ anyOf t everyBit
 some-set t = same-eq _ _ (truth 8 someSet tt (rowOf t))
 
 -- the test that a byte and a mask share a set bit
-pub shares-is : (s m : ℕ) {r : Bool} → m < 256 → r ≡ not (eqb (bitAnd s m) 0) → r ≡ anyOf (λ b. statusOf m b && statusOf s b) everyBit
+pub shares-is : (s m : ℕ) {r : Bool} → m < 256 → r ≡ not (eqb (bitAnd s m) 0)
+    → r ≡ anyOf (λ b. statusOf m b && statusOf s b) everyBit
 shares-is s m h e =
     e
-    ∙ ap (λ (x : ℕ). not (eqb x 0)) (byte-is (bitAnd s m) (λ b. statusOf m b && statusOf s b) (lt-of-le-of-lt (and-le-r s m) h) (fun-ext (bit-of-and s m)))
+    ∙ ap (λ (x : ℕ). not (eqb x 0))
+    (byte-is (bitAnd s m) (λ b. statusOf m b && statusOf s b) (lt-of-le-of-lt (and-le-r s m) h)
+    (fun-ext (bit-of-and s m)))
     ∙ some-set (λ b. statusOf m b && statusOf s b)
 
 -- what that test is for two bits and for three

@@ -1,4 +1,5 @@
-// Document 01, "Status byte": the status byte, the steps of an event's record, and the records and debounce numbers in the lent blocks.
+// Document 01, "Status byte": the status byte, the steps of an event's record, and the records and debounce numbers in
+// the lent blocks.
 use manual::EventNumber;
 ghost use mathlib.Core.Path.{_≡_};
 ghost use mathlib.Core.Bool.{Bool, not, _&&_, cond};
@@ -8,8 +9,10 @@ ghost use lib.Bits.{bitAnd, bitOr};
 ghost use lib.IntN.{pos};
 ghost use lib.ListN.{length, getD, set};
 ghost use Rattle.history.specs.Words.{implies, same};
-ghost use Rattle.history.specs.StatusByte.{Limits, statusOf, freshRecord, cleanCycle, stopA, countsForAgeing, ages, stopB};
-ghost use Rattle.history.specs.WellFormed.{untestedIsFresh, faultyHasFailed, failedIsPending, warningIsConfirmed, pendingHasCycles, wellFormedRecord};
+ghost use Rattle.history.specs.StatusByte.{Limits, statusOf, freshRecord, cleanCycle};
+ghost use Rattle.history.specs.StatusByte.{stopA, countsForAgeing, ages, stopB};
+ghost use Rattle.history.specs.WellFormed.{untestedIsFresh, faultyHasFailed, failedIsPending, warningIsConfirmed};
+ghost use Rattle.history.specs.WellFormed.{pendingHasCycles, wellFormedRecord};
 ghost use Rattle.history.specs.History.{step, passed, start};
 ghost use Rattle.manual.specs.State.{recordWidth, stored, storedAt, withStored};
 ghost use Rattle.status.specs.Records.{storedIs, recordIs, limits, FailedIs, RoomToRise, StoppedIs};
@@ -156,8 +159,8 @@ fn zero_if(test: bool, count: u8) -> u8
     if test { 0 } else { count }
 }
 
-// "Failed: if bit 1 was clear, K rises by one, at most 255. Sets 0, 1, 2, 5; clears 4, 6; h = g = 0. If K ≥ C, sets 3 and, with
-// indicator 1, 7. If bit 0 was clear before, it is a fresh failure and memory is told, last."
+// "Failed: if bit 1 was clear, K rises by one, at most 255. Sets 0, 1, 2, 5; clears 4, 6; h = g = 0. If K ≥ C, sets 3
+// and, with indicator 1, 7. If bit 0 was clear before, it is a fresh failure and memory is told, last."
 pub fn failed(confirm: usize, indicator: bool, r: Record) -> AfterFailed
     ensures { λ f. ⌜ ((H A : ℕ) → FailedIs (limits confirm H A indicator) r f) ⌝ }
 {
@@ -236,10 +239,13 @@ fn counts_for_ageing(s: Status) -> bool
     !s.contains(Status::TEST_FAILED_THIS_OPERATION_CYCLE)
 }
 
-// "(b) then, if 1 is clear and 3 is set: g rises by one; at A the event ages: 3 and 7 clear, h = g = 0, its entry leaves memory."
+// "(b) then, if 1 is clear and 3 is set: g rises by one; at A the event ages: 3 and 7 clear, h = g = 0, its entry
+// leaves memory."
 fn stop_b(age: usize, r: Record) -> AfterStop
     requires { ⌜ r .g < 255 ⌝ }
-    ensures { λ b. ⌜ ((C H : ℕ) (i : Bool) → (storedIs (b .«record») ≡ stored (stopB (limits C H age i) (recordIs r))) × (b .aged ≡ ages (limits C H age i) (recordIs r))) ⌝ }
+    ensures { λ b. ⌜ ((C H : ℕ) (i : Bool)
+        → (storedIs (b .«record») ≡ stored (stopB (limits C H age i) (recordIs r))) ×
+        (b .aged ≡ ages (limits C H age i) (recordIs r))) ⌝ }
 {
     let s = r.status;
     let counts = counts_for_ageing(s) & s.contains(Status::CONFIRMED_DTC);

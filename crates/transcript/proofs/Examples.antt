@@ -8,7 +8,8 @@ use Rattle.manual.specs.Words.{those, joinBelow}
 use Rattle.manual.specs.State.{storedAt}
 use Rattle.transcript.specs.declared.Word.{Word}
 use Rattle.transcript.specs.declared.Word.the-variants.{Number, Unreadable, End}
-use Rattle.transcript.specs.Text.{words, isSeparator, run, oneToNineDigits, worth, withSign, isNumber, valueOf, readWord, nextRead}
+use Rattle.transcript.specs.Text.{words, isSeparator, run, oneToNineDigits, worth}
+use Rattle.transcript.specs.Text.{withSign, isNumber, valueOf, readWord, nextRead}
 use Rattle.transcript.specs.Line.{decimal, spaced, statusBytes, line}
 
 -- " 12  -7\n\t8"
@@ -25,7 +26,8 @@ three-words = refl
 
 -- read from the front, from inside 12, from behind 12, behind -7, at the end, past the end
 pub text-read :
-    map (λ at. nextRead at text) (0 ∷ 2 ∷ 3 ∷ 7 ∷ 10 ∷ 99 ∷ []) ≡ number (pos 12) false 3 ∷ number (pos 2) false 3 ∷ number (negsuc 6) true 7 ∷ Unreadable ∷ End ∷ End ∷ []
+    map (λ at. nextRead at text) (0 ∷ 2 ∷ 3 ∷ 7 ∷ 10 ∷ 99 ∷ [])
+    ≡ number (pos 12) false 3 ∷ number (pos 2) false 3 ∷ number (negsuc 6) true 7 ∷ Unreadable ∷ End ∷ End ∷ []
 unfolding words those isSeparator run oneToNineDigits worth withSign isNumber valueOf readWord nextRead
 text-read = refl
 
@@ -41,7 +43,8 @@ pub words-read :
     ∷ (0x2B ∷ 0x31 ∷ [])
     ∷ (0x2D ∷ 0x2D ∷ 0x31 ∷ [])
     ∷ [])
-    ≡ number (pos 0) true 9 ∷ number (pos 1) false 9 ∷ Unreadable ∷ number (negsuc 999_999_998) true 9 ∷ Unreadable ∷ Unreadable ∷ Unreadable ∷ Unreadable ∷ []
+    ≡ number (pos 0) true 9 ∷ number (pos 1) false 9 ∷ Unreadable ∷ number (negsuc 999_999_998) true 9 ∷ Unreadable
+    ∷ Unreadable ∷ Unreadable ∷ Unreadable ∷ []
 unfolding oneToNineDigits worth withSign isNumber valueOf readWord
 words-read = refl
 
@@ -54,6 +57,7 @@ pub refused-line : line 2 (statusBytes 0 []) ≡ 0x32 ∷ 0x0A ∷ []
 unfolding decimal spaced flatMap statusBytes joinBelow storedAt line
 refused-line = refl
 
-pub longer-line : line 0 (statusBytes 2 (47 ∷ 1 ∷ 0 ∷ 0 ∷ 255 ∷ 2 ∷ 3 ∷ 4 ∷ [])) ≡ 0x30 ∷ 0x20 ∷ 0x34 ∷ 0x37 ∷ 0x20 ∷ 0x32 ∷ 0x35 ∷ 0x35 ∷ 0x0A ∷ []
+pub longer-line : line 0 (statusBytes 2 (47 ∷ 1 ∷ 0 ∷ 0 ∷ 255 ∷ 2 ∷ 3 ∷ 4 ∷ []))
+    ≡ 0x30 ∷ 0x20 ∷ 0x34 ∷ 0x37 ∷ 0x20 ∷ 0x32 ∷ 0x35 ∷ 0x35 ∷ 0x0A ∷ []
 unfolding decimal spaced flatMap statusBytes joinBelow storedAt line
 longer-line = refl

@@ -17,7 +17,12 @@ pub decimal-few : (n : ℕ) → length (decimal n) ≤ 3
 unfolding decimal
 decimal-few n = go (ltb n 10) (ltb n 100)
   where
-    go : (one two : Bool) → length (cond one (digit n ∷ []) (cond two (digit (n / 10) ∷ digit (n % 10) ∷ []) (digit (n / 100) ∷ digit (n / 10 % 10) ∷ digit (n % 10) ∷ []))) ≤ 3
+    go : (one two : Bool)
+        → length
+        (cond one (digit n ∷ [])
+        (cond two (digit (n / 10) ∷ digit (n % 10) ∷ [])
+        (digit (n / 100) ∷ digit (n / 10 % 10) ∷ digit (n % 10) ∷ [])))
+        ≤ 3
     go true two = omega arith
     go false true = omega arith
     go false false = omega arith
@@ -31,7 +36,8 @@ spaced-few n = omega (arith, decimal-few n)
 flatMap-append : (f : ℕ → List ℕ) (xs ys : List ℕ) → flatMap f (xs ++ ys) ≡ flatMap f xs ++ flatMap f ys
 unfolding flatMap
 flatMap-append f [] ys = refl
-flatMap-append f (x ∷ xs) ys = ap (λ l. f x ++ l) (flatMap-append f xs ys) ∙ sym (append-assoc (f x) (flatMap f xs) (flatMap f ys))
+flatMap-append f (x ∷ xs) ys =
+    ap (λ l. f x ++ l) (flatMap-append f xs ys) ∙ sym (append-assoc (f x) (flatMap f xs) (flatMap f ys))
 
 -- ---- statusBytes
 
@@ -40,13 +46,20 @@ module _ (records : List ℕ) where
   unfolding statusBytes joinBelow flatMap
   statuses-none = refl
 
-  pub statuses-more : (e : ℕ) → flatMap spaced (statusBytes (e + 1) records) ≡ flatMap spaced (statusBytes e records) ++ spaced (getD records (4 * e) 0)
+  pub statuses-more : (e : ℕ)
+      → flatMap spaced (statusBytes (e + 1) records)
+      ≡ flatMap spaced (statusBytes e records) ++ spaced (getD records (4 * e) 0)
   unfolding statusBytes joinBelow flatMap storedAt
-  statuses-more e = rw (add-one e) (flatMap-append spaced (statusBytes e records) (storedAt e records .status ∷ []) ∙ ap (λ l. flatMap spaced (statusBytes e records) ++ l) (append-nil (spaced (getD records (4 * e) 0))))
+  statuses-more e =
+      rw (add-one e)
+      (flatMap-append spaced (statusBytes e records) (storedAt e records .status ∷ [])
+      ∙ ap (λ l. flatMap spaced (statusBytes e records) ++ l) (append-nil (spaced (getD records (4 * e) 0))))
 
   pub statuses-few : (n : ℕ) → length (flatMap spaced (statusBytes n records)) ≤ 4 * n
   statuses-few zero = rw statuses-none (omega arith)
-  statuses-few (suc n) = rw (← add-one n, statuses-more n, length-append) (omega (arith, statuses-few n, spaced-few (getD records (4 * n) 0)))
+  statuses-few (suc n) =
+      rw (← add-one n, statuses-more n, length-append)
+      (omega (arith, statuses-few n, spaced-few (getD records (4 * n) 0)))
 
   -- ---- line
 

@@ -17,7 +17,8 @@ use Rattle.history.specs.Words.{same, allOf, since, joined, cutAt}
 use Rattle.history.proofs.WordsLaws.{and-left, and-right, cutAt-newest}
 use Rattle.manual.specs.Words.{those}
 use Rattle.manual.proofs.WordsLaws.{by}
-use Rattle.transcript.specs.Text.{isSeparator, run, notEmpty, words, isDigit, oneToNineDigits, worth, hasMinus, withSign, isNumber, valueOf, readWord, nextRead}
+use Rattle.transcript.specs.Text.{isSeparator, run, notEmpty, words, isDigit, oneToNineDigits, worth}
+use Rattle.transcript.specs.Text.{hasMinus, withSign, isNumber, valueOf, readWord, nextRead}
 use Rattle.transcript.specs.declared.Word.the-variants.{Number, Unreadable, End}
 
 -- ---- run
@@ -37,11 +38,13 @@ agree false false e = refl
 
 -- the loop that counts a run: a turn, the byte that ends the run, the end of the text
 module _ (text : List ℕ) (separators : Bool) (i : ℕ) where
-  pub run-more : i < length text → same separators (isSeparator (getD text i 0)) ≡ true → i + run separators (drop i text) ≡ i + 1 + run separators (drop (i + 1) text)
+  pub run-more : i < length text → same separators (isSeparator (getD text i 0)) ≡ true
+      → i + run separators (drop i text) ≡ i + 1 + run separators (drop (i + 1) text)
   unfolding run
   run-more h e = rw (drop-cons text i 0 h, e, add-one) (omega arith)
 
-  pub run-stop : i < length text → same separators (isSeparator (getD text i 0)) ≡ false → i + run separators (drop i text) ≡ i
+  pub run-stop : i < length text → same separators (isSeparator (getD text i 0)) ≡ false
+      → i + run separators (drop i text) ≡ i
   unfolding run
   run-stop h e = rw (drop-cons text i 0 h, e) (add-zero i)
 
@@ -52,7 +55,8 @@ module _ (text : List ℕ) (separators : Bool) (i : ℕ) where
 pub run-within : (separators : Bool) (text : List ℕ) → run separators text ≤ length text
 unfolding run
 run-within k [] = omega arith
-run-within k (b ∷ text) = by (same k (isSeparator b)) (λ n. n ≤ suc (length text)) (λ t. omega (arith, run-within k text)) (λ t. omega arith)
+run-within k (b ∷ text) =
+    by (same k (isSeparator b)) (λ n. n ≤ suc (length text)) (λ t. omega (arith, run-within k text)) (λ t. omega arith)
 
 -- ---- words
 
@@ -62,7 +66,8 @@ unfolding words those run
 words-gap [] = refl
 words-gap (b ∷ text) = go (isSeparator b) refl (words-gap text)
   where
-    go : (t : Bool) → isSeparator b ≡ t → words text ≡ words (drop (run true text) text) → words (b ∷ text) ≡ words (drop (cond t (suc (run true text)) zero) (b ∷ text))
+    go : (t : Bool) → isSeparator b ≡ t → words text ≡ words (drop (run true text) text)
+        → words (b ∷ text) ≡ words (drop (cond t (suc (run true text)) zero) (b ∷ text))
     go true e ih = rw e ih
     go false e ih = refl
 
@@ -72,7 +77,8 @@ unfolding run
 first-part [] = refl
 first-part (b ∷ text) = go (isSeparator b) (first-part text)
   where
-    go : (t : Bool) → since isSeparator text ≡ take (run false text) text → cond t [] (b ∷ since isSeparator text) ≡ take (cond (not t) (suc (run false text)) zero) (b ∷ text)
+    go : (t : Bool) → since isSeparator text ≡ take (run false text) text
+        → cond t [] (b ∷ since isSeparator text) ≡ take (cond (not t) (suc (run false text)) zero) (b ∷ text)
     go true ih = refl
     go false ih = ap (λ l. b ∷ l) ih
 
@@ -81,17 +87,21 @@ unfolding words those run
 later-parts [] = refl
 later-parts (b ∷ text) = go (isSeparator b) refl (later-parts text)
   where
-    go : (t : Bool) → isSeparator b ≡ t → those notEmpty (tail (cutAt isSeparator text)) ≡ words (drop (run false text) text)
-        → those notEmpty (tail (cond t ([] ∷ cutAt isSeparator text) (joined b (cutAt isSeparator text)))) ≡ words (drop (cond (not t) (suc (run false text)) zero) (b ∷ text))
+    go : (t : Bool) → isSeparator b ≡ t
+        → those notEmpty (tail (cutAt isSeparator text)) ≡ words (drop (run false text) text)
+        → those notEmpty (tail (cond t ([] ∷ cutAt isSeparator text) (joined b (cutAt isSeparator text))))
+        ≡ words (drop (cond (not t) (suc (run false text)) zero) (b ∷ text))
     go true e ih = rw e
     go false e ih = rw cutAt-newest ih
 
-words-first : (text : List ℕ) → 0 < run false text → words text ≡ take (run false text) text ∷ words (drop (run false text) text)
+words-first : (text : List ℕ) → 0 < run false text
+    → words text ≡ take (run false text) text ∷ words (drop (run false text) text)
 unfolding words those
 words-first text h =
     let e : length (take (run false text) text) ≡ run false text = length-take-le _ text (run-within false text) in
     let k : 1 ≤ length (take (run false text) text) = omega arith in
-    rw (cutAt-newest isSeparator text, first-part text, le-leb 1 (length (take (run false text) text)) k) (ap (λ l. take (run false text) text ∷ l) (later-parts text))
+    rw (cutAt-newest isSeparator text, first-part text, le-leb 1 (length (take (run false text) text)) k)
+    (ap (λ l. take (run false text) text ∷ l) (later-parts text))
 
 -- behind the separators in front a word begins, unless the text ends there
 word-begins : (text : List ℕ) → run true text < length text → 0 < run false (drop (run true text) text)
@@ -100,7 +110,8 @@ word-begins [] h = h
 word-begins (b ∷ text) h = go (isSeparator b) refl h (word-begins text)
   where
     go : (t : Bool) → isSeparator b ≡ t → cond t (suc (run true text)) zero < suc (length text)
-        → (run true text < length text → 0 < run false (drop (run true text) text)) → 0 < run false (drop (cond t (suc (run true text)) zero) (b ∷ text))
+        → (run true text < length text → 0 < run false (drop (run true text) text))
+        → 0 < run false (drop (cond t (suc (run true text)) zero) (b ∷ text))
     go true e k ih = ih (omega arith)
     go false e k ih = rw e (omega arith)
 
@@ -120,7 +131,8 @@ module _ (at : ℕ) (text : List ℕ) where
   pub not-found : length text ≤ at + run true (drop at text) → words (drop at text) ≡ []
   not-found h = words-none (drop at text) (rw length-drop (omega arith))
 
-  pub found : (start end : ℕ) → start ≡ at + run true (drop at text) → start < length text → end ≡ start + run false (drop start text) → Found at text start end
+  pub found : (start end : ℕ) → start ≡ at + run true (drop at text) → start < length text
+      → end ≡ start + run false (drop start text) → Found at text start end
   found start end s h e =
       let gap = run true (drop at text) in
       let size = run false (drop start text) in
@@ -128,13 +140,16 @@ module _ (at : ℕ) (text : List ℕ) where
       let some : 0 < size = rw there (word-begins (drop at text) (rw length-drop (omega arith))) in
       let fits : end ≤ length text = omega (arith, run-within false (drop start text), length-drop start text) in
       let width : size ≡ end - start = omega arith in
-      let behind : drop size (drop start text) ≡ drop end text = drop-drop size start text ∙ ap (λ k. drop k text) (sym e) in
+      let behind : drop size (drop start text) ≡ drop end text =
+      drop-drop size start text ∙ ap (λ k. drop k text) (sym e) in
       record {
         begins = s;
         longer = omega arith;
         within = fits;
         sized = length-take-le (end - start) (drop start text) (rw length-drop (omega arith));
-        first = words-gap (drop at text) ∙ sym (ap words there) ∙ words-first (drop start text) some ∙ (λ i. take (width i) (drop start text) ∷ words (behind i));
+        first =
+            words-gap (drop at text) ∙ sym (ap words there) ∙ words-first (drop start text) some
+            ∙ (λ i. take (width i) (drop start text) ∷ words (behind i));
       }
 
 -- ---- digits
@@ -176,13 +191,15 @@ unfolding worth
 worth-least n [] = omega arith
 worth-least n (b ∷ digits) = omega (arith, worth-least (10 * n + (b - 0x30)) digits)
 
-worth-below : (k n : ℕ) (digits : List ℕ) → n < 10 ^ k → allOf isDigit digits ≡ true → worth n digits < 10 ^ (k + length digits)
+worth-below : (k n : ℕ) (digits : List ℕ) → n < 10 ^ k → allOf isDigit digits ≡ true
+    → worth n digits < 10 ^ (k + length digits)
 unfolding worth
 worth-below k n [] h t = rw add-zero h
 worth-below k n (b ∷ digits) h t =
     let d = digit-most b (and-left (isDigit b) (allOf isDigit digits) t) in
     let m : 10 * n + (b - 0x30) < 10 ^ suc k = rw pow-suc (omega arith) in
-    rw (add-suc, ← suc-add) (worth-below (suc k) (10 * n + (b - 0x30)) digits m (and-right (isDigit b) (allOf isDigit digits) t))
+    rw (add-suc, ← suc-add)
+    (worth-below (suc k) (10 * n + (b - 0x30)) digits m (and-right (isDigit b) (allOf isDigit digits) t))
 
 pub worth-most : (digits : List ℕ) → oneToNineDigits digits ≡ true → worth 0 digits < 10 ^ 9
 worth-most digits t =
@@ -211,10 +228,13 @@ module _ (digits : List ℕ) (i n : ℕ) (s : Added digits i n) where
     added-digit = s .so-far ∙ rw (drop-cons digits i 0 h, add-one)
 
     pub added-more : (m : ℕ) → m ≡ 10 * n + (getD digits i 0 - 0x30) → Added digits (i + 1) m
-    added-more m e = record { so-far = rw e added-digit; left-over = sym (all-more isDigit digits i h added-here) ∙ s .left-over }
+    added-more m e =
+        record { so-far = rw e added-digit; left-over = sym (all-more isDigit digits i h added-here) ∙ s .left-over }
 
     pub added-room : oneToNineDigits digits ≡ true → n < 100000000
-    added-room t = omega (arith, worth-least (10 * n + (getD digits i 0 - 0x30)) (drop (i + 1) digits), added-digit, worth-most digits t)
+    added-room t =
+        omega
+        (arith, worth-least (10 * n + (getD digits i 0 - 0x30)) (drop (i + 1) digits), added-digit, worth-most digits t)
 
 -- ---- withSign
 
@@ -231,7 +251,8 @@ pub minus-width : (m : Bool) → boolByte m ≤ 1
 minus-width true = omega arith
 minus-width false = omega arith
 
-digits-part : (m : Bool) (word : List ℕ) → take (length word - boolByte m) (drop (boolByte m) word) ≡ cond m (drop 1 word) word
+digits-part : (m : Bool) (word : List ℕ)
+    → take (length word - boolByte m) (drop (boolByte m) word) ≡ cond m (drop 1 word) word
 digits-part true word = take-all (length word - 1) (drop 1 word) (simp length-drop (omega arith))
 digits-part false word = take-all (length word - 0) word (omega arith)
 
@@ -254,7 +275,8 @@ module _ (word : List ℕ) (end : ℕ) where
   unfolding readWord
   reads-unreadable e = rw e
 
-  pub reads-number : isNumber word ≡ true → (value : ℤ) → value ≡ valueOf word → Number (record { value = value; minus = hasMinus word; next = record { at = end } }) ≡ readWord word end
+  pub reads-number : isNumber word ≡ true → (value : ℤ) → value ≡ valueOf word
+      → Number (record { value = value; minus = hasMinus word; next = record { at = end } }) ≡ readWord word end
   unfolding readWord
   reads-number e value v = rw (e, v)
 
@@ -265,8 +287,10 @@ module _ (at : ℕ) (text : List ℕ) where
   unfolding nextRead
   next-end h = rw (not-found at text h)
 
-  pub next-word : (start end : ℕ) → Found at text start end → readWord (take (end - start) (drop start text)) end ≡ nextRead at text
+  pub next-word : (start end : ℕ) → Found at text start end
+      → readWord (take (end - start) (drop start text)) end ≡ nextRead at text
   unfolding nextRead
   next-word start end f =
-      let behind : at + run true (drop at text) + length (take (end - start) (drop start text)) ≡ end = rw (← f .begins, f .sized) (omega (arith, f .longer)) in
+      let behind : at + run true (drop at text) + length (take (end - start) (drop start text)) ≡ end =
+      rw (← f .begins, f .sized) (omega (arith, f .longer)) in
       rw (f .first, behind)

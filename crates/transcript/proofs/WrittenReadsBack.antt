@@ -1,4 +1,5 @@
--- What is written reads back: the decimal digits of a number below 1000 are a number of the input, without a minus, of that value.
+-- What is written reads back: the decimal digits of a number below 1000 are a number of the input, without a minus, of
+-- that value.
 use mathlib.Core.Path.{_≡_, refl}
 use mathlib.Core.Bool.{Bool, true, false, not}
 use mathlib.Core.List.{List, [], _∷_}

@@ -1,5 +1,5 @@
--- Document 01, "Replay program", its output: "Each call prints answer and all status bytes, decimal, single spaces, newline."
--- Assumes nothing.
+-- Document 01, "Replay program", its output: "Each call prints answer and all status bytes, decimal, single spaces,
+-- newline." Assumes nothing.
 use mathlib.Core.Bool.{cond}
 use mathlib.Core.List.{List, [], _∷_, _++_, flatMap}
 use Prim.Native.Nat.{ℕ, _+_, _*_, _/_, _%_, _≤_}
@@ -31,7 +31,8 @@ statusBytes n records = joinBelow n (λ e. storedAt e records .status ∷ [])
 unfoldable pub line : ℕ → List ℕ → List ℕ
 line answer statuses = decimal answer ++ flatMap spaced statuses ++ (newline ∷ [])
 
--- what the code asks before it writes the status bytes of n events from `at` on: a space and three digits at most for each
+-- what the code asks before it writes the status bytes of n events from `at` on: a space and three digits at most for
+-- each
 pub record Room (n : ℕ) (records : List ℕ) (at : ℕ) (buffer : List ℕ) : Type 0 where
   pub records-long : recordWidth * n ≤ length records
   pub buffer-long : at + 4 * n ≤ length buffer

@@ -1,5 +1,5 @@
--- Document 01, "Replay program", its input: "decimal numbers (optional minus, 1 to 9 digits) between spaces or newlines".
--- Assumes nothing.
+-- Document 01, "Replay program", its input: "decimal numbers (optional minus, 1 to 9 digits) between spaces or
+-- newlines". Assumes nothing.
 use mathlib.Core.Bool.{Bool, true, _&&_, _||_, cond}
 use mathlib.Core.List.{List, [], _∷_}
 use Prim.Native.Nat.{ℕ, zero, suc, _+_, _-_, _*_}
@@ -73,7 +73,9 @@ valueOf word = withSign (hasMinus word) (worth 0 (digitsOf word))
 
 -- what a word reads as; `end` is the place behind it
 unfoldable pub readWord : List ℕ → ℕ → Word
-readWord word end = cond (isNumber word) (Number (record { value = valueOf word; minus = hasMinus word; next = record { at = end } })) Unreadable
+readWord word end =
+    cond (isNumber word) (Number (record { value = valueOf word; minus = hasMinus word; next = record { at = end } }))
+    Unreadable
 
 -- the first of these words, which begins at `start`
 abbrev pub firstRead : ℕ → List (List ℕ) → Word

@@ -6,7 +6,8 @@ ghost use Prim.Native.Nat.{_+_, _-_, _*_, _≤_, _<_};
 ghost use lib.ListN.{length, drop};
 ghost use Rattle.history.specs.Words.{allOf};
 ghost use Rattle.writing.specs.Writing.{written, append, filled};
-ghost use Rattle.transcript.specs.Text.{isSeparator, run, isDigit, oneToNineDigits, worth, withSign, readWord, nextRead};
+ghost use Rattle.transcript.specs.Text.{isSeparator, run, isDigit, oneToNineDigits};
+ghost use Rattle.transcript.specs.Text.{worth, withSign, readWord, nextRead};
 ghost use Rattle.transcript.specs.Line.{decimal, spaced, statusBytes, line, Room};
 
 // A place in the input.
@@ -166,7 +167,8 @@ fn put_spaced(buffer: &mut [u8], at: usize, n: u8) -> usize
 // "all status bytes"
 fn put_statuses(buffer: &mut [u8], at: usize, records: &[u8], events: usize) -> usize
     requires { ⌜ Room events (now records) at (now buffer) ⌝ }
-    ensures { λ r. ⌜ written r (now (buffer .exit)) ≡ append (flatMap spaced (statusBytes events (now (records .entry)))) (written at (now (buffer .entry))) ⌝ }
+    ensures { λ r. ⌜ written r (now (buffer .exit))
+        ≡ append (flatMap spaced (statusBytes events (now (records .entry)))) (written at (now (buffer .entry))) ⌝ }
 {
     let mut next = at;
     let mut e = 0;
@@ -178,11 +180,12 @@ fn put_statuses(buffer: &mut [u8], at: usize, records: &[u8], events: usize) -> 
 }
 
 // "Each call prints answer and all status bytes, decimal, single spaces, newline."
-// The line stands at the front of the buffer, and its length comes back. The buffer has 4 bytes for the call's answer and the
-// newline, and 4 for each event.
+// The line stands at the front of the buffer, and its length comes back. The buffer has 4 bytes for the call's answer
+// and the newline, and 4 for each event.
 pub fn fill_line(buffer: &mut [u8], answer: u8, records: &[u8], events: usize) -> usize
     requires { ⌜ Room events (now records) 4 (now buffer) ⌝ }
-    ensures { λ r. ⌜ written r (now (buffer .exit)) ≡ filled (line answer (statusBytes events (now (records .entry)))) (now (buffer .entry)) ⌝ }
+    ensures { λ r. ⌜ written r (now (buffer .exit))
+        ≡ filled (line answer (statusBytes events (now (records .entry)))) (now (buffer .entry)) ⌝ }
 {
     let statuses = put_decimal(buffer, 0, answer);
     let end = put_statuses(buffer, statuses, records, events);

@@ -1,4 +1,5 @@
--- A list that is written place by place, over any elements: what stands in it after each turn of the loop, and at the end.
+-- A list that is written place by place, over any elements: what stands in it after each turn of the loop, and at the
+-- end.
 use mathlib.Core.Path.{_≡_, refl, sym, ap, _∙_}
 use mathlib.Core.List.{List, [], _∷_, _++_, append-nil}
 use Prim.Native.Nat.{ℕ, zero, suc, _+_, _≤_, _<_}
@@ -26,7 +27,8 @@ module _ {A : Type 0} where
       (λ j. set (sets l at (take i xs)) (at + sym e j) (q j))
       ∙ sets-append (take i xs) (getD xs i d ∷ []) l at ∙ rw (add-one, take-suc xs i d h)
 
-  pub sets-first : (d : A) (xs l : List A) (i : ℕ) {v : A} → i < length xs → v ≡ getD xs i d → set (sets l 0 (take i xs)) i v ≡ sets l 0 (take (i + 1) xs)
+  pub sets-first : (d : A) (xs l : List A) (i : ℕ) {v : A} → i < length xs → v ≡ getD xs i d
+      → set (sets l 0 (take i xs)) i v ≡ sets l 0 (take (i + 1) xs)
   sets-first d xs l i {v} h q = ap (λ k. set (sets l 0 (take i xs)) k v) (sym (zero-add i)) ∙ sets-more d xs l 0 i h q
 
   -- the end
@@ -60,9 +62,12 @@ module _ {A : Type 0} where
   unfolding laid
   sets-middle a xs o b e =
       sets-after a xs (o ++ b)
-      ∙ ap (λ (r : List A). a ++ r) (sets-laid xs (o ++ b) (omega (arith, length-append o b)) ∙ ap (λ (r : List A). xs ++ r) (drop-at o b (length xs) e))
+      ∙ ap (λ (r : List A). a ++ r)
+      (sets-laid xs (o ++ b) (omega (arith, length-append o b))
+      ∙ ap (λ (r : List A). xs ++ r) (drop-at o b (length xs) e))
 
--- ---- g is wanted, m was there: after i places the list is mix i g m. Each such loop has the invariant `l ≡ mix i g m`, and shows of
+-- ---- g is wanted, m was there: after i places the list is mix i g m. Each such loop has the invariant `l ≡ mix i g
+-- m`, and shows of
 -- itself only that it writes g's element at i.
 
 module _ {A : Type 0} where
@@ -70,18 +75,23 @@ module _ {A : Type 0} where
   mix i g m = take i g ++ drop i m
 
   -- a turn
-  mix-next : (d : A) (g m : List A) (i : ℕ) → i < length g → i < length m → set (mix i g m) i (getD g i d) ≡ mix (suc i) g m
+  mix-next : (d : A) (g m : List A) (i : ℕ) → i < length g → i < length m
+      → set (mix i g m) i (getD g i d) ≡ mix (suc i) g m
   mix-next d [] m i h k = absurd (not-suc-le-zero h)
   mix-next d (x ∷ xs) [] i h k = absurd (not-suc-le-zero k)
   mix-next d (x ∷ xs) (y ∷ ys) zero h k = refl
-  mix-next d (x ∷ xs) (y ∷ ys) (suc i) h k = ap (λ (l : List A). x ∷ l) (mix-next d xs ys i (le-of-suc-le-suc h) (le-of-suc-le-suc k))
+  mix-next d (x ∷ xs) (y ∷ ys) (suc i) h k =
+      ap (λ (l : List A). x ∷ l) (mix-next d xs ys i (le-of-suc-le-suc h) (le-of-suc-le-suc k))
 
-  pub mix-more : (d : A) (g m : List A) (i : ℕ) (v : A) → length g ≡ length m → i < length m → v ≡ getD g i d → set (mix i g m) i v ≡ mix (i + 1) g m
+  pub mix-more : (d : A) (g m : List A) (i : ℕ) (v : A) → length g ≡ length m → i < length m → v ≡ getD g i d
+      → set (mix i g m) i v ≡ mix (i + 1) g m
   mix-more d g m i v e h q = rw (q, add-one) (mix-next d g m i (omega arith) h)
 
   -- the end
   pub mix-all : (g m : List A) (i : ℕ) → length g ≡ length m → i ≡ length m → mix i g m ≡ g
-  mix-all g m i e q = ap (λ (l : List A). take i g ++ l) (drop-of-length-le m {i = i} (omega arith)) ∙ append-nil (take i g) ∙ take-all i g (omega arith)
+  mix-all g m i e q =
+      ap (λ (l : List A). take i g ++ l) (drop-of-length-le m {i = i} (omega arith)) ∙ append-nil (take i g)
+      ∙ take-all i g (omega arith)
 
   -- what is not written yet
   pub mix-later : (d : A) (g m : List A) (i k : ℕ) → length g ≡ length m → i ≤ k → getD (mix i g m) k d ≡ getD m k d

@@ -11,7 +11,10 @@ enum-told : tie.Need-enum-told
 enum-told c = search needs
 
 clear-covered-requires : tie.Need-clear-covered-requires
-clear-covered-requires c κs = may-clear _ _ _ (passed-by _ (c .before .before .before .before .before .judge .ensures) (c .before .before .before .enum-told .given .1))
+clear-covered-requires c κs =
+    may-clear _ _ _
+    (passed-by _ (c .before .before .before .before .before .judge .ensures)
+    (c .before .before .before .enum-told .given .1))
 
 returns : tie.Need-returns
 unfolding clearCode
@@ -19,7 +22,8 @@ returns c =
     let c8 = c .before .before .before .before .before .before .before .before in
     let judge = c8 .before .before .before .judge in
     let enum-told = c8 .before .enum-told in
-    accepted-by _ (judge .ensures) _ _ _ (enum-told .given .1) (ap (done alone) (c .before .before .before .before .before .clear-covered .ensures))
+    accepted-by _ (judge .ensures) _ _ _ (enum-told .given .1)
+    (ap (done alone) (c .before .before .before .before .before .clear-covered .ensures))
 
 returns-2 : tie.Need-returns-2
 unfolding clearCode

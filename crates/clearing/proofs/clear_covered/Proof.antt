@@ -14,7 +14,8 @@ use Rattle.clearing.proofs.clear_covered.Tie as tie
 
 abbrev Inv-loop : tie.InvT-loop
 Inv-loop cfg records₀ debounce₀ memory₀ board code event₀ event-end records debounce memory event =
-    (event ≤ event-end) × (lent records debounce memory board ≡ upTo cfg code event (lent records₀ debounce₀ memory₀ board))
+    (event ≤ event-end) ×
+    (lent records debounce memory board ≡ upTo cfg code event (lent records₀ debounce₀ memory₀ board))
     × (length records ≡ length records₀) × (length debounce ≡ length debounce₀) × (length memory ≡ length memory₀)
 
 abbrev μ-loop : tie.MeasureT-loop
@@ -32,7 +33,8 @@ clear-if-covered-requires c κs =
     let c8 = c .before .before .before .before .before .before .before .before in
     let loop = c .before .before .before .before .loop in
     let pre = c8 .pre in
-    let h : loop .event < events (now (c8 .args .cfg)) = omega (arith, c .before .before .before .before .before .events .ensures) in
+    let h : loop .event < events (now (c8 .args .cfg)) =
+    omega (arith, c .before .before .before .before .before .events .ensures) in
     fits-at _ (c8 .args .code) _ (pre .0) (pre .1) _ h (loop .inv .1)
 
 loop-again : tie.Need-loop-again Inv-loop μ-loop
@@ -40,8 +42,14 @@ loop-again c =
     let c8 = c .before .before .before .before .before .before .before .before in
     let loop = c8 .before .before .loop in
     let step = c .before .before .before .before .before .clear-if-covered in
-    let a = c8 .before .before .before .before .before .before .args in
-    (omega arith, next-turn (covers (now (a .cfg)) (a .code)) (clears (now (a .cfg))) (loop .event) _ (loop .inv .1) (step .ensures _), step .kept .1 .0 ∙ loop .inv .2, step .kept .1 .1 .0 ∙ loop .inv .3, step .kept .1 .1 .1 .0 ∙ loop .inv .4)
+    let a = c8 .before .before .before .before .before .before .args in (
+      omega arith,
+      next-turn (covers (now (a .cfg)) (a .code)) (clears (now (a .cfg))) (loop .event) _ (loop .inv .1)
+          (step .ensures _),
+      step .kept .1 .0 ∙ loop .inv .2,
+      step .kept .1 .1 .0 ∙ loop .inv .3,
+      step .kept .1 .1 .1 .0 ∙ loop .inv .4,
+    )
 
 overflow-cleared-requires : tie.Need-overflow-cleared-requires Inv-loop μ-loop
 overflow-cleared-requires c κs = tt

@@ -10,10 +10,14 @@ returns : tie.Need-returns
 returns c = sym (known-where-all _ (c .before .pre) _ (eq-eqb _ _ (c .if1 .taken)))
 
 returns-2 : tie.Need-returns-2
-returns-2 c = sym (known-where-found _ _ _ (sym (c .before .before .find-code .ensures) ∙ ap searchIs (c .enum-told .given .1)))
+returns-2 c =
+    sym (known-where-found _ _ _ (sym (c .before .before .find-code .ensures) ∙ ap searchIs (c .enum-told .given .1)))
 
 returns-3 : tie.Need-returns-3
-returns-3 c = sym (unknown-where-nothing _ _ (ne-eqb _ _ (c .before .before .before .if1 .left)) (sym (c .before .before .find-code .ensures) ∙ ap searchIs (c .enum-told2 .given .1)))
+returns-3 c =
+    sym
+    (unknown-where-nothing _ _ (ne-eqb _ _ (c .before .before .before .if1 .left))
+    (sym (c .before .before .find-code .ensures) ∙ ap searchIs (c .enum-told2 .given .1)))
 
 pub is-unknown-spec : {M : Type 1} → statement M
 is-unknown-spec =

@@ -10,7 +10,9 @@ judge-code-requires c κs = begun-by _ _ true (c .before .before .begin .ensures
 
 returns : tie.Need-returns
 unfolding clearRules
-returns c = judged-by _ _ true (c .before .before .before .begin .ensures) _ (c .before .enum-told .given .1) (c .judge-code .ensures)
+returns c =
+    judged-by _ _ true (c .before .before .before .begin .ensures) _ (c .before .enum-told .given .1)
+    (c .judge-code .ensures)
 
 returns-2 : tie.Need-returns-2
 unfolding clearRules

@@ -48,10 +48,18 @@ rows-fit-requires : tie.Need-rows-fit-requires
 rows-fit-requires c κs = at-most (c .before)
 
 returns-2 : tie.Need-returns-2
-returns-2 c = rw (judged-in-one-pass, fits (c .before .before .before), sym (c .before .before .events .ensures), eq-eqb _ _ (c .before .if2 .taken)) (c .rows-fit .ensures)
+returns-2 c =
+    rw (
+      judged-in-one-pass,
+      fits (c .before .before .before),
+      sym (c .before .before .events .ensures),
+      eq-eqb _ _ (c .before .if2 .taken),
+    )
+    (c .rows-fit .ensures)
 
 returns-3 : tie.Need-returns-3
-returns-3 c = rw (judged-in-one-pass, fits (c .before .before), sym (c .before .events .ensures), ne-eqb _ _ (c .if2 .left))
+returns-3 c =
+    rw (judged-in-one-pass, fits (c .before .before), sym (c .before .events .ensures), ne-eqb _ _ (c .if2 .left))
 
 pub config-ok-spec : {M : Type 1} → statement M
 config-ok-spec =

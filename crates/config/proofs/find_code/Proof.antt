@@ -39,7 +39,9 @@ returns c =
     }))
 
 loop-again : tie.Need-loop-again Inv-loop μ-loop
-loop-again c = below-more _ _ (c .before .before .before .loop .inv) (eqb-false _ _ (sym (c .before .has-code .ensures) ∙ c .if1 .left))
+loop-again c =
+    below-more _ _ (c .before .before .before .loop .inv)
+    (eqb-false _ _ (sym (c .before .has-code .ensures) ∙ c .if1 .left))
 
 returns-2 : tie.Need-returns-2 Inv-loop μ-loop
 returns-2 c = sym (nothing-is _ _ (λ e h. c .before .loop .inv e (omega (arith, c .before .before .events .ensures))))

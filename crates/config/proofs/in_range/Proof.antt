@@ -4,7 +4,9 @@ use Rattle.config.proofs.in_range.Statement.{statement}
 use Rattle.config.proofs.in_range.Tie as tie
 
 returns : tie.Need-returns
-returns c = between-back (c .before .before .fits .lo) (c .before .before .fits .hi) (c .before .number-in-row .result) (c .before .number-in-row .ok) (c .between .ensures) (c .before .number-in-row .ensures)
+returns c =
+    between-back (c .before .before .fits .lo) (c .before .before .fits .hi) (c .before .number-in-row .result)
+    (c .before .number-in-row .ok) (c .between .ensures) (c .before .number-in-row .ensures)
 
 pub in-range-spec : {M : Type 1} → statement M
 in-range-spec = tie.close

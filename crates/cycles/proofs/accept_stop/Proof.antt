@@ -19,7 +19,9 @@ use Rattle.cycles.proofs.accept_stop.Tie as tie
 abbrev Inv-loop : tie.InvT-loop
 Inv-loop cfg records₀ debounce₀ memory₀ board cycle event₀ event-end records debounce memory event =
     (event ≤ event-end)
-    × ((lent records debounce memory board ≡ forBelow event (turn (ofCycle cfg cycle) (stops cfg)) (lent records₀ debounce₀ memory₀ board))
+    ×
+    ((lent records debounce memory board
+    ≡ forBelow event (turn (ofCycle cfg cycle) (stops cfg)) (lent records₀ debounce₀ memory₀ board))
     × ((length records ≡ length records₀) × ((length debounce ≡ length debounce₀) × (length memory ≡ length memory₀))))
 
 abbrev μ-loop : tie.MeasureT-loop
@@ -37,17 +39,22 @@ stop-event-requires c κs =
     let a = c8 .args in
     let s = lent (now (a .records)) (now (a .debounce)) (now (a .memory)) (a .board) in
     let loop = c .before .before .before .before .loop in
-    let below : loop .event < events (now (a .cfg)) = rw (← c .before .before .before .before .before .events .ensures) (c .before .before .before .loop-test .taken) in
+    let below : loop .event < events (now (a .cfg)) =
+    rw (← c .before .before .before .before .before .events .ensures)
+    (c .before .before .before .loop-test .taken) in
     stop-fits (now (a .cfg)) s (a .cycle) (c8 .pre) (loop .event) below (loop .inv .1 .0)
 
 loop-again : tie.Need-loop-again Inv-loop μ-loop
 loop-again c =
-    let a = c .before .before .before .before .before .before .before .before .before .before .before .before .before .before .args in
+    let a =
+    c .before .before .before .before .before .before .before .before .before .before .before .before .before
+    .before .args in
     let s = lent (now (a .records)) (now (a .debounce)) (now (a .memory)) (a .board) in
     let loop = c .before .before .before .before .before .before .before .before .before .before .loop in (
       search needs,
       (
-        next-turn (ofCycle (now (a .cfg)) (a .cycle)) (stops (now (a .cfg))) (loop .event) s (loop .inv .1 .0) (c .before .before .before .before .before .stop-event .ensures (a .board)),
+        next-turn (ofCycle (now (a .cfg)) (a .cycle)) (stops (now (a .cfg))) (loop .event) s (loop .inv .1 .0)
+            (c .before .before .before .before .before .stop-event .ensures (a .board)),
         (search needs, (search needs, search needs)),
       ),
     )
@@ -59,7 +66,9 @@ returns c =
     let loop = c .before .before .loop in
     let all : loop .event ≡ events (now (a .cfg)) = omega (arith, c .before .before .before .events .ensures) in
     c .turned .ensures (loop .records) (loop .debounce) (loop .memory)
-    ∙ ap (withCycle (a .cycle) false) (last-turn (ofCycle (now (a .cfg)) (a .cycle)) (stops (now (a .cfg))) (now (a .cfg)) (loop .event) s all (loop .inv .1 .0))
+    ∙ ap (withCycle (a .cycle) false)
+    (last-turn (ofCycle (now (a .cfg)) (a .cycle)) (stops (now (a .cfg))) (now (a .cfg)) (loop .event) s all
+    (loop .inv .1 .0))
 
 pub accept-stop-spec : {M : Type 1} → statement M
 accept-stop-spec =

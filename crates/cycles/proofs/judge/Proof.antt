@@ -6,7 +6,9 @@ use Rattle.cycles.proofs.judge.Statement.{statement}
 use Rattle.cycles.proofs.judge.Tie as tie
 
 returns : tie.Need-returns
-returns c = judged-by _ _ true (c .before .before .before .begin .ensures) _ (c .before .enum-told .given .1) (c .four-five .ensures)
+returns c =
+    judged-by _ _ true (c .before .before .before .begin .ensures) _ (c .before .enum-told .given .1)
+    (c .four-five .ensures)
 
 returns-2 : tie.Need-returns-2
 returns-2 c = stopped-by _ _ true (c .before .before .before .begin .ensures) _ _ (c .before .refusal .given .1)

@@ -15,7 +15,8 @@ accept-start-requires c κs =
     let c8 = c .before .before .before .before .before .before .before .before in
     let a = c8 .args in
     let s = lent (now (a .records)) (now (a .debounce)) (now (a .memory)) (a .board) in
-    may-start (now (a .cfg)) s (a .cycle) _ (passed-by _ (c .before .before .before .judge .ensures) (c .before .enum-told .given .1))
+    may-start (now (a .cfg)) s (a .cycle) _
+    (passed-by _ (c .before .before .before .judge .ensures) (c .before .enum-told .given .1))
 
 returns : tie.Need-returns
 unfolding startCycle startRules
@@ -25,7 +26,8 @@ returns c =
     let judge = c .before .before .before .before .before .before .before .judge in
     let wrong = c8 .before .runs in
     let accept = c .before .before .before .accept-start in
-    accepted-by _ (rw (wrong .ensures) at (judge .ensures)) _ _ _ (c .before .before .before .before .before .enum-told .given .1)
+    accepted-by _ (rw (wrong .ensures) at (judge .ensures)) _ _ _
+    (c .before .before .before .before .before .enum-told .given .1)
     (c .done .ensures (accept .last .1 .0) (now (a .debounce)) (now (a .memory))
     ∙ ap (done alone) (accept .ensures (now (a .debounce)) (now (a .memory))))
 
@@ -34,7 +36,8 @@ unfolding startCycle startRules
 returns-2 c =
     let judge = c .before .before .before .before .judge in
     let wrong = c .before .before .before .before .before .before .runs in
-    refused-by _ (rw (wrong .ensures) at (judge .ensures)) _ _ _ _ (c .before .before .refusal .given .1) (c .refused .ensures _ _ _)
+    refused-by _ (rw (wrong .ensures) at (judge .ensures)) _ _ _ _ (c .before .before .refusal .given .1)
+    (c .refused .ensures _ _ _)
 
 pub start-spec : {M : Type 1} → statement M
 start-spec =

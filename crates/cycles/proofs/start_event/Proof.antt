@@ -7,8 +7,11 @@ use Rattle.cycles.proofs.start_event.Tie as tie
 
 returns : tie.Need-returns
 returns c =
-    λ d m b. rw (sym (c .before .before .before .before .before .of-cycle .ensures) ∙ c .before .before .before .before .if1 .taken)
-    (c .before .before .starts .ensures (now (c .before .before .before .before .before .before .before .args .cfg)) d m b)
+    λ d m b. rw
+    (sym (c .before .before .before .before .before .of-cycle .ensures)
+    ∙ c .before .before .before .before .if1 .taken)
+    (c .before .before .starts .ensures (now (c .before .before .before .before .before .before .before .args .cfg)) d m
+    b)
 
 returns-2 : tie.Need-returns-2
 returns-2 c = λ d m b. rw (sym (c .before .of-cycle .ensures) ∙ c .if1 .left)

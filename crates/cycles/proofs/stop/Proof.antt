@@ -15,7 +15,9 @@ accept-stop-requires c κs =
     let c8 = c .before .before .before .before .before .before .before .before in
     let a = c8 .before .before .before .before .args in
     let s = lent (now (a .records)) (now (a .debounce)) (now (a .memory)) (a .board) in
-    may-stop (now (a .cfg)) s (a .cycle) _ (passed-by _ (c .before .before .before .before .before .judge .ensures) (c .before .before .before .enum-told .given .1))
+    may-stop (now (a .cfg)) s (a .cycle) _
+    (passed-by _ (c .before .before .before .before .before .judge .ensures)
+    (c .before .before .before .enum-told .given .1))
 
 returns : tie.Need-returns
 unfolding stopCycle stopRules
@@ -27,7 +29,8 @@ returns c =
     let told = c8 .before .before .enum-told in
     let accept = c .before .before .before .before .before .before .accept-stop in
     accepted-by _ (rw (wrong .ensures) at (judge .ensures)) _ _ _ (told .given .1)
-    (c .done .ensures (accept .last .1 .0) (accept .last .1 .1 .0) (accept .last .1 .1 .1 .0) ∙ ap (done alone) (accept .ensures))
+    (c .done .ensures (accept .last .1 .0) (accept .last .1 .1 .0) (accept .last .1 .1 .1 .0)
+    ∙ ap (done alone) (accept .ensures))
 
 returns-2 : tie.Need-returns-2
 unfolding stopCycle stopRules
@@ -35,7 +38,8 @@ returns-2 c =
     let c8 = c .before .before .before .before .before .before .before .before in
     let judge = c .before .before .before .before .judge in
     let wrong = c8 .runs in
-    refused-by _ (rw (wrong .ensures) at (judge .ensures)) _ _ _ _ (c .before .before .refusal .given .1) (c .refused .ensures _ _ _)
+    refused-by _ (rw (wrong .ensures) at (judge .ensures)) _ _ _ _ (c .before .before .refusal .given .1)
+    (c .refused .ensures _ _ _)
 
 pub stop-spec : {M : Type 1} → statement M
 stop-spec =

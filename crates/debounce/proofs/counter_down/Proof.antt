@@ -10,7 +10,8 @@ use Rattle.debounce.proofs.counter_down.Statement.{statement}
 use Rattle.debounce.proofs.counter_down.Tie as tie
 
 lowered-requires : tie.Need-lowered-requires
-lowered-requires c κs = rw (toZ-ofZ (c .before .before .before .fits .d), down-back (c .before .before .before .pre .of-row)) (omega arith)
+lowered-requires c κs =
+    rw (toZ-ofZ (c .before .before .before .fits .d), down-back (c .before .before .before .pre .of-row)) (omega arith)
 
 returns : tie.Need-returns
 unfolding counterDown alone column

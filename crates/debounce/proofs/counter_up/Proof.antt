@@ -10,7 +10,8 @@ use Rattle.debounce.proofs.counter_up.Statement.{statement}
 use Rattle.debounce.proofs.counter_up.Tie as tie
 
 raised-requires : tie.Need-raised-requires
-raised-requires c κs = rw (toZ-ofZ (c .before .before .before .fits .d), up-back (c .before .before .before .pre .of-row)) (omega arith)
+raised-requires c κs =
+    rw (toZ-ofZ (c .before .before .before .fits .d), up-back (c .before .before .before .pre .of-row)) (omega arith)
 
 returns : tie.Need-returns
 unfolding counterUp alone column

@@ -25,7 +25,8 @@ negated-requires : tie.Need-negated-requires
 negated-requires c κs = rw (toZ-ofZ (c .fits .d)) (omega arith)
 
 negated-requires-2 : tie.Need-negated-requires-2
-negated-requires-2 c κs = rw (held (c .bottom .ensures) (c .bottom .ok)) (omega (arith, bottom-small (c .before .before .pre .of-row)))
+negated-requires-2 c κs =
+    rw (held (c .bottom .ensures) (c .bottom .ok)) (omega (arith, bottom-small (c .before .before .pre .of-row)))
 
 goes-on-requires : tie.Need-goes-on-requires
 goes-on-requires c κs =

@@ -21,7 +21,9 @@ returns-2 : tie.Need-returns-2
 unfolding ticked
 returns-2 c =
     let d = toZ-ofZ (c .before .before .before .before .before .before .fits .d) in
-    let top = held (c .before .before .before .before .before .top .ensures) (c .before .before .before .before .before .top .ok) in
+    let top =
+    held (c .before .before .before .before .before .top .ensures)
+    (c .before .before .before .before .before .top .ok) in
     let bottom = held (c .before .before .before .bottom .ensures) (c .before .before .before .bottom .ok) in
     simp (
       simp (d, top) at (c .before .before .before .before .if1 .left),

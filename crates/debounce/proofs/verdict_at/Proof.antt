@@ -16,7 +16,9 @@ returns-2 : tie.Need-returns-2
 unfolding verdictAt
 returns-2 c =
     let d = toZ-ofZ (c .before .before .before .before .before .before .fits .d) in
-    let top = held (c .before .before .before .before .before .top .ensures) (c .before .before .before .before .before .top .ok) in
+    let top =
+    held (c .before .before .before .before .before .top .ensures)
+    (c .before .before .before .before .before .top .ok) in
     let bottom = held (c .before .before .bottom .ensures) (c .before .before .bottom .ok) in
     rw (
       ← simp (d, top) at (c .before .before .before .before .same .ensures),
@@ -29,7 +31,9 @@ returns-3 : tie.Need-returns-3
 unfolding verdictAt
 returns-3 c =
     let d = toZ-ofZ (c .before .before .before .before .before .before .fits .d) in
-    let top = held (c .before .before .before .before .before .top .ensures) (c .before .before .before .before .before .top .ok) in
+    let top =
+    held (c .before .before .before .before .before .top .ensures)
+    (c .before .before .before .before .before .top .ok) in
     let bottom = held (c .before .before .bottom .ensures) (c .before .before .bottom .ok) in
     rw (
       ← simp (d, top) at (c .before .before .before .before .same .ensures),

@@ -6,13 +6,16 @@ use Rattle.diagnostics.proofs.accept.Tie as tie
 returns : tie.Need-returns
 returns c =
     let c8 = c .before .before .before .before .before .before .before .before in
-    replied-is _ _ (c8 .before .before .before .before .before .before .args .room .now) _ _ (c .before .size .given .1) (c .before .before .before .before .before .serve .ensures _)
+    replied-is _ _ (c8 .before .before .before .before .before .before .args .room .now) _ _ (c .before .size .given .1)
+    (c .before .before .before .before .before .serve .ensures _)
 
 returns-2 : tie.Need-returns-2
 returns-2 c =
     let c8 = c .before .before .before .before .before .before .before .before in
     let c16 = c8 .before .before .before .before .before .before .before .before in
-    cleared-is _ _ (c16 .before .before .before .before .before .before .before .args .room .now) _ _ (c8 .before .before .code .given .1) (c .before .before .before .before .before .clear-covered .ensures) (c8 .before .before .before .before .before .before .serve .ensures _)
+    cleared-is _ _ (c16 .before .before .before .before .before .before .before .args .room .now) _ _
+    (c8 .before .before .code .given .1) (c .before .before .before .before .before .clear-covered .ensures)
+    (c8 .before .before .before .before .before .before .serve .ensures _)
 
 pub accept-spec : {M : Type 1} → statement M
 accept-spec =

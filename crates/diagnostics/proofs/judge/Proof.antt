@@ -7,7 +7,9 @@ use Rattle.diagnostics.proofs.judge.Tie as tie
 
 returns : tie.Need-returns
 unfolding requestRules
-returns c = judged-by _ _ true (c .before .before .before .begin .ensures) _ (c .before .enum-told .given .1) (c .judge-sizes .ensures)
+returns c =
+    judged-by _ _ true (c .before .before .before .begin .ensures) _ (c .before .enum-told .given .1)
+    (c .judge-sizes .ensures)
 
 returns-2 : tie.Need-returns-2
 unfolding requestRules

@@ -6,7 +6,8 @@ use Rattle.diagnostics.proofs.list_all.Tie as tie
 returns : tie.Need-returns
 returns c b =
     let a = c .before .before .before .before .before .before .before .before .args in
-    by-reply _ (a .room .now) _ (list-all-is (a .cfg .now) (a .request .now) _ _) (c .before .before .list-asked .ensures b)
+    by-reply _ (a .room .now) _ (list-all-is (a .cfg .now) (a .request .now) _ _)
+    (c .before .before .list-asked .ensures b)
 
 pub list-all-spec : {M : Type 1} → statement M
 list-all-spec = tie.close

@@ -6,33 +6,47 @@ use borrow.Author.Needs.{needs}
 use Rattle.writing.proofs.WritingLaws.{append-then, append-next}
 use Rattle.manual.specs.State.{lent}
 use Rattle.diagnostics.specs.Replies.{holding}
-use Rattle.diagnostics.proofs.RepliesLaws.{written-is-sent, nothing-is-sent, by-turn, number-most, lines-length, lines-in, list-length, list-tests}
+use Rattle.diagnostics.proofs.RepliesLaws.{written-is-sent, nothing-is-sent, by-turn, number-most}
+use Rattle.diagnostics.proofs.RepliesLaws.{lines-length, lines-in, list-length, list-tests}
 use Rattle.diagnostics.proofs.list_asked.Statement.{statement}
 use Rattle.diagnostics.proofs.list_asked.Tie as tie
 
 mul-too-long : tie.Need-mul-too-long
-mul-too-long c = omega (arith, number-most _ (c .before .before .before .before .before .pre .config) _ (c .number-asked .ensures))
+mul-too-long c =
+    omega (arith, number-most _ (c .before .before .before .before .before .pre .config) _ (c .number-asked .ensures))
 
 add-too-long : tie.Need-add-too-long
-add-too-long c = omega (arith, number-most _ (c .before .before .before .before .before .pre .config) _ (c .number-asked .ensures))
+add-too-long c =
+    omega (arith, number-most _ (c .before .before .before .before .before .pre .config) _ (c .number-asked .ensures))
 
 write-lines-requires : tie.Need-write-lines-requires
 write-lines-requires c κs =
     let c8 = c .before .before .before .before .before .before .before .before in
     let t = c8 in
     let a = t .before .before .before .before .before .before .before .args in
-    let room : 3 + 4 * t .before .before .number-asked .result ≤ length (a .room .now) = ltb-false _ _ (t .turn-of .ensures .fits (c .before .before .before .before .before .before .enum-told2 .given .1)) in
+    let room : 3 + 4 * t .before .before .number-asked .result ≤ length (a .room .now) =
+    ltb-false _ _
+    (t .turn-of .ensures .fits (c .before .before .before .before .before .before .enum-told2 .given .1)) in
     record {
       config = t .before .before .before .before .before .before .before .pre .config;
-      within = omega (arith, lines-length (a .cfg .now) (a .asked) (holding (a .records .now) (a .debounce .now)), t .before .before .number-asked .ensures, append-next _ _ (c .before .before .before .write .ensures), c .before .before .before .write .kept .0);
+      within =
+          omega (
+            arith,
+            lines-length (a .cfg .now) (a .asked) (holding (a .records .now) (a .debounce .now)),
+            t .before .before .number-asked .ensures,
+            append-next _ _ (c .before .before .before .write .ensures),
+            c .before .before .before .write .kept .0,
+          );
     }
 
 returns : tie.Need-returns
 returns c b =
     let t = c .before .before .before .before .before .before .before in
     let a = t .before .before .before .before .before .before .before .args in
-    by-turn _ (a .room .now) _ _ (a .request .now) _ (t .turn-of .ensures) (c .before .before .before .before .before .code .given .1)
-    (list-tests _ _ _ _ (t .before .suppresses .ensures (a .cfg .now)) _ _ (a .asked) (t .before .before .number-asked .ensures))
+    by-turn _ (a .room .now) _ _ (a .request .now) _ (t .turn-of .ensures)
+    (c .before .before .before .before .before .code .given .1)
+    (list-tests _ _ _ _ (t .before .suppresses .ensures (a .cfg .now)) _ _ (a .asked)
+    (t .before .before .number-asked .ensures))
     (c .before .before .negative .ensures _ _)
 
 returns-2 : tie.Need-returns-2
@@ -40,7 +54,8 @@ returns-2 c b =
     let t = c .before .before in
     let a = t .before .before .before .before .before .before .before .args in
     by-turn _ (a .room .now) _ _ (a .request .now) _ (t .turn-of .ensures) (c .enum-told .given .1)
-    (list-tests _ _ _ _ (t .before .suppresses .ensures (a .cfg .now)) _ _ (a .asked) (t .before .before .number-asked .ensures))
+    (list-tests _ _ _ _ (t .before .suppresses .ensures (a .cfg .now)) _ _ (a .asked)
+    (t .before .before .number-asked .ensures))
     (nothing-is-sent _ _ _)
 
 returns-3 : tie.Need-returns-3
@@ -49,10 +64,18 @@ returns-3 c b =
     let a = t .before .before .before .before .before .before .before .args in
     let s = lent (a .records .now) (a .debounce .now) (a .memory .now) b in
     let long = list-length _ s (a .sub-function) (a .asked) (t .before .before .number-asked .ensures) in
-    by-turn _ (a .room .now) s _ (a .request .now) _ (t .turn-of .ensures) (c .before .before .before .before .before .before .before .before .before .enum-told2 .given .1)
-    (list-tests _ s _ _ (t .before .suppresses .ensures (a .cfg .now)) _ _ (a .asked) (t .before .before .number-asked .ensures))
-    (written-is-sent _ _ _ s (rw long (ltb-false _ _ (t .turn-of .ensures .fits (c .before .before .before .before .before .before .before .before .before .enum-told2 .given .1))))
-    (rw (lines-in _ s (a .asked)) (append-then _ _ _ (c .before .before .before .before .before .before .write .ensures) (c .before .before .write-lines .ensures))))
+    by-turn _ (a .room .now) s _ (a .request .now) _ (t .turn-of .ensures)
+    (c .before .before .before .before .before .before .before .before .before .enum-told2 .given .1)
+    (list-tests _ s _ _ (t .before .suppresses .ensures (a .cfg .now)) _ _ (a .asked)
+    (t .before .before .number-asked .ensures))
+    (written-is-sent _ _ _ s
+    (rw long
+    (ltb-false _ _
+    (t .turn-of .ensures .fits
+    (c .before .before .before .before .before .before .before .before .before .enum-told2 .given .1))))
+    (rw (lines-in _ s (a .asked))
+    (append-then _ _ _ (c .before .before .before .before .before .before .write .ensures)
+    (c .before .before .write-lines .ensures))))
 
 pub list-asked-spec : {M : Type 1} → statement M
 list-asked-spec =

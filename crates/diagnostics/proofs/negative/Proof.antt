@@ -4,7 +4,9 @@ use Rattle.diagnostics.proofs.negative.Statement.{statement}
 use Rattle.diagnostics.proofs.negative.Tie as tie
 
 returns : tie.Need-returns
-returns c cfg s = written-is-sent cfg _ _ s (c .before .before .before .before .before .before .pre) (c .before .before .write .ensures)
+returns c cfg s =
+    written-is-sent cfg _ _ s (c .before .before .before .before .before .before .pre)
+    (c .before .before .write .ensures)
 
 pub negative-spec : {M : Type 1} → statement M
 negative-spec = tie.close

@@ -10,7 +10,8 @@ use Rattle.diagnostics.proofs.number_asked.Tie as tie
 
 -- the events passed are counted
 abbrev Inv-loop : tie.InvT-loop
-Inv-loop cfg records debounce asked n number₀ event₀ number event = (event ≤ n) × (number ≡ countBelow event (asks cfg asked (holding records debounce)))
+Inv-loop cfg records debounce asked n number₀ event₀ number event =
+    (event ≤ n) × (number ≡ countBelow event (asks cfg asked (holding records debounce)))
 
 abbrev μ-loop : tie.MeasureT-loop
 μ-loop cfg records debounce asked n number₀ event₀ number event = n - event
@@ -27,11 +28,25 @@ is-asked-requires c κs = tt
 one-more-if-requires : tie.Need-one-more-if-requires Inv-loop μ-loop
 one-more-if-requires c κs =
     let t = config-tells _ (c .before .before .before .before .before .pre) in
-    let most = count-most (asks (c .before .before .before .before .before .args .cfg .now) (c .before .before .before .before .before .args .asked) (holding (c .before .before .before .before .before .args .records .now) (c .before .before .before .before .before .args .debounce .now))) (c .before .before .loop .event) in
+    let most =
+    count-most
+    (asks (c .before .before .before .before .before .args .cfg .now)
+    (c .before .before .before .before .before .args .asked)
+    (holding (c .before .before .before .before .before .args .records .now)
+    (c .before .before .before .before .before .args .debounce .now)))
+    (c .before .before .loop .event) in
     omega (arith, c .before .before .before .events .ensures, c .before .before .loop .inv .1)
 
 loop-again : tie.Need-loop-again Inv-loop μ-loop
-loop-again c = (omega arith, rw (count-more, ← c .before .is-asked .ensures (c .before .before .before .before .before .before .args .cfg .now), ← c .before .before .before .loop .inv .1) (c .one-more-if .ensures))
+loop-again c = (
+  omega arith,
+  rw (
+    count-more,
+    ← c .before .is-asked .ensures (c .before .before .before .before .before .before .args .cfg .now),
+    ← c .before .before .before .loop .inv .1,
+  )
+      (c .one-more-if .ensures),
+)
 
 returns : tie.Need-returns Inv-loop μ-loop
 returns c =

@@ -36,9 +36,15 @@ returns-3 : tie.Need-returns-3
 returns-3 c b =
     let t = c .before .before .before .before .before .before .before .before .before in
     let a = t .before .before .before .before .before .before .args in
-    by-turn _ (a .room .now) _ _ _ _ (t .turn-of .ensures) (c .before .before .before .before .before .before .before .enum-told2 .given .1)
-    (number-tests _ _ _ _ (t .before .suppresses .ensures (a .cfg .now)) (c .before .before .before .before .before .before .mask-of .ensures (a .cfg .now)) (c .before .before .before .before .before .number-asked .ensures))
-    (written-is-sent _ _ _ _ (ltb-false _ _ (t .turn-of .ensures .fits (c .before .before .before .before .before .before .before .enum-told2 .given .1))) (c .before .before .write .ensures))
+    by-turn _ (a .room .now) _ _ _ _ (t .turn-of .ensures)
+    (c .before .before .before .before .before .before .before .enum-told2 .given .1)
+    (number-tests _ _ _ _ (t .before .suppresses .ensures (a .cfg .now))
+    (c .before .before .before .before .before .before .mask-of .ensures (a .cfg .now))
+    (c .before .before .before .before .before .number-asked .ensures))
+    (written-is-sent _ _ _ _
+    (ltb-false _ _
+    (t .turn-of .ensures .fits (c .before .before .before .before .before .before .before .enum-told2 .given .1)))
+    (c .before .before .write .ensures))
 
 pub number-by-mask-spec : {M : Type 1} → statement M
 number-by-mask-spec =

@@ -10,7 +10,10 @@ enum-told : tie.Need-enum-told
 enum-told c = search needs
 
 accept-requires : tie.Need-accept-requires
-accept-requires c κs = may-serve _ _ _ _ (passed-by _ (c .before .before .before .before .before .before .judge .ensures) (c .before .before .before .before .enum-told .given .1))
+accept-requires c κs =
+    may-serve _ _ _ _
+    (passed-by _ (c .before .before .before .before .before .before .judge .ensures)
+    (c .before .before .before .before .enum-told .given .1))
 
 returns : tie.Need-returns
 unfolding requestReply
@@ -18,7 +21,8 @@ returns c =
     let c8 = c .before .before .before .before .before .before .before .before in
     let judge = c8 .before .before .before .before .before .before .judge in
     let enum-told = c8 .before .before .before .before .enum-told in
-    accepted-by _ (judge .ensures) _ _ _ (enum-told .given .1) (c .before .before .before .before .before .before .before .accept .ensures)
+    accepted-by _ (judge .ensures) _ _ _ (enum-told .given .1)
+    (c .before .before .before .before .before .before .before .accept .ensures)
 
 returns-2 : tie.Need-returns-2
 unfolding requestReply

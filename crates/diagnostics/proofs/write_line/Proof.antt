@@ -9,11 +9,17 @@ code-of-requires c κs = let t = config-tells _ (c .before .before .pre .config)
 
 cast-high : tie.Need-cast-high
 cast-high c =
-    let row = config-tells _ (c .before .before .before .pre .config) .row _ (c .before .before .before .pre .event-below) in
+    let row =
+    config-tells _ (c .before .before .before .pre .config) .row _ (c .before .before .before .pre .event-below) in
     omega (arith, c .code-of .ensures)
 
 returns : tie.Need-returns
-returns c = rw (← c .before .before .before .before .before .before .code-of .ensures, ← c .before .before .before .before .before .status-of .ensures) (c .before .before .write .ensures)
+returns c =
+    rw (
+      ← c .before .before .before .before .before .before .code-of .ensures,
+      ← c .before .before .before .before .before .status-of .ensures,
+    )
+    (c .before .before .write .ensures)
 
 pub write-line-spec : {M : Type 1} → statement M
 write-line-spec =

@@ -14,7 +14,10 @@ use Rattle.diagnostics.proofs.write_lines.Tie as tie
 -- the lines of the events passed stand in the room
 abbrev Inv-loop : tie.InvT-loop
 Inv-loop cfg records debounce asked room₀ at n next₀ event₀ room next event =
-    (event ≤ n) × (written next room ≡ append (joinBelow event (lineIfAsked cfg asked (holding records debounce))) (written at room₀)) × (length room ≡ length room₀)
+    (event ≤ n) ×
+    (written next room
+    ≡ append (joinBelow event (lineIfAsked cfg asked (holding records debounce))) (written at room₀))
+    × (length room ≡ length room₀)
 
 abbrev μ-loop : tie.MeasureT-loop
 μ-loop cfg records debounce asked room₀ at n next₀ event₀ room next event = n - event
@@ -35,11 +38,25 @@ write-line-if-asked-requires c κs =
     record {
       config = fits .config;
       event-below = below;
-      within = omega (arith, fits .within, join-within asked _ _ below, append-next _ _ (c .before .before .loop .inv .1), c .before .before .loop .inv .2);
+      within =
+          omega (
+            arith,
+            fits .within,
+            join-within asked _ _ below,
+            append-next _ _ (c .before .before .loop .inv .1),
+            c .before .before .loop .inv .2,
+          );
     }
 
 loop-again : tie.Need-loop-again Inv-loop μ-loop
-loop-again c = (omega arith, rw join-more (append-then _ _ _ (c .before .before .before .before .before .loop .inv .1) (c .before .before .write-line-if-asked .ensures)), c .before .before .write-line-if-asked .kept .1 .1 .1 .1 .1 .0 ∙ c .before .before .before .before .before .loop .inv .2)
+loop-again c = (
+  omega arith,
+  rw join-more
+      (append-then _ _ _ (c .before .before .before .before .before .loop .inv .1)
+      (c .before .before .write-line-if-asked .ensures)),
+  c .before .before .write-line-if-asked .kept .1 .1 .1 .1 .1 .0
+      ∙ c .before .before .before .before .before .loop .inv .2,
+)
 
 same-length : tie.Need-same-length Inv-loop μ-loop
 same-length c = c .before .loop .inv .2

@@ -10,7 +10,11 @@ use Rattle.fresh_state.proofs.fresh.Statement.{statement}
 use Rattle.fresh_state.proofs.fresh.Tie as tie
 
 make-fresh-requires : tie.Need-make-fresh-requires
-make-fresh-requires c κs = λ b. begun-with-lengths _ _ true (sym (c .before .before .before .before .before .begin-with-lengths .ensures b) ∙ ap checkNumber (c .before .before .before .enum-told .given .1)) .1
+make-fresh-requires c κs =
+    λ b. begun-with-lengths _ _ true
+    (sym (c .before .before .before .before .before .begin-with-lengths .ensures b)
+    ∙ ap checkNumber (c .before .before .before .enum-told .given .1))
+    .1
 
 returns : tie.Need-returns
 unfolding fresh freshRules

@@ -9,7 +9,10 @@ fresh-records-requires c κs = records-fit _ _ _ _ (c .before .before .before .p
 returns : tie.Need-returns
 returns c =
     let c8 = c .before .before .before .before .before .before .before .before in
-    state-fresh _ _ _ _ (c8 .before .before .before .before .before .before .pre) (c8 .before .before .fresh-records .ensures) (c .before .before .before .before .before .before .reset-numbers .ensures) (c .before .before .before .zero-from .ensures) (c .stopped-board .ensures)
+    state-fresh _ _ _ _ (c8 .before .before .before .before .before .before .pre)
+    (c8 .before .before .fresh-records .ensures)
+    (c .before .before .before .before .before .before .reset-numbers .ensures)
+    (c .before .before .before .zero-from .ensures) (c .stopped-board .ensures)
 
 pub make-fresh-spec : {M : Type 1} → statement M
 make-fresh-spec =

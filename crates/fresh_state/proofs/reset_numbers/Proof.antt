@@ -9,7 +9,8 @@ use Rattle.fresh_state.proofs.reset_numbers.Statement.{statement}
 use Rattle.fresh_state.proofs.reset_numbers.Tie as tie
 
 abbrev Inv-loop : tie.InvT-loop
-Inv-loop debounce₀ event₀ event-end debounce event = (event ≤ length debounce₀) × (debounce ≡ filledTo (pos 0) 0 debounce₀ event) × (length debounce ≡ length debounce₀)
+Inv-loop debounce₀ event₀ event-end debounce event =
+    (event ≤ length debounce₀) × (debounce ≡ filledTo (pos 0) 0 debounce₀ event) × (length debounce ≡ length debounce₀)
 
 abbrev μ-loop : tie.MeasureT-loop
 μ-loop debounce₀ event₀ event-end debounce event = event-end - event
@@ -18,8 +19,12 @@ loop-holds : tie.Need-loop-holds Inv-loop μ-loop
 loop-holds c = (omega arith, fill-none (pos 0) _ _ (omega arith), refl)
 
 loop-again : tie.Need-loop-again Inv-loop μ-loop
-loop-again c = let loop = c .before .before .before .before .loop in
-    (omega arith, c .before .write-number .ensures ∙ fill-more (pos 0) _ _ (omega arith) _ (omega arith) (omega arith) (loop .inv .1), c .before .write-number .kept .0 ∙ loop .inv .2)
+loop-again c = let loop = c .before .before .before .before .loop in (
+  omega arith,
+  c .before .write-number .ensures
+      ∙ fill-more (pos 0) _ _ (omega arith) _ (omega arith) (omega arith) (loop .inv .1),
+  c .before .write-number .kept .0 ∙ loop .inv .2,
+)
 
 same-length : tie.Need-same-length Inv-loop μ-loop
 same-length c = c .before .loop .inv .2

@@ -8,7 +8,8 @@ use Rattle.fresh_state.proofs.zero_from.Statement.{statement}
 use Rattle.fresh_state.proofs.zero_from.Tie as tie
 
 abbrev Inv-loop : tie.InvT-loop
-Inv-loop memory₀ from i₀ i-end memory i = ((from ≤ i) × (i ≤ length memory₀)) × (memory ≡ filledTo 0 from memory₀ i) × (length memory ≡ length memory₀)
+Inv-loop memory₀ from i₀ i-end memory i =
+    ((from ≤ i) × (i ≤ length memory₀)) × (memory ≡ filledTo 0 from memory₀ i) × (length memory ≡ length memory₀)
 
 abbrev μ-loop : tie.MeasureT-loop
 μ-loop memory₀ from i₀ i-end memory i = i-end - i
@@ -17,8 +18,11 @@ loop-holds : tie.Need-loop-holds Inv-loop μ-loop
 loop-holds c = ((omega arith, c .pre), fill-none 0 _ _ (c .pre), refl)
 
 loop-again : tie.Need-loop-again Inv-loop μ-loop
-loop-again c = let loop = c .before .loop in
-    ((omega arith, omega arith), fill-more 0 _ _ (c .before .before .pre) _ (loop .inv .0 .0) (omega arith) (loop .inv .1), simp length-set (loop .inv .2))
+loop-again c = let loop = c .before .loop in (
+  (omega arith, omega arith),
+  fill-more 0 _ _ (c .before .before .pre) _ (loop .inv .0 .0) (omega arith) (loop .inv .1),
+  simp length-set (loop .inv .2),
+)
 
 same-length : tie.Need-same-length Inv-loop μ-loop
 same-length c = c .before .loop .inv .2

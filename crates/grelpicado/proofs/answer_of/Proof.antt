@@ -10,7 +10,9 @@ use Rattle.grelpicado.proofs.answer_of.Tie as tie
 returns : tie.Need-returns
 returns c = λ records debounce memory.
     let a = c .before .before .before .args .returned in
-    crossed (ofAnswer (a .answer)) [] (lent records debounce memory (a .board)) (c .before .before .before .args .found) (c .before .answer-number .ensures) (answer-verdict (a .answer)) (answer-value (a .answer)) (c .handed-back .ensures)
+    crossed (ofAnswer (a .answer)) [] (lent records debounce memory (a .board)) (c .before .before .before .args .found)
+    (c .before .answer-number .ensures) (answer-verdict (a .answer)) (answer-value (a .answer))
+    (c .handed-back .ensures)
 
 pub answer-of-spec : {M : Type 1} → statement M
 answer-of-spec = tie.close

@@ -5,7 +5,9 @@ use Rattle.grelpicado.proofs.frame_of.Statement.{statement}
 use Rattle.grelpicado.proofs.frame_of.Tie as tie
 
 returns : tie.Need-returns
-returns c = λ s found. crossed-with-frame (c .before .before .before .args .answer) s found (c .before .before .frame-number .ensures) (c .before .frame-start .ensures) (c .frame-length .ensures)
+returns c =
+    λ s found. crossed-with-frame (c .before .before .before .args .answer) s found
+    (c .before .before .frame-number .ensures) (c .before .frame-start .ensures) (c .frame-length .ensures)
 
 pub frame-of-spec : {M : Type 1} → statement M
 frame-of-spec =

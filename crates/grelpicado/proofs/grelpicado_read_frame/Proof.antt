@@ -9,7 +9,12 @@ use Rattle.grelpicado.proofs.grelpicado_read_frame.Tie as tie
 
 returns : tie.Need-returns
 returns c = let a = c .before .before .before .before .before .args in
-    through crossesWithFrame (λ b. frameRead (a .cfg .now) (a .event) (lent (a .records .now) (a .debounce .now) (a .memory .now) b)) (a .board) (c .frame-of .ensures (lent (a .records .now) (a .debounce .now) (a .memory .now) (c .before .before .board-of .result)) (a .board)) (c .before .read-frame .ensures) (c .before .before .board-of .ensures)
+    through crossesWithFrame
+    (λ b. frameRead (a .cfg .now) (a .event) (lent (a .records .now) (a .debounce .now) (a .memory .now) b))
+    (a .board)
+    (c .frame-of .ensures
+    (lent (a .records .now) (a .debounce .now) (a .memory .now) (c .before .before .board-of .result)) (a .board))
+    (c .before .read-frame .ensures) (c .before .before .board-of .ensures)
 
 pub grelpicado-read-frame-spec : {M : Type 1} → statement M
 grelpicado-read-frame-spec =

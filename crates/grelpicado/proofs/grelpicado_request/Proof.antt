@@ -13,7 +13,11 @@ returns c =
     let c8 = c .before .before .before .before .before .before .before .before in
     let c16 = c8 .before .before .before .before .before .before .before .before in
     let a = c16 .before .before .args in
-    through crosses (λ b. requestReply (a .cfg .now) (a .request .now) (lentRoom (a .room .now)) (lent (a .records .now) (a .debounce .now) (a .memory .now) b)) (a .board) (c .request-of .ensures _ _ _ _) (c8 .request .ensures) (c8 .before .before .before .before .before .board-of .ensures)
+    through crosses
+    (λ b. requestReply (a .cfg .now) (a .request .now) (lentRoom (a .room .now))
+    (lent (a .records .now) (a .debounce .now) (a .memory .now) b))
+    (a .board) (c .request-of .ensures _ _ _ _) (c8 .request .ensures)
+    (c8 .before .before .before .before .before .board-of .ensures)
 
 pub grelpicado-request-spec : {M : Type 1} → statement M
 grelpicado-request-spec =

@@ -12,7 +12,15 @@ returns : tie.Need-returns
 returns c =
     let c8 = c .before .before .before .before .before .before .before .before in
     let a = c8 .before .args in
-    through crossesWithoutBoard (λ b. save (a .cfg .now) (lentRoom (a .room .now)) (lent (a .records .now) (a .debounce .now) (a .memory .now) b)) (a .board) (c .length-of .ensures (lent (a .records .now) (a .debounce .now) (a .memory .now) (c .before .before .before .before .before .board-of .result)) _ (a .board)) (c .before .before .before .save .ensures) (c .before .before .before .before .before .board-of .ensures)
+    through crossesWithoutBoard
+    (λ b. save (a .cfg .now) (lentRoom (a .room .now))
+    (lent (a .records .now) (a .debounce .now) (a .memory .now) b))
+    (a .board)
+    (c .length-of .ensures
+    (lent (a .records .now) (a .debounce .now) (a .memory .now)
+    (c .before .before .before .before .before .board-of .result))
+    _ (a .board))
+    (c .before .before .before .save .ensures) (c .before .before .before .before .before .board-of .ensures)
 
 pub grelpicado-save-spec : {M : Type 1} → statement M
 grelpicado-save-spec =

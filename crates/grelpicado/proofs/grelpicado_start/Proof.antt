@@ -12,7 +12,10 @@ returns : tie.Need-returns
 returns c =
     let c8 = c .before .before .before .before .before .before .before .before in
     let a = c8 .args in
-    through crosses (λ b. startCycle (a .cfg .now) (a .cycle) alone (lent (a .records .now) (a .debounce .now) (a .memory .now) b)) (a .board) (c .answer-of .ensures _ _ _) (c .before .before .before .start .ensures) (c .before .before .before .before .before .board-of .ensures)
+    through crosses
+    (λ b. startCycle (a .cfg .now) (a .cycle) alone (lent (a .records .now) (a .debounce .now) (a .memory .now) b))
+    (a .board) (c .answer-of .ensures _ _ _) (c .before .before .before .start .ensures)
+    (c .before .before .before .before .before .board-of .ensures)
 
 pub grelpicado-start-spec : {M : Type 1} → statement M
 grelpicado-start-spec =

@@ -6,7 +6,9 @@ use Rattle.grelpicado.proofs.length_of.Statement.{statement}
 use Rattle.grelpicado.proofs.length_of.Tie as tie
 
 returns : tie.Need-returns
-returns c = λ s room found. crossed-without-board (ofLength (c .before .before .args .answer)) room s found (c .before .length-number .ensures) (length-verdict (c .before .before .args .answer)) (c .written-length .ensures)
+returns c =
+    λ s room found. crossed-without-board (ofLength (c .before .before .args .answer)) room s found
+    (c .before .length-number .ensures) (length-verdict (c .before .before .args .answer)) (c .written-length .ensures)
 
 pub length-of-spec : {M : Type 1} → statement M
 length-of-spec = tie.close

@@ -12,7 +12,10 @@ use Rattle.grelpicado.proofs.report_of.Tie as tie
 returns : tie.Need-returns
 returns c = λ records debounce memory.
     let a = c .before .before .before .before .before .args .returned in
-    crossed (ofReport (a .answer)) [] (lent records debounce memory (a .board)) (c .before .before .before .before .before .args .found) (c .before .before .before .report-number .ensures) (c .before .verdict-number .ensures ∙ ap verdictNumber (c .before .before .report-verdict .ensures)) (report-value (a .answer)) (c .handed-back .ensures)
+    crossed (ofReport (a .answer)) [] (lent records debounce memory (a .board))
+    (c .before .before .before .before .before .args .found) (c .before .before .before .report-number .ensures)
+    (c .before .verdict-number .ensures ∙ ap verdictNumber (c .before .before .report-verdict .ensures))
+    (report-value (a .answer)) (c .handed-back .ensures)
 
 pub report-of-spec : {M : Type 1} → statement M
 report-of-spec =

@@ -7,7 +7,9 @@ use Rattle.grelpicado.proofs.status_of.Statement.{statement}
 use Rattle.grelpicado.proofs.status_of.Tie as tie
 
 returns : tie.Need-returns
-returns c = λ s found. crossed-without-board (ofStatus (c .before .before .args .answer)) [] s found (c .before .status-number .ensures) (status-verdict (c .before .before .args .answer)) (c .status-byte .ensures)
+returns c =
+    λ s found. crossed-without-board (ofStatus (c .before .before .args .answer)) [] s found
+    (c .before .status-number .ensures) (status-verdict (c .before .before .args .answer)) (c .status-byte .ensures)
 
 pub status-of-spec : {M : Type 1} → statement M
 status-of-spec = tie.close

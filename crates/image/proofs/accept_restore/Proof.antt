@@ -8,7 +8,8 @@ use borrow.Author.Needs.{needs}
 use Rattle.image.proofs.accept_restore.Statement.{statement}
 use Rattle.image.proofs.accept_restore.Tie as tie
 
-least : (c : tie.After-memory-at) → c .memory-at .result + 2 ≤ length (now (c .before .before .before .before .args .image))
+least : (c : tie.After-memory-at)
+    → c .memory-at .result + 2 ≤ length (now (c .before .before .before .before .args .image))
 least c = end-least _ _ _ _ _ (c .before .before .before .before .pre) (c .memory-at .ensures)
 
 sub-end : tie.Need-sub-end
@@ -43,7 +44,8 @@ returns c =
     let at = body .before .before .before in
     let start = at .before .before .before .before in
     let a = start .args in
-    restored-is _ (now (a .records)) (now (a .debounce)) (now (a .memory)) (now (a .image)) (start .pre) (at .memory-at .ensures) (body .write .ensures)
+    restored-is _ (now (a .records)) (now (a .debounce)) (now (a .memory)) (now (a .image)) (start .pre)
+    (at .memory-at .ensures) (body .write .ensures)
     (c8 .reset-numbers .ensures) (c .before .before .before .before .fill-memory .ensures) (c .stopped-board .ensures)
 
 pub accept-restore-spec : {M : Type 1} → statement M

@@ -14,7 +14,8 @@ used-length-requires : tie.Need-used-length-requires
 used-length-requires c κs = counted _ _ _ (c .before .before .before .pre .0)
 
 slice-aggregate-write-image : tie.Need-slice-aggregate-write-image
-slice-aggregate-write-image c = cut-long _ _ _ (c .before .before .before .before .before .pre .0) (c .before .used-length .ensures)
+slice-aggregate-write-image c =
+    cut-long _ _ _ (c .before .before .before .before .before .pre .0) (c .before .used-length .ensures)
 
 write-image-requires : tie.Need-write-image-requires
 write-image-requires c κs =
@@ -30,7 +31,8 @@ returns c =
     let a = start .args in
     λ d running. c .before .before .write-image .ensures
     ∙ ap (λ (l : List ℕ). filled l (now (a .room)))
-    (image-is _ _ _ (start .pre .0) (c .before .before .before .before .before .used-length .ensures) d (record { running = running; overflow = a .overflow }))
+    (image-is _ _ _ (start .pre .0) (c .before .before .before .before .before .used-length .ensures) d
+    (record { running = running; overflow = a .overflow }))
 
 pub accept-save-spec : {M : Type 1} → statement M
 accept-save-spec =

@@ -7,7 +7,9 @@ use Rattle.image.proofs.any_runs.Statement.{statement}
 use Rattle.image.proofs.any_runs.Tie as tie
 
 returns : tie.Need-returns
-returns c = let h : length (c .before .args .board .running) ≡ 4 = search needs in any-of-four (c .before .args .board .running) h
+returns c =
+    let h : length (c .before .args .board .running)
+    ≡ 4 = search needs in any-of-four (c .before .args .board .running) h
 
 pub any-runs-spec : {M : Type 1} → statement M
 any-runs-spec =

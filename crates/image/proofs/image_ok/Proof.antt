@@ -15,10 +15,12 @@ use Rattle.image.proofs.image_ok.Statement.{statement}
 use Rattle.image.proofs.image_ok.Tie as tie
 
 -- past the test of the length
-right : (c : tie.Else1) → lengthOk (now (c .before .before .before .args .cfg)) (now (c .before .before .before .args .image)) ≡ true
+right : (c : tie.Else1)
+    → lengthOk (now (c .before .before .before .args .cfg)) (now (c .before .before .before .args .image)) ≡ true
 right c = sym (c .before .length-ok .ensures) ∙ not-false _ (c .if1 .left)
 
-least : (c : tie.Else1) → memoryAt (now (c .before .before .before .args .cfg)) + 2 ≤ length (now (c .before .before .before .args .image))
+least : (c : tie.Else1)
+    → memoryAt (now (c .before .before .before .args .cfg)) + 2 ≤ length (now (c .before .before .before .args .image))
 least c = length-least _ _ (right c)
 
 returns : tie.Need-returns
@@ -31,20 +33,40 @@ sub-header-2 : tie.Need-sub-header-2
 sub-header-2 c = omega (arith, least (c .before), c .memory-at .ensures)
 
 header-requires : tie.Need-header-requires
-header-requires c κs = omega (arith, least (c .before), length-most _ _ (right (c .before)) (c .before .before .before .before .pre), c .memory-at .ensures)
+header-requires c κs =
+    omega (
+      arith,
+      least (c .before),
+      length-most _ _ (right (c .before)) (c .before .before .before .before .pre),
+      c .memory-at .ensures,
+    )
 
 slice-aggregate-same-bytes-2 : tie.Need-slice-aggregate-same-bytes-2
 slice-aggregate-same-bytes-2 c =
-    sym (length-take-le 20 (now (c .before .before .before .before .before .before .before .args .image)) (omega (arith, least (c .before .before .before .before))))
+    sym
+    (length-take-le 20 (now (c .before .before .before .before .before .before .before .args .image))
+    (omega (arith, least (c .before .before .before .before))))
 
 part-bodies-ok-end : tie.Need-part-bodies-ok-end
-part-bodies-ok-end c = omega (arith, least (c .before .before .before .before .before), c .before .before .before .before .memory-at .ensures)
+part-bodies-ok-end c =
+    omega
+    (arith, least (c .before .before .before .before .before), c .before .before .before .before .memory-at .ensures)
 
 sub-bodies-ok-2 : tie.Need-sub-bodies-ok-2
-sub-bodies-ok-2 c = omega (arith, least (c .before .before .before .before .before .before), c .before .before .before .before .before .memory-at .ensures)
+sub-bodies-ok-2 c =
+    omega (
+      arith,
+      least (c .before .before .before .before .before .before),
+      c .before .before .before .before .before .memory-at .ensures,
+    )
 
 part-bodies-ok-start-2 : tie.Need-part-bodies-ok-start-2
-part-bodies-ok-start-2 c = omega (arith, least (c .before .before .before .before .before .before), c .before .before .before .before .before .memory-at .ensures)
+part-bodies-ok-start-2 c =
+    omega (
+      arith,
+      least (c .before .before .before .before .before .before),
+      c .before .before .before .before .before .memory-at .ensures,
+    )
 
 shared-slice-read-result : tie.Need-shared-slice-read-result
 shared-slice-read-result c =

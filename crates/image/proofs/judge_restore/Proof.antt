@@ -17,17 +17,22 @@ image-ok-requires c κs = let b : Board = record { running = allStopped; overflo
 
 returns : tie.Need-returns
 returns c =
-    λ b. judged-go _ _ _ _ _ b (sym (c .before .before .before .before .begin-with-lengths .ensures b) ∙ ap checkNumber (c .before .before .enum-told .given .1))
+    λ b. judged-go _ _ _ _ _ b
+    (sym (c .before .before .before .before .begin-with-lengths .ensures b)
+    ∙ ap checkNumber (c .before .before .enum-told .given .1))
     (c .before .image-ok .ensures) (c .if1 .taken)
 
 returns-2 : tie.Need-returns-2
 returns-2 c =
-    λ b. judged-bad _ _ _ _ _ b (sym (c .before .before .before .before .begin-with-lengths .ensures b) ∙ ap checkNumber (c .before .before .enum-told .given .1))
+    λ b. judged-bad _ _ _ _ _ b
+    (sym (c .before .before .before .before .begin-with-lengths .ensures b)
+    ∙ ap checkNumber (c .before .before .enum-told .given .1))
     (c .before .image-ok .ensures) (c .if1 .left)
 
 returns-3 : tie.Need-returns-3
 returns-3 c =
-    λ b. judged-stop _ _ _ _ _ b (c .before .r .given .0 .0) (sym (ap checkNumber (c .before .r .given .1)) ∙ c .before .before .before .begin-with-lengths .ensures b)
+    λ b. judged-stop _ _ _ _ _ b (c .before .r .given .0 .0)
+    (sym (ap checkNumber (c .before .r .given .1)) ∙ c .before .before .before .begin-with-lengths .ensures b)
 
 pub judge-restore-spec : {M : Type 1} → statement M
 judge-restore-spec =

@@ -13,12 +13,15 @@ returns c = sym (too-short _ _ (c .before .memory-at .ensures) (c .if1 .taken))
 returns-2 : tie.Need-returns-2
 returns-2 c =
     sym
-    (too-many _ _ (c .before .before .before .before .before .memory-at .ensures) (c .before .entry-count .ensures) (omega (arith, c .before .before .places .ensures, c .if2 .taken)))
+    (too-many _ _ (c .before .before .before .before .before .memory-at .ensures) (c .before .entry-count .ensures)
+    (omega (arith, c .before .before .places .ensures, c .if2 .taken)))
 
 used-length-requires : tie.Need-used-length-requires
 used-length-requires c κs =
-    counted _ (now (c .before .before .before .before .before .before .before .args .image)) (c .before .before .before .before .before .memory-at .ensures)
-    (c .before .entry-count .ensures) (omega (arith, c .before .before .places .ensures, c .if2 .left)) (c .before .before .before .before .before .before .before .pre)
+    counted _ (now (c .before .before .before .before .before .before .before .args .image))
+    (c .before .before .before .before .before .memory-at .ensures)
+    (c .before .entry-count .ensures) (omega (arith, c .before .before .places .ensures, c .if2 .left))
+    (c .before .before .before .before .before .before .before .pre)
     (c .before .before .before .before .if1 .left)
 
 add-result : tie.Need-add-result
@@ -39,7 +42,8 @@ add-result-2 c =
 
 returns-3 : tie.Need-returns-3
 returns-3 c =
-    few-enough _ _ (c .before .before .before .before .before .before .memory-at .ensures) (c .before .before .entry-count .ensures)
+    few-enough _ _ (c .before .before .before .before .before .before .memory-at .ensures)
+    (c .before .before .entry-count .ensures)
     (omega (arith, c .before .before .before .places .ensures, c .before .if2 .left)) (c .used-length .ensures)
 
 pub length-ok-spec : {M : Type 1} → statement M

@@ -13,7 +13,8 @@ accept-restore-requires c κs =
     let c8 = c .before .before .before .before .before .before .before .before in
     let board = c8 .before .before .before .before .args .board in
     restore-ready _ _ _ _ _ board
-    (passed-by _ (c .before .before .before .before .before .judge-restore .ensures board) (c .before .before .before .enum-told .given .1))
+    (passed-by _ (c .before .before .before .before .before .judge-restore .ensures board)
+    (c .before .before .before .enum-told .given .1))
 
 returns : tie.Need-returns
 unfolding restore

@@ -25,19 +25,26 @@ returns-2 : tie.Need-returns-2 Inv-loop μ-loop
 returns-2 c =
     let a = c .before .before .before .before .before .before .args in
     let loop = c .before .before .before .before .loop in
-    sym (loop .inv .1 ∙ equal-ends (now (a .bytes)) (now (a .others)) (loop .i) (omega arith) (omega arith) (c .if2 .taken))
+    sym
+    (loop .inv .1
+    ∙ equal-ends (now (a .bytes)) (now (a .others)) (loop .i) (omega arith) (omega arith) (c .if2 .taken))
 
 loop-again : tie.Need-loop-again Inv-loop μ-loop
 loop-again c =
     let a = c .before .before .before .before .before .before .args in
-    let loop = c .before .before .before .before .loop in
-    (omega arith, loop .inv .1 ∙ equal-goes-on (now (a .bytes)) (now (a .others)) (loop .i) (omega arith) (omega arith) (c .if2 .left))
+    let loop = c .before .before .before .before .loop in (
+      omega arith,
+      loop .inv .1
+          ∙ equal-goes-on (now (a .bytes)) (now (a .others)) (loop .i) (omega arith) (omega arith) (c .if2 .left),
+    )
 
 returns-3 : tie.Need-returns-3 Inv-loop μ-loop
 returns-3 c =
     let a = c .before .before .before .args in
     let loop = c .before .loop in
-    sym (loop .inv .1 ∙ equal-through (now (a .bytes)) (now (a .others)) (loop .i) (c .before .before .if1 .left) (omega arith))
+    sym
+    (loop .inv .1
+    ∙ equal-through (now (a .bytes)) (now (a .others)) (loop .i) (c .before .before .if1 .left) (omega arith))
 
 pub same-bytes-spec : {M : Type 1} → statement M
 same-bytes-spec =

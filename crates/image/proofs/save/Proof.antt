@@ -13,15 +13,18 @@ accept-save-requires : tie.Need-accept-save-requires
 accept-save-requires c κs =
     let c8 = c .before .before .before .before .before .before .before .before in
     let a = c8 .args in
-    let z = sym (c .before .before .before .judge-save .ensures) ∙ ap checkNumber (c .before .enum-told .given .1) in
-    (save-ready _ (now (a .room)) _ (now (a .debounce)) _ (a .board) z, save-room _ (now (a .room)) _ (now (a .debounce)) _ (a .board) z)
+    let z = sym (c .before .before .before .judge-save .ensures) ∙ ap checkNumber (c .before .enum-told .given .1) in (
+      save-ready _ (now (a .room)) _ (now (a .debounce)) _ (a .board) z,
+      save-room _ (now (a .room)) _ (now (a .debounce)) _ (a .board) z,
+    )
 
 returns : tie.Need-returns
 returns c =
     let c8 = c .before .before .before .before .before .before .before .before in
     let a = c8 .before .before .before .args in
     let go = ap checkNumber (c .before .before .before .before .enum-told .given .1) in
-    save-done _ (now (a .room)) _ _ _ _ (sym (c .before .before .before .before .before .before .judge-save .ensures) ∙ go)
+    save-done _ (now (a .room)) _ _ _ _
+    (sym (c .before .before .before .before .before .before .judge-save .ensures) ∙ go)
     (c .before .before .accept-save .ensures (now (a .debounce)) (a .board .running))
 
 returns-2 : tie.Need-returns-2

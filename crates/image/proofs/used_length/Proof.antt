@@ -11,11 +11,19 @@ use Rattle.image.proofs.used_length.Tie as tie
 
 bytes-in-use-requires : tie.Need-bytes-in-use-requires
 bytes-in-use-requires c κs =
-    let t = config-tells _ (c .before .before .pre .accepted) in
-    (c .before .before .pre .some, (omega (arith, c .before .before .pre .few, t .M-most), omega (arith, c .entry-frames .ensures, t .payload-most)))
+    let t = config-tells _ (c .before .before .pre .accepted) in (
+      c .before .before .pre .some,
+      (
+        omega (arith, c .before .before .pre .few, t .M-most),
+        omega (arith, c .entry-frames .ensures, t .payload-most),
+      ),
+    )
 
 returns : tie.Need-returns
-returns c = c .bytes-in-use .ensures ∙ ap (λ (k : ℕ). bytesInUse k (entryCount (now (c .before .before .before .args .memory)))) (c .before .entry-frames .ensures)
+returns c =
+    c .bytes-in-use .ensures
+    ∙ ap (λ (k : ℕ). bytesInUse k (entryCount (now (c .before .before .before .args .memory))))
+    (c .before .entry-frames .ensures)
 
 pub used-length-spec : {M : Type 1} → statement M
 used-length-spec = tie.close

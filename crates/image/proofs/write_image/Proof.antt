@@ -33,8 +33,10 @@ returns c =
     let first = second .before .before .before .before in
     let start = first .before .before .before .before .before .before .before in
     let a = start .args in
-    bodies-written (now (a .records)) (now (a .used)) (now (a .room)) (cond (a .overflow) 1 0) (start .pre .1) (first .before .before .before .header .ensures)
-    (c .before .before .before .before .flag .ensures) (first .write .ensures) (second .write2 .ensures) (third .write3 .ensures)
+    bodies-written (now (a .records)) (now (a .used)) (now (a .room)) (cond (a .overflow) 1 0) (start .pre .1)
+    (first .before .before .before .header .ensures)
+    (c .before .before .before .before .flag .ensures) (first .write .ensures) (second .write2 .ensures)
+    (third .write3 .ensures)
     (c .before .before .write4 .ensures)
 
 pub write-image-spec : {M : Type 1} → statement M

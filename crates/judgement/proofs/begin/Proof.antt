@@ -15,7 +15,9 @@ returns : tie.Need-returns
 returns c =
     let a = c .before .before .before .before .before .args in
     c .first-of .ensures
-    ∙ judged-in-turn (a .fits) (c .before .if1 .state-ok) (wellFormed (now (a .cfg)) (lent (now (a .records)) (now (a .debounce)) (now (a .memory)) (a .board))) (c .before .before .config-ok .ensures)
+    ∙ judged-in-turn (a .fits) (c .before .if1 .state-ok)
+    (wellFormed (now (a .cfg)) (lent (now (a .records)) (now (a .debounce)) (now (a .memory)) (a .board)))
+    (c .before .before .config-ok .ensures)
     (⊎-elim (λ v. rw (v .0 .taken) (v .2 ∙ v .1 .ensures)) (λ v. rw (v .1, v .0 .left)) (c .before .if1 .came))
 
 pub begin-spec : {M : Type 1} → statement M

@@ -16,7 +16,9 @@ returns c =
     let a = c .before .before .before .before .before .args in
     λ b.
     c .first-of .ensures
-    ∙ judged-in-turn (a .fits) (c .before .if1 .state-ok) (lengthsFit (now (a .cfg)) (lent (now (a .records)) (now (a .debounce)) (now (a .memory)) b)) (c .before .before .config-ok .ensures)
+    ∙ judged-in-turn (a .fits) (c .before .if1 .state-ok)
+    (lengthsFit (now (a .cfg)) (lent (now (a .records)) (now (a .debounce)) (now (a .memory)) b))
+    (c .before .before .config-ok .ensures)
     (⊎-elim (λ v. rw (v .0 .taken) (v .2 ∙ v .1 .ensures b)) (λ v. rw (v .1, v .0 .left)) (c .before .if1 .came))
 
 pub begin-with-lengths-spec : {M : Type 1} → statement M

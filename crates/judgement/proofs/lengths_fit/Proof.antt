@@ -8,14 +8,25 @@ use Rattle.judgement.proofs.lengths_fit.Statement.{statement}
 use Rattle.judgement.proofs.lengths_fit.Tie as tie
 
 memory-length-requires : tie.Need-memory-length-requires
-memory-length-requires c κs = let t = config-tells _ (c .before .before .before .before .before .pre) in (rw (c .before .places .ensures) (t .M-most), rw (c .entry-frames .ensures) (t .payload-most))
+memory-length-requires c κs =
+    let t = config-tells _ (c .before .before .before .before .before .pre) in
+    (rw (c .before .places .ensures) (t .M-most), rw (c .entry-frames .ensures) (t .payload-most))
 
 mul-result : tie.Need-mul-result
-mul-result c = let t = config-tells _ (c .before .before .before .before .before .before .pre) in let h : c .before .before .before .events .result ≤ 512 = rw (c .before .before .before .events .ensures) (t .n-most) in record { fits = omega arith }
+mul-result c =
+    let t = config-tells _ (c .before .before .before .before .before .before .pre) in let h : c .before .before .before
+    .events .result ≤ 512 = rw (c .before .before .before .events .ensures) (t .n-most) in record { fits = omega arith }
 
 returns : tie.Need-returns
 unfolding lengthsFit
-returns c = λ b. rw (c .memory-length .ensures, c .before .entry-frames .ensures, c .before .before .places .ensures, c .before .before .before .events .ensures) (joined-is _ _)
+returns c =
+    λ b. rw (
+      c .memory-length .ensures,
+      c .before .entry-frames .ensures,
+      c .before .before .places .ensures,
+      c .before .before .before .events .ensures,
+    )
+    (joined-is _ _)
 
 pub lengths-fit-spec : {M : Type 1} → statement M
 lengths-fit-spec =

@@ -19,20 +19,47 @@ cycle-of-requires c κs = let t = config-tells _ (c .before .pre .accepted) in o
 
 returns : tie.Need-returns
 unfolding DFits
-returns c = rw (← c .before .before .before .cycle-of .ensures, ← c .before .before .runs .ensures, ← c .before .before .before .before .row-of .ensures .kind-is, c .if1 .taken) (zero-is (c .before .before .before .before .before .args .d) (c .before .before .before .before .before .fits .d .sfits))
+returns c =
+    rw (
+      ← c .before .before .before .cycle-of .ensures,
+      ← c .before .before .runs .ensures,
+      ← c .before .before .before .before .row-of .ensures .kind-is,
+      c .if1 .taken,
+    )
+    (zero-is (c .before .before .before .before .before .args .d)
+    (c .before .before .before .before .before .fits .d .sfits))
 
 bottom-requires : tie.Need-bottom-requires
-bottom-requires c κs = small-row _ _ _ (c .before .before .before .before .row-of .ensures) (c .before .before .before .before .before .pre .accepted) (c .before .before .before .before .before .pre .below)
+bottom-requires c κs =
+    small-row _ _ _ (c .before .before .before .before .row-of .ensures)
+    (c .before .before .before .before .before .pre .accepted) (c .before .before .before .before .before .pre .below)
 
 top-requires : tie.Need-top-requires
-top-requires c κs = small-row _ _ _ (c .before .before .before .before .before .row-of .ensures) (c .before .before .before .before .before .before .pre .accepted) (c .before .before .before .before .before .before .pre .below)
+top-requires c κs =
+    small-row _ _ _ (c .before .before .before .before .before .row-of .ensures)
+    (c .before .before .before .before .before .before .pre .accepted)
+    (c .before .before .before .before .before .before .pre .below)
 
 returns-2 : tie.Need-returns-2
 unfolding DFits between
 returns-2 c = let d = toZ-ofZ (c .before .before .before .before .before .before .before .fits .d) in
-    let bottom = held (c .before .bottom .ensures ∙ bottom-is _ _ _ (c .before .before .before .before .before .before .row-of .ensures)) (c .before .bottom .ok) in
-    let top = held (c .top .ensures ∙ top-is _ _ _ (c .before .before .before .before .before .before .row-of .ensures)) (c .top .ok) in
-    rw (d, bottom, top, ← c .before .before .before .before .before .cycle-of .ensures, ← c .before .before .before .before .runs .ensures, ← c .before .before .before .before .before .before .row-of .ensures .kind-is, c .before .before .if1 .left)
+    let bottom =
+    held
+    (c .before .bottom .ensures
+    ∙ bottom-is _ _ _ (c .before .before .before .before .before .before .row-of .ensures))
+    (c .before .bottom .ok) in
+    let top =
+    held (c .top .ensures ∙ top-is _ _ _ (c .before .before .before .before .before .before .row-of .ensures))
+    (c .top .ok) in
+    rw (
+      d,
+      bottom,
+      top,
+      ← c .before .before .before .before .before .cycle-of .ensures,
+      ← c .before .before .before .before .runs .ensures,
+      ← c .before .before .before .before .before .before .row-of .ensures .kind-is,
+      c .before .before .if1 .left,
+    )
 
 pub number-ok-spec : {M : Type 1} → statement M
 number-ok-spec =

@@ -13,7 +13,8 @@ use Rattle.judgement.proofs.numbers_ok.Statement.{statement}
 use Rattle.judgement.proofs.numbers_ok.Tie as tie
 
 abbrev Inv-loop : tie.InvT-loop
-Inv-loop cfg board debounce ok₀ event₀ event-end ok event = (event ≤ event-end) × (ok ≡ allBelow event (λ e. DOk cfg board e (getD debounce e (pos 0))))
+Inv-loop cfg board debounce ok₀ event₀ event-end ok event =
+    (event ≤ event-end) × (ok ≡ allBelow event (λ e. DOk cfg board e (getD debounce e (pos 0))))
 
 abbrev μ-loop : tie.MeasureT-loop
 μ-loop cfg board debounce ok₀ event₀ event-end ok event = event-end - event
@@ -28,13 +29,28 @@ read-number-requires : tie.Need-read-number-requires Inv-loop μ-loop
 read-number-requires c κs = omega (arith, c .before .before .events .ensures, c .before .before .before .pre .as-long)
 
 number-ok-requires : tie.Need-number-ok-requires Inv-loop μ-loop
-number-ok-requires c κs = record { accepted = c .before .before .before .before .pre .accepted; below = rw (← c .before .before .before .events .ensures) (c .before .loop-test .taken) }
+number-ok-requires c κs =
+    record {
+      accepted = c .before .before .before .before .pre .accepted;
+      below = rw (← c .before .before .before .events .ensures) (c .before .loop-test .taken);
+    }
 
 loop-again : tie.Need-loop-again Inv-loop μ-loop
-loop-again c = (omega arith, rw (all-more, c .before .before .before .loop .inv .1, c .number-ok .ensures, held (c .before .read-number .ensures) (c .before .read-number .ok)))
+loop-again c = (
+  omega arith,
+  rw (
+    all-more,
+    c .before .before .before .loop .inv .1,
+    c .number-ok .ensures,
+    held (c .before .read-number .ensures) (c .before .read-number .ok),
+  ),
+)
 
 returns : tie.Need-returns Inv-loop μ-loop
-returns c = let e : c .before .loop .event ≡ events (now (c .before .before .before .args .cfg)) = omega (arith, c .before .before .events .ensures) in rw (c .before .loop .inv .1, e)
+returns c =
+    let e : c .before .loop .event
+    ≡ events (now (c .before .before .before .args .cfg)) = omega (arith, c .before .before .events .ensures) in rw
+    (c .before .loop .inv .1, e)
 
 pub numbers-ok-spec : {M : Type 1} → statement M
 numbers-ok-spec =

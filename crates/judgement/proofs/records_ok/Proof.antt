@@ -12,7 +12,8 @@ use Rattle.judgement.proofs.records_ok.Statement.{statement}
 use Rattle.judgement.proofs.records_ok.Tie as tie
 
 abbrev Inv-loop : tie.InvT-loop
-Inv-loop cfg records ok₀ event₀ event-end ok event = (event ≤ event-end) × (ok ≡ allBelow event (λ e. recordOk cfg e (opened (storedAt e records))))
+Inv-loop cfg records ok₀ event₀ event-end ok event =
+    (event ≤ event-end) × (ok ≡ allBelow event (λ e. recordOk cfg e (opened (storedAt e records))))
 
 abbrev μ-loop : tie.MeasureT-loop
 μ-loop cfg records ok₀ event₀ event-end ok event = event-end - event
@@ -24,13 +25,19 @@ loop-holds : tie.Need-loop-holds Inv-loop μ-loop
 loop-holds c = (omega arith, sym (all-none _))
 
 record-ok-requires : tie.Need-record-ok-requires Inv-loop μ-loop
-record-ok-requires c κs = let t = config-tells _ (c .before .before .before .before .pre .accepted) in let h : c .before .loop .event < events (now (c .before .before .before .before .args .cfg)) = rw (← c .before .before .events .ensures) (c .loop-test .taken) in (omega arith, omega (arith, c .before .before .before .before .pre .as-long))
+record-ok-requires c κs =
+    let t = config-tells _ (c .before .before .before .before .pre .accepted) in let h : c .before .loop .event < events
+    (now (c .before .before .before .before .args .cfg)) = rw (← c .before .before .events .ensures)
+    (c .loop-test .taken) in (omega arith, omega (arith, c .before .before .before .before .pre .as-long))
 
 loop-again : tie.Need-loop-again Inv-loop μ-loop
 loop-again c = (omega arith, rw (all-more, c .before .before .loop .inv .1, c .record-ok .ensures))
 
 returns : tie.Need-returns Inv-loop μ-loop
-returns c = let e : c .before .loop .event ≡ events (now (c .before .before .before .before .args .cfg)) = omega (arith, c .before .before .events .ensures) in rw (c .before .loop .inv .1, e)
+returns c =
+    let e : c .before .loop .event
+    ≡ events (now (c .before .before .before .before .args .cfg)) = omega (arith, c .before .before .events .ensures) in
+    rw (c .before .loop .inv .1, e)
 
 pub records-ok-spec : {M : Type 1} → statement M
 records-ok-spec =

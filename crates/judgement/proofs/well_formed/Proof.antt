@@ -13,14 +13,26 @@ use Rattle.judgement.proofs.well_formed.Statement.{statement}
 use Rattle.judgement.proofs.well_formed.Tie as tie
 
 -- past the test of the lengths
-fits : (c : tie.Else1) → let a = c .before .before .before .before .args in lengthsFit (now (a .cfg)) (lent (now (a .records)) (now (a .debounce)) (now (a .memory)) (a .board)) ≡ true
-fits c = sym (c .before .lengths-fit .ensures (c .before .before .before .before .args .board)) ∙ not-false _ (c .if1 .left)
+fits : (c : tie.Else1)
+    → let a = c .before .before .before .before .args in lengthsFit (now (a .cfg))
+    (lent (now (a .records)) (now (a .debounce)) (now (a .memory)) (a .board))
+    ≡ true
+fits c =
+    sym (c .before .lengths-fit .ensures (c .before .before .before .before .args .board)) ∙ not-false _ (c .if1 .left)
 
 returns : tie.Need-returns
-returns c = sym (not-fitting _ _ _ _ _ (sym (c .before .lengths-fit .ensures (c .before .before .before .before .args .board)) ∙ not-true _ (c .if1 .taken)))
+returns c =
+    sym
+    (not-fitting _ _ _ _ _
+    (sym (c .before .lengths-fit .ensures (c .before .before .before .before .args .board))
+    ∙ not-true _ (c .if1 .taken)))
 
 records-ok-requires : tie.Need-records-ok-requires
-records-ok-requires c κs = record { accepted = c .before .before .before .before .before .before .before .pre; as-long = lengths-tell _ _ (fits (c .before .before .before)) .records }
+records-ok-requires c κs =
+    record {
+      accepted = c .before .before .before .before .before .before .before .pre;
+      as-long = lengths-tell _ _ (fits (c .before .before .before)) .records;
+    }
 
 numbers-ok-requires : tie.Need-numbers-ok-requires
 numbers-ok-requires c κs =
@@ -43,7 +55,8 @@ returns-2 c =
     let n = c .before .before .before .before .before .events .ensures in
     let m = c .before .before .before .before .places .ensures in
     let f = c .before .before .before .entry-frames .ensures in
-    (λ i. c .before .before .records-ok .ensures i && c .before .numbers-ok .ensures i && (c .memory-ok .ensures ∙ (λ j. blockOk (n j) (m j) (f j) (now (a .records)) (now (a .memory)))) i)
+    (λ i. c .before .before .records-ok .ensures i && c .before .numbers-ok .ensures i
+    && (c .memory-ok .ensures ∙ (λ j. blockOk (n j) (m j) (f j) (now (a .records)) (now (a .memory)))) i)
     ∙ judged-in-passes _ _ _ _ _ (fits (c .before .before .before .before .before .before))
 
 pub well-formed-spec : {M : Type 1} → statement M

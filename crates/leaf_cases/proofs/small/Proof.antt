@@ -15,19 +15,27 @@ use Rattle.leaf_cases.proofs.small.Statement.{statement}
 use Rattle.leaf_cases.proofs.small.Tie as tie
 
 -- what a passed test tells of a number
-near : (k : ℕ) (lo hi z : ℤ) {r : Bool} → natAbs lo ≤ k → natAbs hi ≤ k → mag z < 2 ^ 31 → r ≡ between lo hi (toZ w32 (ofZ w32 z)) → r ≡ true → natAbs z ≤ k
+near : (k : ℕ) (lo hi z : ℤ) {r : Bool} → natAbs lo ≤ k → natAbs hi ≤ k → mag z < 2 ^ 31
+    → r ≡ between lo hi (toZ w32 (ofZ w32 z)) → r ≡ true → natAbs z ≤ k
 near k lo hi z l h f e t = between-or-zero true lo hi z k l h (rw (back z f) at (sym e ∙ t))
 
-near-row : (z : ℤ) {r : Bool} → mag z < 2 ^ 31 → r ≡ between (negsuc 29999) (pos 30000) (toZ w32 (ofZ w32 z)) → r ≡ true → natAbs z ≤ 30000
+near-row : (z : ℤ) {r : Bool} → mag z < 2 ^ 31 → r ≡ between (negsuc 29999) (pos 30000) (toZ w32 (ofZ w32 z)) → r ≡ true
+    → natAbs z ≤ 30000
 near-row z = near 30000 (negsuc 29999) (pos 30000) z (omega arith) (omega arith)
 
 -- all tests passed, so each did
-each : (a b c d e : Bool) → (((a && b) && c) && d) && e ≡ true → (a ≡ true) × (b ≡ true) × (c ≡ true) × (d ≡ true) × (e ≡ true)
+each : (a b c d e : Bool) → (((a && b) && c) && d) && e ≡ true
+    → (a ≡ true) × (b ≡ true) × (c ≡ true) × (d ≡ true) × (e ≡ true)
 each a b c d e t =
     let four = and-left (((a && b) && c) && d) e t in
     let three = and-left ((a && b) && c) d four in
-    let two = and-left (a && b) c three in
-    (and-left a b two, and-right a b two, and-right (a && b) c three, and-right ((a && b) && c) d four, and-right (((a && b) && c) && d) e t)
+    let two = and-left (a && b) c three in (
+      and-left a b two,
+      and-right a b two,
+      and-right (a && b) c three,
+      and-right ((a && b) && c) d four,
+      and-right (((a && b) && c) && d) e t,
+    )
 
 returns : tie.Need-returns
 returns c =
@@ -46,7 +54,9 @@ returns c =
         up = near-row (row .up) (fits .1 .1 .0 .1) (third .ensures) (t .2);
         down = near-row (row .down) (fits .1 .1 .1 .0 .1) (fourth .ensures) (t .3);
       };
-      of-D = near 30001 (negsuc 30000) (pos 30001) (first .before .before .args .d) (omega arith) (omega arith) (first .before .before .fits .d .sfits) (c .between5 .ensures) (t .4);
+      of-D =
+          near 30001 (negsuc 30000) (pos 30001) (first .before .before .args .d) (omega arith) (omega arith)
+          (first .before .before .fits .d .sfits) (c .between5 .ensures) (t .4);
     }
 
 pub small-spec : {M : Type 1} → statement M

@@ -17,7 +17,13 @@ append-requires c κs =
     let c8 = c .before .before .before .before .before .before .before .before in
     let a = c8 .args in
     let pre = c8 .pre in
-    let h : entryCount (now (a .memory)) < places (now (a .cfg)) = omega (arith, c .before .before .before .entry-count .ensures, c .before .before .places .ensures, c .before .if1 .taken) in
+    let h : entryCount (now (a .memory)) < places (now (a .cfg)) =
+    omega (
+      arith,
+      c .before .before .before .entry-count .ensures,
+      c .before .before .places .ensures,
+      c .before .if1 .taken,
+    ) in
     may-append (now (a .cfg)) (now (a .records)) (now (a .memory)) (a .event .0) (now (a .frame)) (pre .0) (pre .1) h
 
 returns : tie.Need-returns
@@ -25,7 +31,13 @@ returns c =
     let c8 = c .before .before .before .before .before .before .before .before in
     let a = c8 .before .before .before .args in
     let pre = c8 .before .before .before .pre in
-    let h : entryCount (now (a .memory)) < places (now (a .cfg)) = omega (arith, c .before .before .before .before .before .before .entry-count .ensures, c .before .before .before .before .before .places .ensures, c .before .before .before .before .if1 .taken) in
+    let h : entryCount (now (a .memory)) < places (now (a .cfg)) =
+    omega (
+      arith,
+      c .before .before .before .before .before .before .entry-count .ensures,
+      c .before .before .before .before .before .places .ensures,
+      c .before .before .before .before .if1 .taken,
+    ) in
     ap (λ (m : List ℕ). leftWith m Added) (c .before .before .append .ensures)
     ∙ appends (now (a .cfg)) (now (a .records)) (now (a .memory)) (a .event .0) (now (a .frame)) (pre .0) (pre .1) h
 
@@ -40,7 +52,8 @@ displace-requires c κs =
     let c8 = c .before .before .before .before .before .before .before .before in
     let a = c8 .before .before .before .before .before .args in
     let pre = c8 .before .before .before .before .before .pre in
-    may-displace (now (a .cfg)) (now (a .records)) (now (a .memory)) (a .event .0) (now (a .frame)) (pre .0) (pre .1) _ (sym (c .before .before .before .before .victim .ensures) ∙ c .before .before .found .given .1)
+    may-displace (now (a .cfg)) (now (a .records)) (now (a .memory)) (a .event .0) (now (a .frame)) (pre .0) (pre .1) _
+    (sym (c .before .before .before .before .victim .ensures) ∙ c .before .before .found .given .1)
 
 returns-2 : tie.Need-returns-2
 returns-2 c =
@@ -48,17 +61,32 @@ returns-2 c =
     let c16 = c8 .before .before .before .before .before .before .before .before in
     let a = c16 .args in
     let pre = c16 .pre in
-    let h : places (now (a .cfg)) ≤ entryCount (now (a .memory)) = omega (arith, c8 .before .before .before .entry-count .ensures, c8 .before .before .places .ensures, c8 .before .if1 .left) in
+    let h : places (now (a .cfg)) ≤ entryCount (now (a .memory)) =
+    omega (
+      arith,
+      c8 .before .before .before .entry-count .ensures,
+      c8 .before .before .places .ensures,
+      c8 .before .if1 .left,
+    ) in
     c .before .before .displace .ensures
-    ∙ displaces (now (a .cfg)) (now (a .records)) (now (a .memory)) (a .event .0) (now (a .frame)) (pre .0) (pre .1) h _ (sym (c .before .before .before .before .before .before .before .victim .ensures) ∙ c .before .before .before .before .before .found .given .1)
+    ∙ displaces (now (a .cfg)) (now (a .records)) (now (a .memory)) (a .event .0) (now (a .frame)) (pre .0) (pre .1) h _
+    (sym (c .before .before .before .before .before .before .before .victim .ensures)
+    ∙ c .before .before .before .before .before .found .given .1)
 
 returns-3 : tie.Need-returns-3
 returns-3 c =
     let c8 = c .before .before .before .before .before .before .before .before in
     let a = c8 .before .before .before .args in
     let pre = c8 .before .before .before .pre in
-    let h : places (now (a .cfg)) ≤ entryCount (now (a .memory)) = omega (arith, c .before .before .before .before .before .before .entry-count .ensures, c .before .before .before .before .before .places .ensures, c .before .before .before .before .if1 .left) in
-    loses (now (a .cfg)) (now (a .records)) (now (a .memory)) (a .event .0) (now (a .frame)) (pre .0) (pre .1) h (sym (c .before .before .victim .ensures) ∙ c .enum-told .given .1)
+    let h : places (now (a .cfg)) ≤ entryCount (now (a .memory)) =
+    omega (
+      arith,
+      c .before .before .before .before .before .before .entry-count .ensures,
+      c .before .before .before .before .before .places .ensures,
+      c .before .before .before .before .if1 .left,
+    ) in
+    loses (now (a .cfg)) (now (a .records)) (now (a .memory)) (a .event .0) (now (a .frame)) (pre .0) (pre .1) h
+    (sym (c .before .before .victim .ensures) ∙ c .enum-told .given .1)
 
 pub admit-spec : {M : Type 1} → statement M
 admit-spec =

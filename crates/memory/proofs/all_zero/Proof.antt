@@ -20,13 +20,25 @@ loop-holds : tie.Need-loop-holds Inv-loop μ-loop
 loop-holds c = (omega arith, refl)
 
 returns : tie.Need-returns Inv-loop μ-loop
-returns c = sym (c .before .before .before .loop .inv .1 ∙ all-ends 0 (λ b. eqb b 0) (now (c .before .before .before .before .args .bytes)) (c .before .before .before .loop .i) (c .before .before .loop-test .taken) (ne-eqb _ _ (c .if1 .taken)))
+returns c =
+    sym
+    (c .before .before .before .loop .inv .1
+    ∙ all-ends 0 (λ b. eqb b 0) (now (c .before .before .before .before .args .bytes))
+    (c .before .before .before .loop .i) (c .before .before .loop-test .taken) (ne-eqb _ _ (c .if1 .taken)))
 
 loop-again : tie.Need-loop-again Inv-loop μ-loop
-loop-again c = (omega arith, c .before .before .before .loop .inv .1 ∙ all-goes-on 0 (λ b. eqb b 0) (now (c .before .before .before .before .args .bytes)) (c .before .before .before .loop .i) (c .before .before .loop-test .taken) (eq-eqb _ _ (c .if1 .left)))
+loop-again c = (
+  omega arith,
+  c .before .before .before .loop .inv .1
+      ∙ all-goes-on 0 (λ b. eqb b 0) (now (c .before .before .before .before .args .bytes))
+      (c .before .before .before .loop .i) (c .before .before .loop-test .taken) (eq-eqb _ _ (c .if1 .left)),
+)
 
 returns-2 : tie.Need-returns-2 Inv-loop μ-loop
-returns-2 c = sym (c .before .loop .inv .1 ∙ all-through 0 (λ b. eqb b 0) (now (c .before .before .args .bytes)) (c .before .loop .i) (c .loop-test .left))
+returns-2 c =
+    sym
+    (c .before .loop .inv .1
+    ∙ all-through 0 (λ b. eqb b 0) (now (c .before .before .args .bytes)) (c .before .loop .i) (c .loop-test .left))
 
 pub all-zero-spec : {M : Type 1} → statement M
 all-zero-spec =

@@ -31,7 +31,10 @@ returns c =
     let a = c8 .before .args in
     let m = now (a .memory) in
     c .before .before .enter .ensures
-    ∙ ap (λ (k : ℕ). entered (a .payload-bytes) k (a .event .0) (a .count) (now (a .payload)) (set m 0 (entryCount m + 1))) (c .before .before .before .before .before .entry-count .ensures)
+    ∙ ap
+    (λ (k : ℕ). entered (a .payload-bytes) k (a .event .0) (a .count) (now (a .payload))
+    (set m 0 (entryCount m + 1)))
+    (c .before .before .before .before .before .entry-count .ensures)
 
 pub append-spec : {M : Type 1} → statement M
 append-spec =

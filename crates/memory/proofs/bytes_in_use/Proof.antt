@@ -5,7 +5,9 @@ use Rattle.memory.proofs.bytes_in_use.Statement.{statement}
 use Rattle.memory.proofs.bytes_in_use.Tie as tie
 
 returns : tie.Need-returns
-returns c = c .start-of .ensures ∙ ap (bytesInUse (c .before .before .before .args .payload-bytes)) (c .before .entry-count .ensures)
+returns c =
+    c .start-of .ensures
+    ∙ ap (bytesInUse (c .before .before .before .args .payload-bytes)) (c .before .entry-count .ensures)
 
 pub bytes-in-use-spec : {M : Type 1} → statement M
 bytes-in-use-spec = tie.close

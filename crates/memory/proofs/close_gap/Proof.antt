@@ -10,11 +10,22 @@ use Rattle.memory.proofs.close_gap.Statement.{statement}
 use Rattle.memory.proofs.close_gap.Tie as tie
 
 close-requires : tie.Need-close-requires
-close-requires c κs = omega (arith, c .before .start-of .ensures, entry-within (c .before .before .before .args .payload-bytes) (c .before .before .before .args .place .0) (now (c .before .before .before .args .memory)) (c .before .before .before .pre))
+close-requires c κs =
+    omega (
+      arith,
+      c .before .start-of .ensures,
+      entry-within (c .before .before .before .args .payload-bytes) (c .before .before .before .args .place .0)
+          (now (c .before .before .before .args .memory)) (c .before .before .before .pre),
+    )
 
 returns : tie.Need-returns
 unfolding gapClosed
-returns c = c .before .before .close .ensures ∙ ap (λ (k : ℕ). closed k (entryWidth (c .before .before .before .before .before .before .args .payload-bytes)) (now (c .before .before .before .before .before .before .args .memory))) (c .before .before .before .before .start-of .ensures)
+returns c =
+    c .before .before .close .ensures
+    ∙ ap
+    (λ (k : ℕ). closed k (entryWidth (c .before .before .before .before .before .before .args .payload-bytes))
+    (now (c .before .before .before .before .before .before .args .memory)))
+    (c .before .before .before .before .start-of .ensures)
 
 pub close-gap-spec : {M : Type 1} → statement M
 close-gap-spec =

@@ -5,7 +5,9 @@ use Rattle.memory.proofs.displace.Statement.{statement}
 use Rattle.memory.proofs.displace.Tie as tie
 
 returns : tie.Need-returns
-returns c = λ i. leftWith (c .before .before .replace .ensures i) (Displaced (record { 0 = c .before .before .before .before .event-at .ensures i }))
+returns c =
+    λ i. leftWith (c .before .before .replace .ensures i)
+    (Displaced (record { 0 = c .before .before .before .before .event-at .ensures i }))
 
 pub displace-spec : {M : Type 1} → statement M
 displace-spec = tie.close

@@ -20,7 +20,8 @@ returns c =
     let payload = now (a .payload) in
     let e = a .event .0 in
     c .before .before .put2 .ensures
-    ∙ ap (λ (l : List ℕ). sets l (start-of .result + 3) payload) (c .before .before .before .before .before .before .put .ensures)
+    ∙ ap (λ (l : List ℕ). sets l (start-of .result + 3) payload)
+    (c .before .before .before .before .before .before .put .ensures)
     ∙ sets-append (e / 256 ∷ e % 256 ∷ a .count ∷ []) payload m (start-of .result)
     ∙ ap (λ (k : ℕ). sets m k (entryBytes (entryOf e (a .count) payload))) (start-of .ensures)
 

@@ -11,7 +11,10 @@ use Rattle.memory.proofs.place_of.Statement.{statement}
 use Rattle.memory.proofs.place_of.Tie as tie
 
 abbrev Inv-loop : tie.InvT-loop
-Inv-loop memory payload-bytes event entries i₀ i = (i ≤ entries) × (placeOf (event .0) (entriesOf payload-bytes memory) ≡ firstPlaceFrom (isOf (event .0)) i (drop i (entriesOf payload-bytes memory)))
+Inv-loop memory payload-bytes event entries i₀ i =
+    (i ≤ entries) ×
+    (placeOf (event .0) (entriesOf payload-bytes memory)
+    ≡ firstPlaceFrom (isOf (event .0)) i (drop i (entriesOf payload-bytes memory)))
 
 abbrev μ-loop : tie.MeasureT-loop
 μ-loop memory payload-bytes event entries i₀ i = entries - i
@@ -23,25 +26,59 @@ loop-holds : tie.Need-loop-holds Inv-loop μ-loop
 loop-holds c = (omega arith, refl)
 
 event-at-requires : tie.Need-event-at-requires Inv-loop μ-loop
-event-at-requires c κs = record { entries = (c .before .before .before .before .pre); below = omega (arith, c .before .before .entry-count .ensures, c .loop-test .taken) }
+event-at-requires c κs =
+    record {
+      entries = (c .before .before .before .before .pre);
+      below = omega (arith, c .before .before .entry-count .ensures, c .loop-test .taken);
+    }
 
 returns : tie.Need-returns Inv-loop μ-loop
 returns c =
     let c8 = c .before .before .before .before .before .before .before .before in
     let xs = entriesOf (c8 .args .payload-bytes) (now (c8 .args .memory)) in
-    let h : c .before .before .before .before .before .loop .i < length xs = omega (arith, entries-are-count (c8 .args .payload-bytes) (now (c8 .args .memory)), c .before .before .before .before .before .before .entry-count .ensures, c .before .before .before .before .loop-test .taken) in
-    sym (c .before .before .before .before .before .loop .inv .1 ∙ first-hit (isOf (c8 .args .event .0)) xs (c .before .before .before .before .before .loop .i) h (eq-eqb _ _ (sym (c .before .before .before .event-at .ensures) ∙ c .if1 .taken)))
+    let h : c .before .before .before .before .before .loop .i < length xs =
+    omega (
+      arith,
+      entries-are-count (c8 .args .payload-bytes) (now (c8 .args .memory)),
+      c .before .before .before .before .before .before .entry-count .ensures,
+      c .before .before .before .before .loop-test .taken,
+    ) in
+    sym
+    (c .before .before .before .before .before .loop .inv .1
+    ∙ first-hit (isOf (c8 .args .event .0)) xs (c .before .before .before .before .before .loop .i) h
+    (eq-eqb _ _ (sym (c .before .before .before .event-at .ensures) ∙ c .if1 .taken)))
 
 loop-again : tie.Need-loop-again Inv-loop μ-loop
 loop-again c =
     let c8 = c .before .before .before .before .before .before .before .before in
     let xs = entriesOf (c8 .args .payload-bytes) (now (c8 .args .memory)) in
-    let h : c .before .before .before .before .before .loop .i < length xs = omega (arith, entries-are-count (c8 .args .payload-bytes) (now (c8 .args .memory)), c .before .before .before .before .before .before .entry-count .ensures, c .before .before .before .before .loop-test .taken) in
-    (omega arith, c .before .before .before .before .before .loop .inv .1 ∙ first-miss (isOf (c8 .args .event .0)) xs (c .before .before .before .before .before .loop .i) h (ne-eqb _ _ (λ q. c .if1 .left (c .before .before .before .event-at .ensures ∙ q))))
+    let h : c .before .before .before .before .before .loop .i < length xs =
+    omega (
+      arith,
+      entries-are-count (c8 .args .payload-bytes) (now (c8 .args .memory)),
+      c .before .before .before .before .before .before .entry-count .ensures,
+      c .before .before .before .before .loop-test .taken,
+    ) in (
+      omega arith,
+      c .before .before .before .before .before .loop .inv .1
+          ∙ first-miss (isOf (c8 .args .event .0)) xs (c .before .before .before .before .before .loop .i) h
+          (ne-eqb _ _ (λ q. c .if1 .left (c .before .before .before .event-at .ensures ∙ q))),
+    )
 
 returns-2 : tie.Need-returns-2 Inv-loop μ-loop
-returns-2 c = let xs = entriesOf (c .before .before .before .before .args .payload-bytes) (now (c .before .before .before .before .args .memory)) in
-    sym (c .before .loop .inv .1 ∙ first-end (isOf (c .before .before .before .before .args .event .0)) xs (c .before .loop .i) (omega (arith, entries-are-count (c .before .before .before .before .args .payload-bytes) (now (c .before .before .before .before .args .memory)), c .before .before .entry-count .ensures, c .loop-test .left)))
+returns-2 c =
+    let xs = entriesOf (c .before .before .before .before .args .payload-bytes)
+    (now (c .before .before .before .before .args .memory)) in
+    sym
+    (c .before .loop .inv .1
+    ∙ first-end (isOf (c .before .before .before .before .args .event .0)) xs (c .before .loop .i)
+    (omega (
+      arith,
+      entries-are-count (c .before .before .before .before .args .payload-bytes)
+          (now (c .before .before .before .before .args .memory)),
+      c .before .before .entry-count .ensures,
+      c .loop-test .left,
+    )))
 
 pub place-of-spec : {M : Type 1} → statement M
 place-of-spec =

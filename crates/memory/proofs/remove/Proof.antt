@@ -9,7 +9,10 @@ use Rattle.memory.proofs.remove.Statement.{statement}
 use Rattle.memory.proofs.remove.Tie as tie
 
 returns : tie.Need-returns
-returns c = ap (λ (m : List ℕ). set m 0 (entryCount (now (c .before .before .before .before .before .before .args .memory)) - 1)) (c .before .before .close-gap .ensures)
+returns c =
+    ap
+    (λ (m : List ℕ). set m 0 (entryCount (now (c .before .before .before .before .before .before .args .memory)) - 1))
+    (c .before .before .close-gap .ensures)
 
 pub remove-spec : {M : Type 1} → statement M
 remove-spec =

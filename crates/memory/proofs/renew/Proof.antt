@@ -12,7 +12,8 @@ returns c =
     let a = c8 .before .args in
     c .before .before .replace .ensures
     ∙ ap (λ (k : ℕ). replaced (a .payload-bytes) (a .place .0) (a .event .0) k (now (a .frame)) (now (a .memory)))
-    (c .before .before .before .before .one-more .ensures ∙ ap (λ (k : ℕ). min 255 (suc k)) (c .before .before .before .before .before .count-at .ensures))
+    (c .before .before .before .before .one-more .ensures
+    ∙ ap (λ (k : ℕ). min 255 (suc k)) (c .before .before .before .before .before .count-at .ensures))
 
 pub renew-spec : {M : Type 1} → statement M
 renew-spec =

@@ -12,15 +12,21 @@ enter-requires : tie.Need-enter-requires
 enter-requires c κs =
     let c8 = c .before .before .before .before .before .before .before .before in
     let a = c8 .before .args in
-    let pre = c8 .before .pre in
-    (rw (c .before .before .before .close-gap .ensures) (room-in-use (a .payload-bytes) (a .place .0) (a .event .0) _ (now (a .memory)) (pre .0) (pre .1 .0) (omega (arith, c .before .before .before .before .before .entry-count .ensures, pre .0 .below))), pre .1 .1)
+    let pre = c8 .before .pre in (
+      rw (c .before .before .before .close-gap .ensures)
+          (room-in-use (a .payload-bytes) (a .place .0) (a .event .0) _ (now (a .memory)) (pre .0) (pre .1 .0)
+          (omega (arith, c .before .before .before .before .before .entry-count .ensures, pre .0 .below))),
+      pre .1 .1,
+    )
 
 returns : tie.Need-returns
 returns c =
     let c8 = c .before .before .before .before .before .before .before .before in
     let a = c8 .before .before .before .before .args in
     c .before .before .enter .ensures
-    ∙ (λ i. entered (a .payload-bytes) (c8 .entry-count .ensures i - 1) (a .event .0) (a .count) (now (a .payload)) (c .before .before .before .before .before .before .close-gap .ensures i))
+    ∙
+    (λ i. entered (a .payload-bytes) (c8 .entry-count .ensures i - 1) (a .event .0) (a .count) (now (a .payload))
+    (c .before .before .before .before .before .before .close-gap .ensures i))
 
 pub replace-spec : {M : Type 1} → statement M
 replace-spec =

@@ -12,27 +12,36 @@ use Rattle.memory.proofs.store.Tie as tie
 place-of-requires : tie.Need-place-of-requires
 place-of-requires c κs =
     let a = c .before .before .before .before .before .args in
-    may-find (now (a .cfg)) (now (a .records)) (now (a .memory)) (a .event .0) (now (a .frame)) (c .before .before .before .before .before .pre) (c .before .entry-frames .ensures)
+    may-find (now (a .cfg)) (now (a .records)) (now (a .memory)) (a .event .0) (now (a .frame))
+    (c .before .before .before .before .before .pre) (c .before .entry-frames .ensures)
 
 renew-requires : tie.Need-renew-requires
 renew-requires c κs =
     let c8 = c .before .before .before .before .before .before .before .before in
     let a = c8 .before .before .args in
-    may-renew (now (a .cfg)) (now (a .records)) (now (a .memory)) (a .event .0) (now (a .frame)) (c8 .before .before .pre) (c .before .before .before .before .before .before .entry-frames .ensures) _ (sym (c .before .before .before .before .place-of .ensures) ∙ c .before .before .own .given .1)
+    may-renew (now (a .cfg)) (now (a .records)) (now (a .memory)) (a .event .0) (now (a .frame))
+    (c8 .before .before .pre) (c .before .before .before .before .before .before .entry-frames .ensures) _
+    (sym (c .before .before .before .before .place-of .ensures) ∙ c .before .before .own .given .1)
 
 returns : tie.Need-returns
 returns c =
     let c8 = c .before .before .before .before .before .before .before .before in
     let a = c8 .before .before .before .before .before .args in
     ap (λ (m : List ℕ). leftWith m Renewed) (c .before .before .renew .ensures)
-    ∙ renews (now (a .cfg)) (now (a .records)) (now (a .memory)) (a .event .0) (now (a .frame)) (c8 .before .before .before .before .before .pre) (c8 .before .entry-frames .ensures) _ (sym (c .before .before .before .before .before .before .before .place-of .ensures) ∙ c .before .before .before .before .before .own .given .1)
+    ∙ renews (now (a .cfg)) (now (a .records)) (now (a .memory)) (a .event .0) (now (a .frame))
+    (c8 .before .before .before .before .before .pre) (c8 .before .entry-frames .ensures) _
+    (sym (c .before .before .before .before .before .before .before .place-of .ensures)
+    ∙ c .before .before .before .before .before .own .given .1)
 
 returns-2 : tie.Need-returns-2
 returns-2 c =
     let c8 = c .before .before .before .before .before .before .before .before in
     let a = c8 .before .before .before .before .args in
     c .before .before .admit .ensures
-    ∙ has-none (now (a .cfg)) (now (a .records)) (now (a .memory)) (a .event .0) (now (a .frame)) (c8 .before .before .before .before .pre) (c8 .entry-frames .ensures) (sym (c .before .before .before .before .before .before .place-of .ensures) ∙ c .before .before .before .before .enum-told .given .1)
+    ∙ has-none (now (a .cfg)) (now (a .records)) (now (a .memory)) (a .event .0) (now (a .frame))
+    (c8 .before .before .before .before .pre) (c8 .entry-frames .ensures)
+    (sym (c .before .before .before .before .before .before .place-of .ensures)
+    ∙ c .before .before .before .before .enum-told .given .1)
 
 pub store-spec : {M : Type 1} → statement M
 store-spec =

@@ -14,8 +14,10 @@ returns : tie.Need-returns
 returns c =
     let c8 = c .before .before .before .before .before .before .before .before in
     let a = c8 .before .before .before .before .before .before .args in
-    applied-is (now (a .cfg)) (a .event .0) (now (a .frame)) (now (a .records)) (now (a .memory)) (a .board) (now (a .debounce)) (answered (a .d))
-    (c8 .write-number .ensures ∙ ap (λ (z : ℤ). set (now (a .debounce)) (a .event .0) z) (held refl (c8 .before .struct-told .given .0 .1)))
+    applied-is (now (a .cfg)) (a .event .0) (now (a .frame)) (now (a .records)) (now (a .memory)) (a .board)
+    (now (a .debounce)) (answered (a .d))
+    (c8 .write-number .ensures
+    ∙ ap (λ (z : ℤ). set (now (a .debounce)) (a .event .0) z) (held refl (c8 .before .struct-told .given .0 .1)))
     (c .before .before .before .before .qualifies .ensures)
 
 pub applies-spec : {M : Type 1} → statement M

@@ -10,7 +10,8 @@ returns c =
     let c8 = c .before .before .before .before .before .before .before .before in
     let a = c8 .before .before .before .before .before .before .args in
     let fresh-record = c8 .before .before .fresh-record in
-    clears-is (now (a .cfg)) (a .event .0) (now (a .records)) (now (a .debounce)) (now (a .memory)) (c .before .reset-number .ensures)
+    clears-is (now (a .cfg)) (a .event .0) (now (a .records)) (now (a .debounce)) (now (a .memory))
+    (c .before .reset-number .ensures)
     (fresh-record .result) (fresh-record .ensures) (c8 .before .write-record .ensures)
     (c .before .before .before .before .before .forget .ensures)
 

@@ -8,7 +8,8 @@ use Rattle.one_event.proofs.entry_leaves_if.Tie as tie
 returns : tie.Need-returns
 returns c =
     let a = c .before .before .before .before .before .before .args in
-    leaves-where (now (a .cfg)) (a .event .0) (now (a .memory)) (c .before .before .before .before .if1 .taken) (c .before .before .forget .ensures)
+    leaves-where (now (a .cfg)) (a .event .0) (now (a .memory)) (c .before .before .before .before .if1 .taken)
+    (c .before .before .forget .ensures)
 
 returns-2 : tie.Need-returns-2
 returns-2 c =

@@ -13,7 +13,8 @@ returns c =
     let limits-of = c8 .before .before .before .before .before .limits-of in
     let read-record = c8 .before .before .before .read-record in
     let failed = c8 .before .before .failed in
-    fails-told (now (a .cfg)) (a .event .0) (now (a .frame)) (now (a .records)) (now (a .memory)) (a .board) (limits-of .result) (read-record .result)
+    fails-told (now (a .cfg)) (a .event .0) (now (a .frame)) (now (a .records)) (now (a .memory)) (a .board)
+    (limits-of .result) (read-record .result)
     (failed .result) (limits-of .ensures) (read-record .ensures) (failed .ensures)
     (c8 .write-record .ensures) (c .before .before .before .before .before .if1 .taken)
     (c .before .before .tell-memory .ensures)
@@ -25,8 +26,10 @@ returns-2 c =
     let limits-of = c8 .limits-of in
     let read-record = c .before .before .before .before .before .before .read-record in
     let failed = c .before .before .before .before .before .failed in
-    fails-untold (now (a .cfg)) (a .event .0) (now (a .frame)) (now (a .records)) (now (a .memory)) (a .board) (limits-of .result) (read-record .result)
-    (failed .result) (limits-of .ensures) (read-record .ensures) (failed .ensures) (c .before .before .before .write-record .ensures) (c .if1 .left)
+    fails-untold (now (a .cfg)) (a .event .0) (now (a .frame)) (now (a .records)) (now (a .memory)) (a .board)
+    (limits-of .result) (read-record .result)
+    (failed .result) (limits-of .ensures) (read-record .ensures) (failed .ensures)
+    (c .before .before .before .write-record .ensures) (c .if1 .left)
 
 pub fails-spec : {M : Type 1} → statement M
 fails-spec =

@@ -13,7 +13,8 @@ returns c =
     let a = c8 .args in
     let read-record = c .before .before .before .before .before .read-record in
     let after = c .before .before .before .passed in
-    λ cfg. happens-is cfg (a .event .0) (now (a .records)) passed (read-record .result) (after .result) (read-record .ensures)
+    λ cfg. happens-is cfg (a .event .0) (now (a .records)) passed (read-record .result) (after .result)
+    (read-record .ensures)
     (after .ensures (limitsOf cfg (a .event .0))) (c .before .before .write-record .ensures)
 
 pub passes-spec : {M : Type 1} → statement M

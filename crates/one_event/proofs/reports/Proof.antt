@@ -14,7 +14,8 @@ report-step-requires c κs =
     let row-of = c .before .before .row-of in
     let read-number = c .read-number in
     may-report (now (a .cfg)) (a .event .0) (lent (now (a .records)) (now (a .debounce)) (now (a .memory)) (a .board))
-    (c .before .before .before .before .before .before .pre .0) (row-of .result) (row-of .ensures) (held (read-number .ensures) (read-number .ok))
+    (c .before .before .before .before .before .before .pre .0) (row-of .result) (row-of .ensures)
+    (held (read-number .ensures) (read-number .ok))
 
 returns : tie.Need-returns
 returns c =
@@ -24,7 +25,8 @@ returns c =
     let row-of = c8 .before .before .before .before .before .row-of in
     let read-number = c8 .before .before .before .read-number in
     let report-step = c8 .before .before .report-step in
-    reports-is (now (a .cfg)) (a .event .0) (lent (now (a .records)) (now (a .debounce)) (now (a .memory)) (a .board)) (now (a .frame)) (row-of .result)
+    reports-is (now (a .cfg)) (a .event .0) (lent (now (a .records)) (now (a .debounce)) (now (a .memory)) (a .board))
+    (now (a .frame)) (row-of .result)
     (row-of .ensures) (held (read-number .ensures) (read-number .ok)) (answered (report-step .result))
     (c .before .before .before .before .before .before .applies .ensures) (a .code) (report-step .ensures)
 

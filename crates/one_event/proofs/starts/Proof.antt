@@ -13,7 +13,8 @@ returns c =
     let a = c8 .args in
     let read-record = c .before .before .before .before .before .read-record in
     let started = c .before .before .before .started in
-    λ cfg. happens-is cfg (a .event .0) (now (a .records)) start (read-record .result) (started .result) (read-record .ensures)
+    λ cfg. happens-is cfg (a .event .0) (now (a .records)) start (read-record .result) (started .result)
+    (read-record .ensures)
     (started .ensures (limitsOf cfg (a .event .0))) (c .before .before .write-record .ensures)
 
 pub starts-spec : {M : Type 1} → statement M

@@ -6,7 +6,8 @@ use Rattle.one_event.proofs.stops.Statement.{statement}
 use Rattle.one_event.proofs.stops.Tie as tie
 
 stopped-requires : tie.Need-stopped-requires
-stopped-requires c κs = may-stop (c .before .before .before .before .before .pre) (c .read-record .result) (c .read-record .ensures)
+stopped-requires c κs =
+    may-stop (c .before .before .before .before .before .pre) (c .read-record .result) (c .read-record .ensures)
 
 returns : tie.Need-returns
 returns c =
@@ -16,7 +17,8 @@ returns c =
     let limits-of = c8 .before .before .before .before .before .before .limits-of in
     let read-record = c8 .before .before .before .before .read-record in
     let stopped = c8 .before .before .before .stopped in
-    stops-is (now (a .cfg)) (a .event .0) (now (a .records)) (now (a .debounce)) (now (a .memory)) (c .before .reset-number .ensures) (limits-of .result)
+    stops-is (now (a .cfg)) (a .event .0) (now (a .records)) (now (a .debounce)) (now (a .memory))
+    (c .before .reset-number .ensures) (limits-of .result)
     (read-record .result) (stopped .result) (limits-of .ensures) (read-record .ensures) (stopped .ensures)
     (c8 .before .write-record .ensures)
     (c .before .before .before .before .before .entry-leaves-if .ensures)

@@ -10,7 +10,8 @@ returns c =
     let c8 = c .before .before .before .before .before .before .before .before in
     let a = c8 .before .before .args in
     let store = c .before .before .before .before .before .store in
-    told-is (now (a .cfg)) (a .event .0) (now (a .frame)) (now (a .records)) (now (a .memory)) (a .board) (store .result) (store .ensures)
+    told-is (now (a .cfg)) (a .event .0) (now (a .frame)) (now (a .records)) (now (a .memory)) (a .board)
+    (store .result) (store .ensures)
     (c .before .is-lost .ensures)
 
 pub tell-memory-spec : {M : Type 1} → statement M

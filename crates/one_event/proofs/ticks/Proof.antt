@@ -14,7 +14,8 @@ tick-step-requires c κs =
     let pre = c .before .before .before .before .before .before .pre in
     let row-of = c .before .before .row-of in
     let read-number = c .read-number in
-    may-tick (now (a .cfg)) (a .event .0) (lent (now (a .records)) (now (a .debounce)) (now (a .memory)) (a .board)) (pre .0) (row-of .result)
+    may-tick (now (a .cfg)) (a .event .0) (lent (now (a .records)) (now (a .debounce)) (now (a .memory)) (a .board))
+    (pre .0) (row-of .result)
     (row-of .ensures) (held (read-number .ensures) (read-number .ok)) (a .ms) (pre .1 .1)
 
 returns : tie.Need-returns
@@ -25,7 +26,8 @@ returns c =
     let row-of = c8 .before .before .before .before .row-of in
     let read-number = c8 .before .before .read-number in
     let tick-step = c8 .before .tick-step in
-    ticks-is (now (a .cfg)) (a .event .0) (lent (now (a .records)) (now (a .debounce)) (now (a .memory)) (a .board)) (now (a .frame)) (row-of .result)
+    ticks-is (now (a .cfg)) (a .event .0) (lent (now (a .records)) (now (a .debounce)) (now (a .memory)) (a .board))
+    (now (a .frame)) (row-of .result)
     (row-of .ensures) (held (read-number .ensures) (read-number .ok)) (answered (tick-step .result))
     (c .before .before .before .before .before .applies .ensures) (a .ms) (tick-step .ensures)
 

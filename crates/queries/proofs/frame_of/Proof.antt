@@ -34,7 +34,8 @@ returns-2 : tie.Need-returns-2
 returns-2 c =
     let a = c .before .before .before .before .before .before .args in
     answers-nothing (entryFrames (now (a .cfg))) (frameBytes (now (a .cfg))) (a .event .0) (now (a .memory))
-    (c .before .before .before .entry-frames .ensures) (sym (c .before .before .place-of .ensures) ∙ c .enum-told .given .1)
+    (c .before .before .before .entry-frames .ensures)
+    (sym (c .before .before .place-of .ensures) ∙ c .enum-told .given .1)
 
 pub frame-of-spec : {M : Type 1} → statement M
 frame-of-spec =

@@ -8,7 +8,10 @@ use Rattle.queries.proofs.frame_part.Statement.{statement}
 use Rattle.queries.proofs.frame_part.Tie as tie
 
 returns : tie.Need-returns
-returns c = c .part-at .ensures ∙ ap (λ (r : FrameAnswer). partOf r (now (c .before .before .before .before .before .args .memory))) (sym (c .before .before .answer .given .1))
+returns c =
+    c .part-at .ensures
+    ∙ ap (λ (r : FrameAnswer). partOf r (now (c .before .before .before .before .before .args .memory)))
+    (sym (c .before .before .answer .given .1))
 
 pub frame-part-spec : {M : Type 1} → statement M
 frame-part-spec =

@@ -14,7 +14,8 @@ returns : tie.Need-returns
 returns c =
     let c8 = c .before .before .before .before .before .before .before .before in
     let e = c8 .args .event .0 in
-    judged-by _ _ true (c .before .before .before .before .before .begin .ensures) _ (c .before .before .before .enum-told .given .1)
+    judged-by _ _ true (c .before .before .before .before .before .begin .ensures) _
+    (c .before .before .before .enum-told .given .1)
     (c .four .ensures ∙ ap (λ (n : ℕ). firstThatApplies (four (leb n e))) (c .before .before .events .ensures))
 
 returns-2 : tie.Need-returns-2

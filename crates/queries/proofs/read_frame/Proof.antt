@@ -14,20 +14,23 @@ frame-of-requires : tie.Need-frame-of-requires
 frame-of-requires c κs =
     let a = c .before .before .before .before .before .args in
     let s = lent (now (a .records)) (now (a .debounce)) (now (a .memory)) (a .board) in
-    may-seek (now (a .cfg)) s (a .event .0) (sym (c .before .before .judge .ensures) ∙ ap checkNumber (c .enum-told .given .1))
+    may-seek (now (a .cfg)) s (a .event .0)
+    (sym (c .before .before .judge .ensures) ∙ ap checkNumber (c .enum-told .given .1))
 
 returns : tie.Need-returns
 returns c =
     let a = c .before .before .before .before .before .before .args in
     let s = lent (now (a .records)) (now (a .debounce)) (now (a .memory)) (a .board) in
     ap (λ (r : FrameAnswer). says r s) (c .frame-of .ensures)
-    ∙ frame-is (now (a .cfg)) s (a .event .0) (sym (c .before .before .before .judge .ensures) ∙ ap checkNumber (c .before .enum-told .given .1))
+    ∙ frame-is (now (a .cfg)) s (a .event .0)
+    (sym (c .before .before .before .judge .ensures) ∙ ap checkNumber (c .before .enum-told .given .1))
 
 returns-2 : tie.Need-returns-2
 returns-2 c =
     let a = c .before .before .before .before .before .before .args in
     let s = lent (now (a .records)) (now (a .debounce)) (now (a .memory)) (a .board) in
-    frame-refused (now (a .cfg)) s (a .event .0) (c .before .refusal .given .0 .0) (ap checkNumber (sym (c .before .refusal .given .1)) ∙ c .before .before .before .judge .ensures)
+    frame-refused (now (a .cfg)) s (a .event .0) (c .before .refusal .given .0 .0)
+    (ap checkNumber (sym (c .before .refusal .given .1)) ∙ c .before .before .before .judge .ensures)
 
 pub read-frame-spec : {M : Type 1} → statement M
 read-frame-spec =

@@ -12,13 +12,16 @@ returns : tie.Need-returns
 returns c =
     let a = c .before .before .before .before .before .before .args in
     let s = lent (now (a .records)) (now (a .debounce)) (now (a .memory)) (a .board) in
-    status-is (now (a .cfg)) s (a .event .0) (sym (c .before .before .before .judge .ensures) ∙ ap checkNumber (c .before .enum-told .given .1)) (c .status-of .ensures)
+    status-is (now (a .cfg)) s (a .event .0)
+    (sym (c .before .before .before .judge .ensures) ∙ ap checkNumber (c .before .enum-told .given .1))
+    (c .status-of .ensures)
 
 returns-2 : tie.Need-returns-2
 returns-2 c =
     let a = c .before .before .before .before .before .before .args in
     let s = lent (now (a .records)) (now (a .debounce)) (now (a .memory)) (a .board) in
-    status-refused (now (a .cfg)) s (a .event .0) (c .before .refusal .given .0 .0) (ap checkNumber (sym (c .before .refusal .given .1)) ∙ c .before .before .before .judge .ensures)
+    status-refused (now (a .cfg)) s (a .event .0) (c .before .refusal .given .0 .0)
+    (ap checkNumber (sym (c .before .refusal .given .1)) ∙ c .before .before .before .judge .ensures)
 
 pub read-status-spec : {M : Type 1} → statement M
 read-status-spec =

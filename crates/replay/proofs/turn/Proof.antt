@@ -11,14 +11,20 @@ slice-reshare-prefix-say c =
     let c8 = c .before .before .before .before .before .before .before .before in
     let c16 = c8 .before .before .before .before .before .before .before .before in
     let a = c16 .before .before .before .before .before .args in
-    line-within (now (a .cfg)) (now (a .buffer)) (lent (now (a .records)) (now (a .debounce)) (now (a .memory)) (a .played .board)) (a .played .next .at) (now (a .text)) (rw (c .before .stepped .given .1) at (c8 .before .before .before .step .ensures))
+    line-within (now (a .cfg)) (now (a .buffer))
+    (lent (now (a .records)) (now (a .debounce)) (now (a .memory)) (a .played .board)) (a .played .next .at)
+    (now (a .text)) (rw (c .before .stepped .given .1) at (c8 .before .before .before .step .ensures))
 
 slice-aggregate-say : tie.Need-slice-aggregate-say
 slice-aggregate-say c =
     let c8 = c .before .before .before .before .before .before .before .before in
     let c16 = c8 .before .before .before .before .before .before .before .before in
     let a = c16 .before .before .before .before .before .before .args in
-    length-of-front _ _ (line-within (now (a .cfg)) (now (a .buffer)) (lent (now (a .records)) (now (a .debounce)) (now (a .memory)) (a .played .board)) (a .played .next .at) (now (a .text)) (rw (c .before .before .stepped .given .1) at (c8 .before .before .before .before .step .ensures)))
+    length-of-front _ _
+    (line-within (now (a .cfg)) (now (a .buffer))
+    (lent (now (a .records)) (now (a .debounce)) (now (a .memory)) (a .played .board)) (a .played .next .at)
+    (now (a .text))
+    (rw (c .before .before .stepped .given .1) at (c8 .before .before .before .before .step .ensures)))
 
 pub turn-spec : {M : Type 1} → statement M
 turn-spec =

@@ -15,7 +15,9 @@ loop-holds : tie.Need-loop-holds Inv-loop μ-loop
 loop-holds c = tt
 
 add--case : tie.Need-add--case Inv-loop μ-loop
-add--case c = omega (arith, c .before .before .before .loop-test .taken, c .before .before .before .before .before .before .good .0)
+add--case c =
+    omega
+    (arith, c .before .before .before .loop-test .taken, c .before .before .before .before .before .before .good .0)
 
 loop-less : tie.Need-loop-less Inv-loop μ-loop
 loop-less c = omega (arith, c .before .before .before .loop-test .taken)

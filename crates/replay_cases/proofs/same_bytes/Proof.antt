@@ -15,7 +15,8 @@ shared-slice-read-if2 : tie.Need-shared-slice-read-if2 Inv-loop μ-loop
 shared-slice-read-if2 c = omega (arith, c .before .loop-test .taken)
 
 shared-slice-read-if2-2 : tie.Need-shared-slice-read-if2-2 Inv-loop μ-loop
-shared-slice-read-if2-2 c = omega (arith, c .before .before .loop-test .taken, c .before .before .before .before .if1 .left)
+shared-slice-read-if2-2 c =
+    omega (arith, c .before .before .loop-test .taken, c .before .before .before .before .if1 .left)
 
 add-i : tie.Need-add-i Inv-loop μ-loop
 add-i c = omega (arith, c .before .before .before .loop-test .taken)

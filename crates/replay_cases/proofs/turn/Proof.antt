@@ -13,7 +13,9 @@ slice-reshare-prefix-print c =
     let c16 = c8 .before .before .before .before .before .before .before .before in
     let c24 = c16 .before .before .before .before .before .before .before .before in
     let a = c24 .args in
-    line-within (now (a .cfg)) (now (a .buffer)) (lent (now (a .records)) (now (a .debounce)) (now (a .memory)) (a .played .board)) (a .played .next .at) (now (a .text)) (rw (c .before .stepped .given .1) at (c8 .before .before .before .step .ensures))
+    line-within (now (a .cfg)) (now (a .buffer))
+    (lent (now (a .records)) (now (a .debounce)) (now (a .memory)) (a .played .board)) (a .played .next .at)
+    (now (a .text)) (rw (c .before .stepped .given .1) at (c8 .before .before .before .step .ensures))
 
 slice-aggregate-print : tie.Need-slice-aggregate-print
 slice-aggregate-print c =
@@ -21,7 +23,11 @@ slice-aggregate-print c =
     let c16 = c8 .before .before .before .before .before .before .before .before in
     let c24 = c16 .before .before .before .before .before .before .before .before in
     let a = c24 .before .args in
-    length-of-front _ _ (line-within (now (a .cfg)) (now (a .buffer)) (lent (now (a .records)) (now (a .debounce)) (now (a .memory)) (a .played .board)) (a .played .next .at) (now (a .text)) (rw (c .before .before .stepped .given .1) at (c8 .before .before .before .before .step .ensures)))
+    length-of-front _ _
+    (line-within (now (a .cfg)) (now (a .buffer))
+    (lent (now (a .records)) (now (a .debounce)) (now (a .memory)) (a .played .board)) (a .played .next .at)
+    (now (a .text))
+    (rw (c .before .before .stepped .given .1) at (c8 .before .before .before .before .step .ensures)))
 
 pub turn-spec : {M : Type 1} → statement M
 turn-spec =

@@ -5,7 +5,9 @@ use Rattle.replay_step.proofs.call_asked.Tie as tie
 
 returns : tie.Need-returns
 unfolding callAsked
-returns c = rw (← c .before .before .before .before .read-argument .ensures, c .before .before .first .given .1) (c .call-with .ensures)
+returns c =
+    rw (← c .before .before .before .before .read-argument .ensures, c .before .before .first .given .1)
+    (c .call-with .ensures)
 
 returns-2 : tie.Need-returns-2
 unfolding callAsked

@@ -12,14 +12,35 @@ use Rattle.replay_step.proofs.counted.Tie as tie
 
 returns : tie.Need-returns
 unfolding withCount
-returns c = let e = toZ-ofZ (c .before .before .before .fits .count) in let r = rw e at (c .before .count-allowed .ensures) in rw (← r, not-true (c .before .count-allowed .result) (c .if1 .taken))
+returns c =
+    let e = toZ-ofZ (c .before .before .before .fits .count) in let r = rw e at (c .before .count-allowed .ensures) in
+    rw (← r, not-true (c .before .count-allowed .result) (c .if1 .taken))
 
 read-configuration-requires : tie.Need-read-configuration-requires
-read-configuration-requires c κs = let e = toZ-ofZ (c .before .before .before .before .before .fits .count) in let r = rw e at (c .before .before .before .count-allowed .ensures) in let n = rw e at (c .count-of .ensures) in rw n (le-trans (count-small _ (sym r ∙ not-false _ (c .before .before .if1 .left))) (c .before .before .before .before .before .pre))
+read-configuration-requires c κs =
+    let e = toZ-ofZ (c .before .before .before .before .before .fits .count) in let r = rw e at
+    (c .before .before .before .count-allowed .ensures) in let n = rw e at (c .count-of .ensures) in rw n
+    (le-trans (count-small _ (sym r ∙ not-false _ (c .before .before .if1 .left)))
+    (c .before .before .before .before .before .pre))
 
 returns-2 : tie.Need-returns-2
 unfolding withCount
-returns-2 c = let e = toZ-ofZ (c .before .before .before .before .before .before .before .fits .count) in let r = rw e at (c .before .before .before .before .before .count-allowed .ensures) in let n = rw e at (c .before .before .count-of .ensures) in rw (← r, not-false (c .before .before .before .before .before .count-allowed .result) (c .before .before .before .before .if1 .left)) (c .before .read-configuration .ensures ∙ ap (λ (k : ℕ). beginningLeft (ofNumbers (numbersRead k (c .before .before .before .before .before .before .before .args .from .at) (now (c .before .before .before .before .before .before .before .args .text)))) (now (c .before .before .before .before .before .before .before .args .cfg))) n)
+returns-2 c =
+    let e = toZ-ofZ (c .before .before .before .before .before .before .before .fits .count) in let r = rw e at
+    (c .before .before .before .before .before .count-allowed .ensures) in let n = rw e at
+    (c .before .before .count-of .ensures) in rw (
+      ← r,
+      not-false (c .before .before .before .before .before .count-allowed .result)
+          (c .before .before .before .before .if1 .left),
+    )
+    (c .before .read-configuration .ensures
+    ∙ ap
+    (λ (k : ℕ). beginningLeft
+    (ofNumbers
+    (numbersRead k (c .before .before .before .before .before .before .before .args .from .at)
+    (now (c .before .before .before .before .before .before .before .args .text))))
+    (now (c .before .before .before .before .before .before .before .args .cfg)))
+    n)
 
 pub counted-spec : {M : Type 1} → statement M
 counted-spec =

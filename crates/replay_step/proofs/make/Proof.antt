@@ -7,27 +7,41 @@ use Rattle.replay_step.proofs.make.Tie as tie
 returns : tie.Need-returns
 returns c =
     let c8 = c .before .before .before .before .before .before .before .before in
-    rw (c8 .before .before .before .call .given .1) (made-by (ofReport (c .before .before .before .before .before .before .report .result .answer)) (c .made-of-report .ensures .0) (c .made-of-report .ensures .1) (c .before .before .before .before .before .before .report .ensures))
+    rw (c8 .before .before .before .call .given .1)
+    (made-by (ofReport (c .before .before .before .before .before .before .report .result .answer))
+    (c .made-of-report .ensures .0) (c .made-of-report .ensures .1)
+    (c .before .before .before .before .before .before .report .ensures))
 
 returns-2 : tie.Need-returns-2
 returns-2 c =
     let c8 = c .before .before .before .before .before .before .before .before in
-    rw (c8 .call2 .given .1) (made-by (ofAnswer (c .before .before .before .start .result .answer)) (c .made-of .ensures .0) (c .made-of .ensures .1) (c .before .before .before .start .ensures))
+    rw (c8 .call2 .given .1)
+    (made-by (ofAnswer (c .before .before .before .start .result .answer)) (c .made-of .ensures .0)
+    (c .made-of .ensures .1) (c .before .before .before .start .ensures))
 
 returns-3 : tie.Need-returns-3
 returns-3 c =
     let c8 = c .before .before .before .before .before .before .before .before in
-    rw (c8 .before .before .before .call3 .given .1) (made-by (ofAnswer (c .before .before .before .before .before .before .stop .result .answer)) (c .made-of2 .ensures .0) (c .made-of2 .ensures .1) (c .before .before .before .before .before .before .stop .ensures))
+    rw (c8 .before .before .before .call3 .given .1)
+    (made-by (ofAnswer (c .before .before .before .before .before .before .stop .result .answer))
+    (c .made-of2 .ensures .0) (c .made-of2 .ensures .1)
+    (c .before .before .before .before .before .before .stop .ensures))
 
 returns-4 : tie.Need-returns-4
 returns-4 c =
     let c8 = c .before .before .before .before .before .before .before .before in
-    rw (c8 .before .before .before .call4 .given .1) (made-by (ofAnswer (c .before .before .before .before .before .before .tick .result .answer)) (c .made-of3 .ensures .0) (c .made-of3 .ensures .1) (c .before .before .before .before .before .before .tick .ensures))
+    rw (c8 .before .before .before .call4 .given .1)
+    (made-by (ofAnswer (c .before .before .before .before .before .before .tick .result .answer))
+    (c .made-of3 .ensures .0) (c .made-of3 .ensures .1)
+    (c .before .before .before .before .before .before .tick .ensures))
 
 returns-5 : tie.Need-returns-5
 returns-5 c =
     let c8 = c .before .before .before .before .before .before .before .before in
-    rw (c8 .before .before .before .call5 .given .1) (made-by (ofAnswer (c .before .before .before .before .before .before .clear .result .answer)) (c .made-of4 .ensures .0) (c .made-of4 .ensures .1) (c .before .before .before .before .before .before .clear .ensures))
+    rw (c8 .before .before .before .call5 .given .1)
+    (made-by (ofAnswer (c .before .before .before .before .before .before .clear .result .answer))
+    (c .made-of4 .ensures .0) (c .made-of4 .ensures .1)
+    (c .before .before .before .before .before .before .clear .ensures))
 
 pub make-spec : {M : Type 1} → statement M
 make-spec =

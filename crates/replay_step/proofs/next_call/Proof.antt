@@ -10,13 +10,26 @@ use Rattle.replay_step.proofs.next_call.Tie as tie
 
 returns : tie.Need-returns
 unfolding askedAt
-returns c = rw (← c .before .before .before .before .next-number .ensures, c .before .before .read .given .1, c .if1 .taken)
+returns c =
+    rw (← c .before .before .before .before .next-number .ensures, c .before .before .read .given .1, c .if1 .taken)
 
 returns-2 : tie.Need-returns-2
 unfolding askedAt
 returns-2 c =
     let c8 = c .before .before .before .before .before .before .before .before in
-    rw (← c8 .next-number .ensures, c .before .before .before .before .before .before .read .given .1, c .before .before .before .before .if1 .left) (c .call-asked .ensures ∙ ap (λ (n : ℕ). callAsked n (c .before .before .before .before .before .before .read .given .0 .0 .next .at) (now (c8 .before .before .args .text))) (c .before .count-of .ensures ∙ ap natOf (back (c .before .before .before .before .before .before .read .given .0 .0 .value) (c .before .before .struct-told .given .0 .1))))
+    rw (
+      ← c8 .next-number .ensures,
+      c .before .before .before .before .before .before .read .given .1,
+      c .before .before .before .before .if1 .left,
+    )
+    (c .call-asked .ensures
+    ∙ ap
+    (λ (n : ℕ). callAsked n (c .before .before .before .before .before .before .read .given .0 .0 .next .at)
+    (now (c8 .before .before .args .text)))
+    (c .before .count-of .ensures
+    ∙ ap natOf
+    (back (c .before .before .before .before .before .before .read .given .0 .0 .value)
+    (c .before .before .struct-told .given .0 .1))))
 
 returns-3 : tie.Need-returns-3
 unfolding askedAt

@@ -9,14 +9,17 @@ returns : tie.Need-returns
 returns c =
     let c8 = c .before .before .before .before .before .before .before .before in
     let a = c8 .before .args in
-    read-judged (a .count) (numbersRead (a .count) (a .from .at) (now (a .text))) (now (a .cfg)) (counts (now (a .text)) (a .from .at) (a .count))
-    (rw (c .before .before .before .next .given .1) at (c .before .before .before .before .before .before .read-numbers .ensures))
+    read-judged (a .count) (numbersRead (a .count) (a .from .at) (now (a .text))) (now (a .cfg))
+    (counts (now (a .text)) (a .from .at) (a .count))
+    (rw (c .before .before .before .next .given .1) at
+    (c .before .before .before .before .before .before .read-numbers .ensures))
     (c .judged .ensures)
 
 returns-2 : tie.Need-returns-2
 returns-2 c =
     let a = c .before .before .before .before .before .before .args in
-    unread-begins (numbersRead (a .count) (a .from .at) (now (a .text))) (now (a .cfg)) (rw (c .enum-told .given .1) at (c .before .before .before .read-numbers .ensures))
+    unread-begins (numbersRead (a .count) (a .from .at) (now (a .text))) (now (a .cfg))
+    (rw (c .enum-told .given .1) at (c .before .before .before .read-numbers .ensures))
 
 pub read-configuration-spec : {M : Type 1} → statement M
 read-configuration-spec =

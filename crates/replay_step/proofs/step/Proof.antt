@@ -7,7 +7,11 @@ returns : tie.Need-returns
 unfolding turn
 returns c =
     let c8 = c .before .before .before .before .before .before .before .before in
-    rw (← c8 .before .before .before .before .before .before .before .next-call .ensures, c8 .before .before .before .before .before .call .given .1) (c .before .before .before .before .before .before .before .play .ensures)
+    rw (
+      ← c8 .before .before .before .before .before .before .before .next-call .ensures,
+      c8 .before .before .before .before .before .call .given .1,
+    )
+    (c .before .before .before .before .before .before .before .play .ensures)
 
 returns-2 : tie.Need-returns-2
 unfolding turn

@@ -11,7 +11,9 @@ report-tests-requires c κs = begun-by _ _ true (c .before .before .begin .ensur
 
 returns : tie.Need-returns
 unfolding reportRules
-returns c = judged-by _ _ true (c .before .before .before .begin .ensures) _ (c .before .enum-told .given .1) (c .report-tests .ensures)
+returns c =
+    judged-by _ _ true (c .before .before .before .begin .ensures) _ (c .before .enum-told .given .1)
+    (c .report-tests .ensures)
 
 returns-2 : tie.Need-returns-2
 unfolding reportRules

@@ -8,7 +8,9 @@ use Rattle.reporting.proofs.judge_tick.Tie as tie
 
 returns : tie.Need-returns
 unfolding tickRules
-returns c = judged-by _ _ true (c .before .before .before .begin .ensures) _ (c .before .enum-told .given .1) (c .tick-tests .ensures)
+returns c =
+    judged-by _ _ true (c .before .before .before .begin .ensures) _ (c .before .enum-told .given .1)
+    (c .tick-tests .ensures)
 
 returns-2 : tie.Need-returns-2
 unfolding tickRules

@@ -18,14 +18,19 @@ returns-2 c = simp (← c .before .before .before .events .ensures, c .before .i
 
 row-tests-requires : tie.Need-row-tests-requires
 row-tests-requires c κs =
-    let t = config-tells (now (c .before .before .before .before .before .args .cfg)) (c .before .before .before .before .before .pre) in
-    let h = leb-false (c .before .before .before .events .result) (c .before .before .before .before .before .args .event .0) (c .before .if1 .left) in
+    let t =
+    config-tells (now (c .before .before .before .before .before .args .cfg))
+    (c .before .before .before .before .before .pre) in
+    let h =
+    leb-false (c .before .before .before .events .result)
+    (c .before .before .before .before .before .args .event .0) (c .before .if1 .left) in
     omega (arith, c .before .before .before .events .ensures)
 
 returns-3 : tie.Need-returns-3
 unfolding firstThatApplies
 returns-3 c =
-    rw (← c .before .before .before .before .events .ensures, c .before .before .if1 .left, c .before .if2 .left) (c .row-tests .ensures)
+    rw (← c .before .before .before .before .events .ensures, c .before .before .if1 .left, c .before .if2 .left)
+    (c .row-tests .ensures)
 
 pub report-tests-spec : {M : Type 1} → statement M
 report-tests-spec =

@@ -11,7 +11,12 @@ returns c = simp (← c .before .before .before .no-pre-result .ensures, c .if1 
 returns-2 : tie.Need-returns-2
 unfolding firstThatApplies
 returns-2 c =
-    simp (← c .before .before .before .before .no-pre-result .ensures, ← c .before .before .before .wrong-frame .ensures, c .before .if1 .left, c .if2 .taken)
+    simp (
+      ← c .before .before .before .before .no-pre-result .ensures,
+      ← c .before .before .before .wrong-frame .ensures,
+      c .before .if1 .left,
+      c .if2 .taken,
+    )
 
 returns-3 : tie.Need-returns-3
 unfolding firstThatApplies
@@ -19,7 +24,14 @@ returns-3 c =
     let no-pre-result = c .before .before .before .before .before .no-pre-result in
     let wrong-frame = c .before .before .before .before .wrong-frame in
     let cycle-runs = c .before .before .before .cycle-runs in
-    simp (← no-pre-result .ensures, ← wrong-frame .ensures, ← cycle-runs .ensures, c .before .before .if1 .left, c .before .if2 .left, c .if3 .taken)
+    simp (
+      ← no-pre-result .ensures,
+      ← wrong-frame .ensures,
+      ← cycle-runs .ensures,
+      c .before .before .if1 .left,
+      c .before .if2 .left,
+      c .if3 .taken,
+    )
 
 returns-4 : tie.Need-returns-4
 unfolding firstThatApplies
@@ -27,7 +39,14 @@ returns-4 c =
     let no-pre-result = c .before .before .before .before .before .no-pre-result in
     let wrong-frame = c .before .before .before .before .wrong-frame in
     let cycle-runs = c .before .before .before .cycle-runs in
-    simp (← no-pre-result .ensures, ← wrong-frame .ensures, ← cycle-runs .ensures, c .before .before .if1 .left, c .before .if2 .left, c .if3 .left)
+    simp (
+      ← no-pre-result .ensures,
+      ← wrong-frame .ensures,
+      ← cycle-runs .ensures,
+      c .before .before .if1 .left,
+      c .before .if2 .left,
+      c .if3 .left,
+    )
 
 pub row-tests-spec : {M : Type 1} → statement M
 row-tests-spec =

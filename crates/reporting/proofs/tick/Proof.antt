@@ -13,7 +13,9 @@ enum-told c = search needs
 
 tick-events-requires : tie.Need-tick-events-requires
 tick-events-requires c κs =
-    may-tick _ _ _ _ (passed-by _ (c .before .before .before .before .before .judge-tick .ensures) (c .before .before .before .enum-told .given .1))
+    may-tick _ _ _ _
+    (passed-by _ (c .before .before .before .before .before .judge-tick .ensures)
+    (c .before .before .before .enum-told .given .1))
 
 returns : tie.Need-returns
 unfolding tick
@@ -21,11 +23,14 @@ returns c =
     let c8 = c .before .before .before .before .before .before .before .before in
     let judge-tick = c8 .before .before .before .judge-tick in
     let enum-told = c8 .before .enum-told in
-    accepted-by _ (judge-tick .ensures) _ _ _ (enum-told .given .1) (ap (done alone) (c .before .before .before .before .before .tick-events .ensures))
+    accepted-by _ (judge-tick .ensures) _ _ _ (enum-told .given .1)
+    (ap (done alone) (c .before .before .before .before .before .tick-events .ensures))
 
 returns-2 : tie.Need-returns-2
 unfolding tick
-returns-2 c = refused-by _ (c .before .before .before .before .judge-tick .ensures) _ _ _ _ (c .before .before .r .given .1) (c .refuse-tick .ensures _ _ _)
+returns-2 c =
+    refused-by _ (c .before .before .before .before .judge-tick .ensures) _ _ _ _ (c .before .before .r .given .1)
+    (c .refuse-tick .ensures _ _ _)
 
 pub tick-spec : {M : Type 1} → statement M
 tick-spec =

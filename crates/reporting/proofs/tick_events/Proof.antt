@@ -15,15 +15,21 @@ use Rattle.reporting.proofs.tick_events.Tie as tie
 
 abbrev Inv-loop : tie.InvT-loop
 Inv-loop cfg records₀ debounce₀ memory₀ board ms frame n after₀ event₀ records debounce memory after event =
-    (event ≤ n) × (lent records debounce memory after ≡ tickedBelow cfg (lent records₀ debounce₀ memory₀ board) ms frame event)
+    (event ≤ n) ×
+    (lent records debounce memory after ≡ tickedBelow cfg (lent records₀ debounce₀ memory₀ board) ms frame event)
     × (length records ≡ length records₀) × (length debounce ≡ length debounce₀) × (length memory ≡ length memory₀)
 
 abbrev μ-loop : tie.MeasureT-loop
 μ-loop cfg records₀ debounce₀ memory₀ board ms frame n after₀ event₀ records debounce memory after event = n - event
 
 loop-holds : tie.Need-loop-holds Inv-loop μ-loop
-loop-holds c = let a = c .before .before .before .before .args in
-    (omega arith, no-turn (timeRuns (now (a .cfg)) (a .board)) (ticks (now (a .cfg)) (a .ms) (now (a .frame))) _, refl, refl, refl)
+loop-holds c = let a = c .before .before .before .before .args in (
+  omega arith,
+  no-turn (timeRuns (now (a .cfg)) (a .board)) (ticks (now (a .cfg)) (a .ms) (now (a .frame))) _,
+  refl,
+  refl,
+  refl,
+)
 
 tick-event-requires : tie.Need-tick-event-requires Inv-loop μ-loop
 tick-event-requires c κs =
@@ -31,7 +37,12 @@ tick-event-requires c κs =
     let m = c8 .before .pre in
     let loop = c .before .before .before .before .loop in
     let cfg = c8 .before .args .cfg in
-    let below : loop .event < events (now cfg) = omega (arith, c .before .before .before .loop-test .taken, c .before .before .before .before .before .events .ensures) in
+    let below : loop .event < events (now cfg) =
+    omega (
+      arith,
+      c .before .before .before .loop-test .taken,
+      c .before .before .before .before .before .events .ensures,
+    ) in
     (turn-ready _ _ _ _ m (loop .event) below (loop .inv .1), (m .frame-fits, m .short))
 
 loop-again : tie.Need-loop-again Inv-loop μ-loop
@@ -42,7 +53,8 @@ loop-again c =
     let a = c8 .before .before .before .before .before .before .before .args in
     let tick-event = c .before .before .before .before .before .tick-event in (
       omega arith,
-      next-turn (timeRuns (now (a .cfg)) (a .board)) (ticks (now (a .cfg)) (a .ms) (now (a .frame))) (loop .event) _ (inv .1) (tick-event .ensures),
+      next-turn (timeRuns (now (a .cfg)) (a .board)) (ticks (now (a .cfg)) (a .ms) (now (a .frame))) (loop .event) _
+          (inv .1) (tick-event .ensures),
       tick-event .kept .1 .0 ∙ inv .2,
       tick-event .kept .1 .1 .0 ∙ inv .3,
       tick-event .kept .1 .1 .1 .0 ∙ inv .4,
@@ -52,7 +64,8 @@ returns : tie.Need-returns Inv-loop μ-loop
 returns c =
     let a = c .before .before .before .before .before .before .args in
     let all : c .before .loop .event ≡ events (now (a .cfg)) = omega (arith, c .before .before .events .ensures) in
-    last-turn (timeRuns (now (a .cfg)) (a .board)) (ticks (now (a .cfg)) (a .ms) (now (a .frame))) (now (a .cfg)) (c .before .loop .event) _ all (c .before .loop .inv .1)
+    last-turn (timeRuns (now (a .cfg)) (a .board)) (ticks (now (a .cfg)) (a .ms) (now (a .frame))) (now (a .cfg))
+    (c .before .loop .event) _ all (c .before .loop .inv .1)
 
 pub tick-events-spec : {M : Type 1} → statement M
 tick-events-spec =

@@ -12,7 +12,10 @@ use Rattle.status.proofs.clean_cycle.Tie as tie
 returns : tie.Need-returns
 returns c =
     let s = c .before .args .s .0 in
-    ap not (shares-is s (maskOf (testFailedThisOperationCycle ∷ testNotCompletedThisOperationCycle ∷ [])) (lit< tt) (c .shares .ensures)) ∙ neither-set (statusOf s testFailedThisOperationCycle) (statusOf s testNotCompletedThisOperationCycle)
+    ap not
+    (shares-is s (maskOf (testFailedThisOperationCycle ∷ testNotCompletedThisOperationCycle ∷ [])) (lit< tt)
+    (c .shares .ensures))
+    ∙ neither-set (statusOf s testFailedThisOperationCycle) (statusOf s testNotCompletedThisOperationCycle)
 
 pub clean-cycle-spec : {M : Type 1} → statement M
 clean-cycle-spec = tie.close

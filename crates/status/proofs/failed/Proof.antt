@@ -5,7 +5,10 @@ use mathlib.Core.List.{[], _∷_}
 use Prim.Native.Nat.{suc, min}
 use lib.Dec.{leb}
 use borrow.Author.Needs.{needs}
-use Rattle.history.specs.StatusByte.{testFailed, testFailedThisOperationCycle, pendingDTC, confirmedDTC, testNotCompletedSinceLastClear, testFailedSinceLastClear, testNotCompletedThisOperationCycle, warningIndicatorRequested, statusOf, risenK}
+use Rattle.history.specs.StatusByte.{testFailed, testFailedThisOperationCycle, pendingDTC, confirmedDTC}
+use Rattle.history.specs.StatusByte.{testNotCompletedSinceLastClear, testFailedSinceLastClear}
+use Rattle.history.specs.StatusByte.{testNotCompletedThisOperationCycle, warningIndicatorRequested, statusOf}
+use Rattle.history.specs.StatusByte.{risenK}
 use Rattle.status.specs.Records.{recordIs}
 use Rattle.status.proofs.MasksLaws.{set-is, clear-is, set-if-is, contains-is}
 use Rattle.status.proofs.CountsLaws.{K-risen}
@@ -25,15 +28,23 @@ returns c =
     let s = r .status .0 in
     let k-is : raised .result ≡ risenK (recordIs r) =
     raised .ensures
-    ∙ ap (λ (t : Bool). cond (not t) (min 255 (suc (r .k))) (r .k)) (contains-is s testFailedThisOperationCycle (tested .ensures))
+    ∙ ap (λ (t : Bool). cond (not t) (min 255 (suc (r .k))) (r .k))
+    (contains-is s testFailedThisOperationCycle (tested .ensures))
     ∙ K-risen (statusOf s testFailedThisOperationCycle) (r .k) in
     let confirms = leb (start .args .confirm) (raised .result) in
     let bits =
     set-if-is (confirmedDTC ∷ []) (warned .result .0) confirms (c .before .set-if2 .ensures)
-    (set-if-is (warningIndicatorRequested ∷ []) (bits-cleared .result .0) (start .args .indicator && confirms) (warned .ensures)
-    (clear-is (testNotCompletedSinceLastClear ∷ testNotCompletedThisOperationCycle ∷ []) (bits-set .result .0) (bits-cleared .ensures)
-    (set-is (testFailed ∷ testFailedThisOperationCycle ∷ pendingDTC ∷ testFailedSinceLastClear ∷ []) s (bits-set .ensures) refl))) in
-    λ H A. record { after = bytes-are (search needs) (rw k-is at bits) k-is refl refl; fresh = ap not (contains-is s testFailed (c .contains2 .ensures)) }
+    (set-if-is (warningIndicatorRequested ∷ []) (bits-cleared .result .0) (start .args .indicator && confirms)
+    (warned .ensures)
+    (clear-is (testNotCompletedSinceLastClear ∷ testNotCompletedThisOperationCycle ∷ []) (bits-set .result .0)
+    (bits-cleared .ensures)
+    (set-is (testFailed ∷ testFailedThisOperationCycle ∷ pendingDTC ∷ testFailedSinceLastClear ∷ []) s
+    (bits-set .ensures) refl))) in
+    λ H A.
+    record {
+      after = bytes-are (search needs) (rw k-is at bits) k-is refl refl;
+      fresh = ap not (contains-is s testFailed (c .contains2 .ensures));
+    }
 
 pub failed-spec : {M : Type 1} → statement M
 failed-spec =

@@ -13,8 +13,10 @@ use Rattle.status.proofs.faulty_has_failed.Tie as tie
 returns : tie.Need-returns
 returns c =
     let s = c .before .before .before .args .s .0 in
-    let faulty : c .before .before .shares .result ≡ (statusOf s testFailed || statusOf s pendingDTC || statusOf s confirmedDTC) =
-    shares-is s (maskOf (testFailed ∷ pendingDTC ∷ confirmedDTC ∷ [])) (lit< tt) (c .before .before .shares .ensures) ∙ one-of-three (statusOf s testFailed) (statusOf s pendingDTC) (statusOf s confirmedDTC) in
+    let faulty : c .before .before .shares .result
+    ≡ (statusOf s testFailed || statusOf s pendingDTC || statusOf s confirmedDTC) =
+    shares-is s (maskOf (testFailed ∷ pendingDTC ∷ confirmedDTC ∷ [])) (lit< tt) (c .before .before .shares .ensures)
+    ∙ one-of-three (statusOf s testFailed) (statusOf s pendingDTC) (statusOf s confirmedDTC) in
     let bit5-is = contains-is s testFailedSinceLastClear (c .before .contains .ensures) in
     c .implies .ensures ∙ (λ i. implies (faulty i) (bit5-is i))
 

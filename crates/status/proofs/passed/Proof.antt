@@ -11,7 +11,8 @@ use Rattle.status.proofs.passed.Tie as tie
 returns : tie.Need-returns
 returns c =
     λ n. bytes-are (search needs)
-    (clear-is (testFailed ∷ testNotCompletedSinceLastClear ∷ testNotCompletedThisOperationCycle ∷ []) (c .before .before .args .r .status .0) (c .clear .ensures) refl)
+    (clear-is (testFailed ∷ testNotCompletedSinceLastClear ∷ testNotCompletedThisOperationCycle ∷ [])
+    (c .before .before .args .r .status .0) (c .clear .ensures) refl)
     refl refl refl
 
 pub passed-spec : {M : Type 1} → statement M

@@ -11,7 +11,8 @@ use Rattle.status.proofs.pending_has_cycles.Tie as tie
 returns : tie.Need-returns
 returns c =
     let r = c .before .before .before .before .args .r in
-    c .same .ensures ∙ (λ i. same (leb 1 (r .k)) (contains-is (r .status .0) pendingDTC (c .before .contains .ensures) i))
+    c .same .ensures
+    ∙ (λ i. same (leb 1 (r .k)) (contains-is (r .status .0) pendingDTC (c .before .contains .ensures) i))
 
 pub pending-has-cycles-spec : {M : Type 1} → statement M
 pending-has-cycles-spec = tie.close

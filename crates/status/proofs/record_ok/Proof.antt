@@ -5,7 +5,9 @@ use lib.Dec.{eqb, ltb}
 use borrow.Author.Needs.{needs}
 use Rattle.history.specs.Words.{implies}
 use Rattle.history.specs.StatusByte.{confirmedDTC, warningIndicatorRequested, statusOf}
-use Rattle.history.specs.WellFormed.{untestedIsFresh, faultyHasFailed, failedIsPending, warningIsConfirmed, pendingHasCycles, healingBelow, healingOnlyWarned, ageingBelow, ageingOnlyConfirmed, wellFormedRecord}
+use Rattle.history.specs.WellFormed.{untestedIsFresh, faultyHasFailed, failedIsPending, warningIsConfirmed}
+use Rattle.history.specs.WellFormed.{pendingHasCycles, healingBelow, healingOnlyWarned, ageingBelow}
+use Rattle.history.specs.WellFormed.{ageingOnlyConfirmed, wellFormedRecord}
 use Rattle.status.specs.Records.{recordIs, limits}
 use Rattle.status.proofs.MasksLaws.{contains-is}
 use Rattle.status.proofs.RecordsLaws.{nine-hold}
@@ -29,10 +31,15 @@ returns c =
     λ C.
     let n = limits C (a .heal) (a .age) (a .indicator) in
     let r = recordIs (a .r) in
-    let healing-is : healing .result ≡ (healingBelow n r && healingOnlyWarned r) = healing .ensures ∙ (λ i. ltb (a .r .h) (a .heal) && implies (not (bit7-is i)) (eqb (a .r .h) 0)) in
-    let ageing-is : c .count-ok2 .result ≡ (ageingBelow n r && ageingOnlyConfirmed r) = c .count-ok2 .ensures ∙ (λ i. ltb (a .r .g) (a .age) && implies (not (bit3-is i)) (eqb (a .r .g) 0)) in
-    (λ i. untested .ensures i && faulty .ensures i && pending .ensures i && warned .ensures C (a .heal) (a .age) i && cycles .ensures i && healing-is i && ageing-is i)
-    ∙ nine-hold (untestedIsFresh (statusOf s)) (faultyHasFailed (statusOf s)) (failedIsPending (statusOf s)) (warningIsConfirmed n (statusOf s)) (pendingHasCycles r) (healingBelow n r) (healingOnlyWarned r) (ageingBelow n r) (ageingOnlyConfirmed r)
+    let healing-is : healing .result ≡ (healingBelow n r && healingOnlyWarned r) =
+    healing .ensures ∙ (λ i. ltb (a .r .h) (a .heal) && implies (not (bit7-is i)) (eqb (a .r .h) 0)) in
+    let ageing-is : c .count-ok2 .result ≡ (ageingBelow n r && ageingOnlyConfirmed r) =
+    c .count-ok2 .ensures ∙ (λ i. ltb (a .r .g) (a .age) && implies (not (bit3-is i)) (eqb (a .r .g) 0)) in
+    (λ i. untested .ensures i && faulty .ensures i && pending .ensures i && warned .ensures C (a .heal) (a .age) i
+    && cycles .ensures i && healing-is i && ageing-is i)
+    ∙ nine-hold (untestedIsFresh (statusOf s)) (faultyHasFailed (statusOf s)) (failedIsPending (statusOf s))
+    (warningIsConfirmed n (statusOf s)) (pendingHasCycles r) (healingBelow n r) (healingOnlyWarned r)
+    (ageingBelow n r) (ageingOnlyConfirmed r)
 
 pub record-ok-spec : {M : Type 1} → statement M
 record-ok-spec =

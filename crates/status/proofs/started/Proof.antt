@@ -12,7 +12,8 @@ returns : tie.Need-returns
 returns c =
     λ n. bytes-are (search needs)
     (set-is (testNotCompletedThisOperationCycle ∷ []) (c .before .clear .result .0) (c .set .ensures)
-    (clear-is (testFailedThisOperationCycle ∷ []) (c .before .before .before .args .r .status .0) (c .before .clear .ensures) refl))
+    (clear-is (testFailedThisOperationCycle ∷ []) (c .before .before .before .args .r .status .0)
+    (c .before .clear .ensures) refl))
     refl refl refl
 
 pub started-spec : {M : Type 1} → statement M

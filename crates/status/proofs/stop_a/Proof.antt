@@ -17,14 +17,19 @@ returns c =
     let pending = c .before .before .before .clear-if in
     let r = start .args .r in
     let s = statusOf (r .status .0) in
-    let warned-is = contains-is (r .status .0) warningIndicatorRequested (c .before .before .before .before .before .contains .ensures) in
+    let warned-is =
+    contains-is (r .status .0) warningIndicatorRequested
+    (c .before .before .before .before .before .contains .ensures) in
     let (h-is, heals-is) =
-    counted (cleanCycle s) (s warningIndicatorRequested) (r .h) (start .args .heal) clean-is warned-is (start .pre) (c .before .before .before .before .risen-if .ensures) in
+    counted (cleanCycle s) (s warningIndicatorRequested) (r .h) (start .args .heal) clean-is warned-is (start .pre)
+    (c .before .before .before .before .risen-if .ensures) in
     let bits =
     clear-if-is (warningIndicatorRequested ∷ []) (pending .result .0) _ (c .before .before .clear-if2 .ensures)
     (clear-if-is (pendingDTC ∷ []) (r .status .0) _ (pending .ensures) refl) in
     λ C A i. bytes-are (search needs)
-    (bits ∙ (λ j. clearBitsIf (heals-is j) (warningIndicatorRequested ∷ []) (clearBitsIf (clean-is j) (pendingDTC ∷ []) s)))
+    (bits
+    ∙ (λ j. clearBitsIf (heals-is j) (warningIndicatorRequested ∷ [])
+    (clearBitsIf (clean-is j) (pendingDTC ∷ []) s)))
     (c .before .zero-if .ensures ∙ (λ j. cond (clean-is j) 0 (r .k)))
     (c .zero-if2 .ensures ∙ (λ j. cond (heals-is j) 0 (h-is j)))
     refl

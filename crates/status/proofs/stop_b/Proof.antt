@@ -17,8 +17,12 @@ returns c =
     let s = statusOf (r .status .0) in
     let confirmed-is = contains-is (r .status .0) confirmedDTC (c .before .before .before .before .contains .ensures) in
     let (g-is, ages-is) =
-    counted (countsForAgeing s) (s confirmedDTC) (r .g) (start .args .age) (c .before .before .before .before .before .counts-for-ageing .ensures) confirmed-is (start .pre) (c .before .before .before .risen-if .ensures) in
-    let bits = clear-if-is (confirmedDTC ∷ warningIndicatorRequested ∷ []) (r .status .0) _ (c .before .before .clear-if .ensures) refl in
+    counted (countsForAgeing s) (s confirmedDTC) (r .g) (start .args .age)
+    (c .before .before .before .before .before .counts-for-ageing .ensures) confirmed-is (start .pre)
+    (c .before .before .before .risen-if .ensures) in
+    let bits =
+    clear-if-is (confirmedDTC ∷ warningIndicatorRequested ∷ []) (r .status .0) _
+    (c .before .before .clear-if .ensures) refl in
     λ C H i. (
       bytes-are (search needs)
           (bits ∙ (λ j. clearBitsIf (ages-is j) (confirmedDTC ∷ warningIndicatorRequested ∷ []) s))

@@ -18,9 +18,13 @@ returns c =
     let first = c .before .stop-a in
     λ C i.
     let n = limits C (a .heal) (a .age) i in
-    let first-is : recordIs (first .result) ≡ stopA n (recordIs (a .r)) = ap opened (first .ensures C (a .age) i) ∙ opened-stored (stopA n (recordIs (a .r))) in
+    let first-is : recordIs (first .result) ≡ stopA n (recordIs (a .r)) =
+    ap opened (first .ensures C (a .age) i) ∙ opened-stored (stopA n (recordIs (a .r))) in
     let second = c .stop-b .ensures C (a .heal) i in
-    record { after = second .0 ∙ ap (λ (x : EventRecord). stored (stopB n x)) first-is; aged = second .1 ∙ ap (ages n) first-is }
+    record {
+      after = second .0 ∙ ap (λ (x : EventRecord). stored (stopB n x)) first-is;
+      aged = second .1 ∙ ap (ages n) first-is;
+    }
 
 pub stopped-spec : {M : Type 1} → statement M
 stopped-spec = tie.close

@@ -14,7 +14,8 @@ returns c =
     let s = c .before .before .before .before .before .args .s .0 in
     let bit4-is = contains-is s testNotCompletedSinceLastClear (c .before .before .before .contains .ensures) in
     let byte-is = sym (byte-of-status s (search needs)) in
-    c .implies .ensures ∙ (λ i. implies (bit4-is i) (eqb (byte-is i) (c .before .before .before .before .fresh .ensures i)))
+    c .implies .ensures
+    ∙ (λ i. implies (bit4-is i) (eqb (byte-is i) (c .before .before .before .before .fresh .ensures i)))
 
 pub untested-is-fresh-spec : {M : Type 1} → statement M
 untested-is-fresh-spec =

@@ -1,4 +1,5 @@
--- `all_digits`: at each turn all bytes pass exactly where all that are left pass. The measure is what is left of the word.
+-- `all_digits`: at each turn all bytes pass exactly where all that are left pass. The measure is what is left of the
+-- word.
 use mathlib.Core.Path.{_≡_, refl, sym, _∙_}
 use Prim.Native.Nat.{_-_}
 use native.Mathlib.Omega.{arith}
@@ -23,10 +24,17 @@ is-digit-requires : tie.Need-is-digit-requires Inv-loop μ-loop
 is-digit-requires c κs = tt
 
 returns : tie.Need-returns Inv-loop μ-loop
-returns c = sym (c .before .before .before .before .loop .inv ∙ all-stop isDigit _ _ (c .before .before .before .loop-test .taken) (sym (c .before .is-digit .ensures) ∙ not-true _ (c .if1 .taken)))
+returns c =
+    sym
+    (c .before .before .before .before .loop .inv
+    ∙ all-stop isDigit _ _ (c .before .before .before .loop-test .taken)
+    (sym (c .before .is-digit .ensures) ∙ not-true _ (c .if1 .taken)))
 
 loop-again : tie.Need-loop-again Inv-loop μ-loop
-loop-again c = c .before .before .before .before .loop .inv ∙ all-more isDigit _ _ (c .before .before .before .loop-test .taken) (sym (c .before .is-digit .ensures) ∙ not-false _ (c .if1 .left))
+loop-again c =
+    c .before .before .before .before .loop .inv
+    ∙ all-more isDigit _ _ (c .before .before .before .loop-test .taken)
+    (sym (c .before .is-digit .ensures) ∙ not-false _ (c .if1 .left))
 
 returns-2 : tie.Need-returns-2 Inv-loop μ-loop
 returns-2 c = sym (c .before .loop .inv ∙ all-end isDigit _ _ (c .loop-test .left))

@@ -13,7 +13,11 @@ put-statuses-requires : tie.Need-put-statuses-requires
 put-statuses-requires c κs =
     let first = c .before .before .before .put-decimal in
     let start = c .before .before .before .before .before .before .before in
-    record { records-long = start .pre .records-long; buffer-long = omega (arith, first .kept .0, append-next _ _ (first .ensures), decimal-few (start .args .answer)) }
+    record {
+      records-long = start .pre .records-long;
+      buffer-long = omega
+          (arith, first .kept .0, append-next _ _ (first .ensures), decimal-few (start .args .answer));
+    }
 
 write-requires : tie.Need-write-requires
 write-requires c κs =
@@ -37,7 +41,8 @@ returns c =
     let first = c8 .before .before .before .put-decimal in
     let second = c .before .before .before .before .before .before .before .put-statuses in
     let room = c8 .before .before .before .before .before .before .before .pre .buffer-long in
-    append-then _ _ _ (append-then _ _ _ (first .ensures) (second .ensures)) (c .before .before .write .ensures) ∙ append-filled _ _ (le-trans (line-few _ _ _) room)
+    append-then _ _ _ (append-then _ _ _ (first .ensures) (second .ensures)) (c .before .before .write .ensures)
+    ∙ append-filled _ _ (le-trans (line-few _ _ _) room)
 
 pub fill-line-spec : {M : Type 1} → statement M
 fill-line-spec =

@@ -10,13 +10,20 @@ returns : tie.Need-returns
 returns c = next-end _ _ (omega arith)
 
 part-read-word-end : tie.Need-part-read-word-end
-part-read-word-end c = found _ _ _ _ (c .before .before .run-end .ensures) (c .before .if1 .left) (c .run-end2 .ensures) .within
+part-read-word-end c =
+    found _ _ _ _ (c .before .before .run-end .ensures) (c .before .if1 .left) (c .run-end2 .ensures) .within
 
 read-word-requires : tie.Need-read-word-requires
-read-word-requires c κs = let f = found _ _ _ _ (c .before .before .before .run-end .ensures) (c .before .before .if1 .left) (c .before .run-end2 .ensures) in rw (f .sized) (omega (arith, f .longer))
+read-word-requires c κs =
+    let f = found _ _ _ _ (c .before .before .before .run-end .ensures) (c .before .before .if1 .left)
+    (c .before .run-end2 .ensures) in rw (f .sized) (omega (arith, f .longer))
 
 returns-2 : tie.Need-returns-2
-returns-2 c = c .read-word .ensures ∙ next-word _ _ _ _ (found _ _ _ _ (c .before .before .before .before .run-end .ensures) (c .before .before .before .if1 .left) (c .before .before .run-end2 .ensures))
+returns-2 c =
+    c .read-word .ensures
+    ∙ next-word _ _ _ _
+    (found _ _ _ _ (c .before .before .before .before .run-end .ensures) (c .before .before .before .if1 .left)
+    (c .before .before .run-end2 .ensures))
 
 pub next-number-spec : {M : Type 1} → statement M
 next-number-spec =

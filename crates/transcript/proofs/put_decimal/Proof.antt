@@ -11,11 +11,21 @@ returns c = rw (lt-ltb _ _ (c .before .before .before .before .before .if1 .take
 
 returns-2 : tie.Need-returns-2
 unfolding decimal
-returns-2 c = rw (le-ltb _ _ (c .before .before .before .before .before .before .if1 .left), lt-ltb _ _ (c .before .before .before .before .before .if2 .taken)) (c .before .before .write2 .ensures)
+returns-2 c =
+    rw (
+      le-ltb _ _ (c .before .before .before .before .before .before .if1 .left),
+      lt-ltb _ _ (c .before .before .before .before .before .if2 .taken),
+    )
+    (c .before .before .write2 .ensures)
 
 returns-3 : tie.Need-returns-3
 unfolding decimal
-returns-3 c = rw (le-ltb _ _ (c .before .before .before .before .before .before .if1 .left), le-ltb _ _ (c .before .before .before .before .before .if2 .left)) (c .before .before .write3 .ensures)
+returns-3 c =
+    rw (
+      le-ltb _ _ (c .before .before .before .before .before .before .if1 .left),
+      le-ltb _ _ (c .before .before .before .before .before .if2 .left),
+    )
+    (c .before .before .write3 .ensures)
 
 pub put-decimal-spec : {M : Type 1} → statement M
 put-decimal-spec =

@@ -7,11 +7,15 @@ use Rattle.transcript.proofs.put_spaced.Statement.{statement}
 use Rattle.transcript.proofs.put_spaced.Tie as tie
 
 put-decimal-requires : tie.Need-put-decimal-requires
-put-decimal-requires c κs = omega (arith, c .before .before .before .write .kept .0, append-next _ _ (c .before .before .before .write .ensures))
+put-decimal-requires c κs =
+    omega
+    (arith, c .before .before .before .write .kept .0, append-next _ _ (c .before .before .before .write .ensures))
 
 returns : tie.Need-returns
 unfolding spaced
-returns c = append-then _ _ _ (c .before .before .before .before .before .before .write .ensures) (c .before .before .put-decimal .ensures)
+returns c =
+    append-then _ _ _ (c .before .before .before .before .before .before .write .ensures)
+    (c .before .before .put-decimal .ensures)
 
 pub put-spaced-spec : {M : Type 1} → statement M
 put-spaced-spec =

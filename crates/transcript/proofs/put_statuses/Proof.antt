@@ -1,4 +1,5 @@
--- `put_statuses`: at each turn the status bytes of the events below e are written. The measure is the number of events left.
+-- `put_statuses`: at each turn the status bytes of the events below e are written. The measure is the number of events
+-- left.
 use mathlib.Core.Path.{_≡_, refl, sym, _∙_}
 use mathlib.Core.List.{flatMap}
 use Prim.Native.Nat.{_-_, _≤_}
@@ -12,7 +13,9 @@ use Rattle.transcript.proofs.put_statuses.Statement.{statement}
 use Rattle.transcript.proofs.put_statuses.Tie as tie
 
 abbrev Inv-loop : tie.InvT-loop
-Inv-loop buffer₀ at records events next₀ e₀ buffer next e = (e ≤ events) × (written next buffer ≡ append (flatMap spaced (statusBytes e records)) (written at buffer₀)) × (length buffer ≡ length buffer₀)
+Inv-loop buffer₀ at records events next₀ e₀ buffer next e =
+    (e ≤ events) × (written next buffer ≡ append (flatMap spaced (statusBytes e records)) (written at buffer₀)) ×
+    (length buffer ≡ length buffer₀)
 
 abbrev μ-loop : tie.MeasureT-loop
 μ-loop buffer₀ at records events next₀ e₀ buffer next e = events - e
@@ -21,7 +24,13 @@ loop-holds : tie.Need-loop-holds Inv-loop μ-loop
 loop-holds c = (omega arith, sym (rw statuses-none (append-none _)), refl)
 
 put-spaced-requires : tie.Need-put-spaced-requires Inv-loop μ-loop
-put-spaced-requires c κs = omega (arith, append-next _ _ (c .before .before .before .loop .inv .1), statuses-few (c .before .before .before .before .before .before .args .records .now) (c .before .before .before .loop .e))
+put-spaced-requires c κs =
+    omega (
+      arith,
+      append-next _ _ (c .before .before .before .loop .inv .1),
+      statuses-few (c .before .before .before .before .before .before .args .records .now)
+          (c .before .before .before .loop .e),
+    )
 
 loop-again : tie.Need-loop-again Inv-loop μ-loop
 loop-again c =
@@ -33,7 +42,9 @@ same-length : tie.Need-same-length Inv-loop μ-loop
 same-length c = c .before .loop .inv .2
 
 returns : tie.Need-returns Inv-loop μ-loop
-returns c = let e : c .before .loop .e ≡ c .before .before .before .before .args .events = omega arith in rw (← e) (c .before .loop .inv .1)
+returns c =
+    let e : c .before .loop .e
+    ≡ c .before .before .before .before .args .events = omega arith in rw (← e) (c .before .loop .inv .1)
 
 pub put-statuses-spec : {M : Type 1} → statement M
 put-statuses-spec =

@@ -6,7 +6,8 @@ use borrow.Author.Tests.{not-true, not-false}
 use mir.Syntax.{w32}
 use mir.Facts.{toZ-ofZ}
 use Rattle.transcript.specs.Text.{hasMinus, withSign}
-use Rattle.transcript.proofs.TextLaws.{worth-most, minus-width, number-is, value-is, reads-unreadable, reads-number}
+use Rattle.transcript.proofs.TextLaws.{worth-most, minus-width, number-is, value-is}
+use Rattle.transcript.proofs.TextLaws.{reads-unreadable, reads-number}
 use Rattle.transcript.proofs.read_word.Statement.{statement}
 use Rattle.transcript.proofs.read_word.Tie as tie
 
@@ -17,20 +18,26 @@ part-digits-start : tie.Need-part-digits-start
 part-digits-start c = omega (arith, minus-width (hasMinus (c .before .before .args .word .now)))
 
 returns : tie.Need-returns
-returns c = reads-unreadable _ _ (sym (c .before .one-to-nine-digits .ensures ∙ number-is _) ∙ not-true _ (c .if1 .taken))
+returns c =
+    reads-unreadable _ _ (sym (c .before .one-to-nine-digits .ensures ∙ number-is _) ∙ not-true _ (c .if1 .taken))
 
 value-of-requires : tie.Need-value-of-requires
 value-of-requires c κs = sym (c .before .one-to-nine-digits .ensures) ∙ not-false _ (c .if1 .left)
 
 with-sign-requires : tie.Need-with-sign-requires
-with-sign-requires c κs = rw (c .value-of .ensures) (worth-most _ (sym (c .before .before .one-to-nine-digits .ensures) ∙ not-false _ (c .before .if1 .left)))
+with-sign-requires c κs =
+    rw (c .value-of .ensures)
+    (worth-most _ (sym (c .before .before .one-to-nine-digits .ensures) ∙ not-false _ (c .before .if1 .left)))
 
 returns-2 : tie.Need-returns-2
 returns-2 c =
     let word = c .before .before .before .before .before .before .before .args .word .now in
-    let readable = sym (c .before .before .before .one-to-nine-digits .ensures ∙ number-is word) ∙ not-false _ (c .before .before .if1 .left) in
+    let readable =
+    sym (c .before .before .before .one-to-nine-digits .ensures ∙ number-is word)
+    ∙ not-false _ (c .before .before .if1 .left) in
     let value = c .with-sign .ensures ∙ ap (withSign (hasMinus word)) (c .before .value-of .ensures) ∙ value-is word in
-    rw (toZ-ofZ {w = w32} {z = c .with-sign .result} (record { sfits = c .with-sign .ok })) (reads-number word _ readable _ value)
+    rw (toZ-ofZ {w = w32} {z = c .with-sign .result} (record { sfits = c .with-sign .ok }))
+    (reads-number word _ readable _ value)
 
 pub read-word-spec : {M : Type 1} → statement M
 read-word-spec =

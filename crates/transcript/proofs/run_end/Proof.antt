@@ -1,4 +1,5 @@
--- `run_end`: at each turn the place reached and the run that is left make the end of the run. The measure is what is left of the text.
+-- `run_end`: at each turn the place reached and the run that is left make the end of the run. The measure is what is
+-- left of the text.
 use mathlib.Core.Path.{_≡_, refl, sym, _∙_}
 use Prim.Native.Nat.{_+_, _-_}
 use native.Mathlib.Omega.{arith}
@@ -22,13 +23,20 @@ is-separator-requires c κs = tt
 
 returns : tie.Need-returns Inv-loop μ-loop
 returns c =
-    let other = differ (c .before .is-separator .result) (c .before .before .before .before .before .before .args .separators) (c .if1 .taken) in
-    sym (c .before .before .before .before .loop .inv ∙ run-stop _ _ _ (c .before .before .before .loop-test .taken) (rw (← c .before .is-separator .ensures) other))
+    let other =
+    differ (c .before .is-separator .result) (c .before .before .before .before .before .before .args .separators)
+    (c .if1 .taken) in
+    sym
+    (c .before .before .before .before .loop .inv
+    ∙ run-stop _ _ _ (c .before .before .before .loop-test .taken) (rw (← c .before .is-separator .ensures) other))
 
 loop-again : tie.Need-loop-again Inv-loop μ-loop
 loop-again c =
-    let like = agree (c .before .is-separator .result) (c .before .before .before .before .before .before .args .separators) (c .if1 .left) in
-    c .before .before .before .before .loop .inv ∙ run-more _ _ _ (c .before .before .before .loop-test .taken) (rw (← c .before .is-separator .ensures) like)
+    let like =
+    agree (c .before .is-separator .result) (c .before .before .before .before .before .before .args .separators)
+    (c .if1 .left) in
+    c .before .before .before .before .loop .inv
+    ∙ run-more _ _ _ (c .before .before .before .loop-test .taken) (rw (← c .before .is-separator .ensures) like)
 
 returns-2 : tie.Need-returns-2 Inv-loop μ-loop
 returns-2 c = sym (c .before .loop .inv ∙ run-end _ _ _ (c .loop-test .left))

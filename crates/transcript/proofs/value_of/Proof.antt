@@ -2,7 +2,8 @@
 use Prim.Native.Nat.{_-_}
 use native.Mathlib.Omega.{arith}
 use lib.ListN.{length}
-use Rattle.transcript.proofs.TextLaws.{digit-least, digit-most, Added, added-none, added-here, added-room, added-more, added-all}
+use Rattle.transcript.proofs.TextLaws.{digit-least, digit-most, Added, added-none, added-here}
+use Rattle.transcript.proofs.TextLaws.{added-room, added-more, added-all}
 use Rattle.transcript.proofs.value_of.Statement.{statement}
 use Rattle.transcript.proofs.value_of.Tie as tie
 
@@ -23,7 +24,9 @@ with-digit-requires c κs =
     (added-room _ _ _ s h (c .before .before .before .before .pre), digit-least _ here, digit-most _ here)
 
 loop-again : tie.Need-loop-again Inv-loop μ-loop
-loop-again c = added-more _ _ _ (c .before .before .before .loop .inv) (c .before .before .loop-test .taken) _ (c .with-digit .ensures)
+loop-again c =
+    added-more _ _ _ (c .before .before .before .loop .inv) (c .before .before .loop-test .taken) _
+    (c .with-digit .ensures)
 
 returns : tie.Need-returns Inv-loop μ-loop
 returns c = added-all _ _ _ (c .before .loop .inv) (c .loop-test .left)

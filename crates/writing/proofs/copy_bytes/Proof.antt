@@ -8,7 +8,8 @@ use Rattle.writing.proofs.copy_bytes.Tie as tie
 returns : tie.Need-returns
 returns c =
     let a = c .before .before .before .before .before .before .args in
-    c .before .before .put .ensures ∙ sets-laid (a .from .now) (a .to .now) (c .before .before .before .before .before .before .pre)
+    c .before .before .put .ensures
+    ∙ sets-laid (a .from .now) (a .to .now) (c .before .before .before .before .before .before .pre)
 
 pub copy-bytes-spec : {M : Type 1} → statement M
 copy-bytes-spec = tie.close

@@ -23,7 +23,9 @@ loop-again : tie.Need-loop-again Inv-loop μ-loop
 loop-again c =
     let a = c .before .before .before .args in
     let loop = c .before .before .loop in
-    let copied = sets-first (pos 0) (a .from .now) (a .to .now) (loop .i) (c .before .loop-test .taken) (toZ-ofZ (record { sfits = c .to .given })) in
+    let copied =
+    sets-first (pos 0) (a .from .now) (a .to .now) (loop .i) (c .before .loop-test .taken)
+    (toZ-ofZ (record { sfits = c .to .given })) in
     (omega arith, rw (loop .inv .1) copied, simp length-set (loop .inv .2))
 
 same-length : tie.Need-same-length Inv-loop μ-loop

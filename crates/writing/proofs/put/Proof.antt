@@ -9,7 +9,8 @@ use Rattle.writing.proofs.put.Statement.{statement}
 use Rattle.writing.proofs.put.Tie as tie
 
 abbrev Inv-loop : tie.InvT-loop
-Inv-loop block₀ at bytes i₀ block i = (i ≤ length bytes) × (block ≡ sets block₀ at (take i bytes)) × (length block ≡ length block₀)
+Inv-loop block₀ at bytes i₀ block i =
+    (i ≤ length bytes) × (block ≡ sets block₀ at (take i bytes)) × (length block ≡ length block₀)
 
 abbrev μ-loop : tie.MeasureT-loop
 μ-loop block₀ at bytes i₀ block i = length bytes - i
@@ -19,8 +20,13 @@ loop-holds c = (omega arith, refl, refl)
 
 loop-again : tie.Need-loop-again Inv-loop μ-loop
 loop-again c =
-    let a = c .before .before .before .args in
-    (omega arith, rw (c .before .before .loop .inv .1) (sets-more 0 (a .bytes .now) (a .block .now) (a .at) (c .before .before .loop .i) (c .before .loop-test .taken) refl), simp length-set (c .before .before .loop .inv .2))
+    let a = c .before .before .before .args in (
+      omega arith,
+      rw (c .before .before .loop .inv .1)
+          (sets-more 0 (a .bytes .now) (a .block .now) (a .at) (c .before .before .loop .i)
+          (c .before .loop-test .taken) refl),
+      simp length-set (c .before .before .loop .inv .2),
+    )
 
 same-length : tie.Need-same-length Inv-loop μ-loop
 same-length c = c .before .loop .inv .2

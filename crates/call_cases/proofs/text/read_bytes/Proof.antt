@@ -22,7 +22,10 @@ same-length : tie.Need-same-length Inv-loop μ-loop
 same-length c = c .before .before .before .loop .inv
 
 returns : tie.Need-returns Inv-loop μ-loop
-returns c = (omega (arith, c .before .before .before .loop .inv), sym (length-take-le _ _ (omega (arith, c .before .before .before .loop .inv))))
+returns c = (
+  omega (arith, c .before .before .before .loop .inv),
+  sym (length-take-le _ _ (omega (arith, c .before .before .before .loop .inv))),
+)
 
 loop-again : tie.Need-loop-again Inv-loop μ-loop
 loop-again c = simp length-set (c .before .before .before .before .before .loop .inv)

@@ -5,7 +5,8 @@ use Rattle.debounce.proofs.signed.plus.Statement.{statement}
 use Rattle.debounce.proofs.signed.plus.Tie as tie
 
 add-result : tie.Need-add-result
-add-result c = rw (toZ-ofZ (c .fits .a), toZ-ofZ (c .fits .b)) (fits _ (omega (arith, abs-add (c .args .a) (c .args .b))))
+add-result c =
+    rw (toZ-ofZ (c .fits .a), toZ-ofZ (c .fits .b)) (fits _ (omega (arith, abs-add (c .args .a) (c .args .b))))
 
 returns : tie.Need-returns
 returns c = rw (toZ-ofZ (c .fits .a), toZ-ofZ (c .fits .b)) (back _ (omega (arith, abs-add (c .args .a) (c .args .b))))

@@ -11,7 +11,9 @@ use Rattle.memory.proofs.block.close.Statement.{statement}
 use Rattle.memory.proofs.block.close.Tie as tie
 
 abbrev Inv-loop : tie.InvT-loop
-Inv-loop block₀ at width i₀ block i = ((at ≤ i) × (i ≤ length block₀)) × ((block ≡ mix i (closed at width block₀) block₀) × (length block ≡ length block₀))
+Inv-loop block₀ at width i₀ block i =
+    ((at ≤ i) × (i ≤ length block₀)) ×
+    ((block ≡ mix i (closed at width block₀) block₀) × (length block ≡ length block₀))
 
 abbrev μ-loop : tie.MeasureT-loop
 μ-loop block₀ at width i₀ block i = length block₀ - i
@@ -35,8 +37,16 @@ loop-again c = let m = now (c .before .before .before .before .before .args .blo
     let h : i < length m = omega arith in
     let v : c .byte-or-zero .result ≡ getD g i 0 =
     c .byte-or-zero .ensures ∙ ap (λ (x : List ℕ). getD x (i + w) 0) (c .before .before .before .loop .inv .1 .0)
-    ∙ mix-later 0 g m i (i + w) n (omega arith) ∙ sym (closed-after at w m (c .before .before .before .before .before .pre) i (c .before .before .before .loop .inv .0 .0)) in
-    ((omega arith, omega arith), (rw (c .before .before .before .loop .inv .1 .0) (mix-more 0 g m i _ n h v), simp length-set (c .before .before .before .loop .inv .1 .1)))
+    ∙ mix-later 0 g m i (i + w) n (omega arith)
+    ∙ sym
+    (closed-after at w m (c .before .before .before .before .before .pre) i
+    (c .before .before .before .loop .inv .0 .0)) in (
+      (omega arith, omega arith),
+      (
+        rw (c .before .before .before .loop .inv .1 .0) (mix-more 0 g m i _ n h v),
+        simp length-set (c .before .before .before .loop .inv .1 .1),
+      ),
+    )
 
 same-length : tie.Need-same-length Inv-loop μ-loop
 same-length c = c .before .loop .inv .1 .1
@@ -44,7 +54,12 @@ same-length c = c .before .loop .inv .1 .1
 returns : tie.Need-returns Inv-loop μ-loop
 returns c = let m = now (c .before .before .before .args .block) in
     let i : c .before .loop .i ≡ length m = omega arith in
-    c .before .loop .inv .1 .0 ∙ mix-all (closed (c .before .before .before .args .at) (c .before .before .before .args .width) m) m (c .before .loop .i) (closed-length (c .before .before .before .args .at) (c .before .before .before .args .width) m (c .before .before .before .pre)) i
+    c .before .loop .inv .1 .0
+    ∙ mix-all (closed (c .before .before .before .args .at) (c .before .before .before .args .width) m) m
+    (c .before .loop .i)
+    (closed-length (c .before .before .before .args .at) (c .before .before .before .args .width) m
+    (c .before .before .before .pre))
+    i
 
 pub close-spec : {M : Type 1} → statement M
 close-spec =

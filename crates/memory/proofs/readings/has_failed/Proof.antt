@@ -14,7 +14,9 @@ use Rattle.status.proofs.status_of.Reads as status-of-reads
 -- src/readings.rt:18:1
 returns : tie.Need-returns
 unfolding storedAt
-returns c = contains-is (c .before .status-of .result .0) testFailedSinceLastClear (c .contains .ensures) ∙ ap (λ (byte : ℕ). statusOf byte testFailedSinceLastClear) (c .before .status-of .ensures)
+returns c =
+    contains-is (c .before .status-of .result .0) testFailedSinceLastClear (c .contains .ensures)
+    ∙ ap (λ (byte : ℕ). statusOf byte testFailedSinceLastClear) (c .before .status-of .ensures)
 
 pub has-failed-spec : {M : Type 1} → statement M
 has-failed-spec = tie.close

@@ -15,7 +15,10 @@ use Rattle.status.proofs.status_of.Reads as status-of-reads
 -- src/readings.rt:11:1
 returns : tie.Need-returns
 unfolding storedAt
-returns c = ap (λ (b : Bool). not b) (contains-is (c .before .status-of .result .0) testFailed (c .contains .ensures) ∙ ap (λ (byte : ℕ). statusOf byte testFailed) (c .before .status-of .ensures))
+returns c =
+    ap (λ (b : Bool). not b)
+    (contains-is (c .before .status-of .result .0) testFailed (c .contains .ensures)
+    ∙ ap (λ (byte : ℕ). statusOf byte testFailed) (c .before .status-of .ensures))
 
 pub is-quiet-spec : {M : Type 1} → statement M
 is-quiet-spec = tie.close
