@@ -9,7 +9,7 @@ use lib.ListN.{length}
 use lib.IntN.{ℤ, pos}
 use borrow.Author.Tests.{eqb-true, eqb-false}
 use Rattle.history.specs.StatusByte.{testFailedSinceLastClear, EventRecord, Limits, agesAtStop}
-use Rattle.history.specs.History.{Token, start, stop, clear, step}
+use Rattle.history.specs.History.{Token, stop, clear, step}
 use Rattle.manual.specs.Configuration.{Configuration, events, places, frameBytes}
 use Rattle.manual.specs.Configuration.{entryFrames, priorityOf, limitsOf}
 use Rattle.manual.specs.State.{State, opened, recordOf, withD}
@@ -113,9 +113,6 @@ module _ (cfg : Configuration) where
     where
       stopped : MemoryGood (happens cfg stop k s)
       stopped = good-happens stop (λ n r e. e) k s h m
-
-  pub good-starts : (k : ℕ) (s : State) → k < events cfg → MemoryGood s → MemoryGood (happens cfg start k s)
-  good-starts k s h m = good-happens start (λ n r e. e) k s h m
 
   -- ---- a verdict
 

@@ -7,8 +7,8 @@ use Prim.Native.Nat.{ℕ, zero, suc, _+_, _≤_, _<_, _^_}
 use native.Mathlib.Omega.{arith}
 use lib.Dec.{T, leb, lit≤}
 use lib.IntN.{ℤ, pos, negsuc, natAbs}
-use lib.ListN.{length, take, drop, set, length-take, length-append, take-append-drop}
-use lib.Seq.{length-take-le, set-split, append-snoc, drop-append-seam, drop-drop, take-at, drop-at}
+use lib.ListN.{length, take, drop, length-take, length-append}
+use lib.Seq.{length-take-le, drop-drop, take-at, drop-at}
 use lib.Signed.{mag, ltZ, leZ, nonNeg}
 use mir.Syntax.{w32}
 use mir.Val.{Fits}
@@ -18,6 +18,8 @@ use Rattle.history.proofs.WordsLaws.{and-left, and-right}
 use Rattle.manual.specs.Words.{between, natOf}
 use Rattle.manual.proofs.WordsLaws.{clash}
 use Rattle.manual.specs.Configuration.{mostNumbers, configOk}
+use Rattle.writing.specs.Writing.{laid}
+use Rattle.writing.proofs.PartlyWritten.{laid-front, laid-again, laid-over}
 use Rattle.transcript.specs.declared.Cursor.{Cursor}
 use Rattle.transcript.specs.declared.Word.{Word}
 use Rattle.transcript.specs.declared.Word.the-variants.{Number, End}
@@ -28,7 +30,7 @@ use Rattle.replay_step.specs.declared.Begun.the-variants.{Ready}
 use Rattle.replay_step.specs.Beginning.{Read, readTo, unread, withNext, oneMore, numbersRead, Beginning, ready}
 use Rattle.replay_step.specs.Beginning.{refused, unreadable, judgedNumbers, ofNumbers, withCount, ofCount}
 use Rattle.replay_step.specs.Beginning.{beginning}
-use Rattle.replay_step.specs.Beginning.{Leaving, leaving, laid, cursor, numbersLeft, beginningLeft}
+use Rattle.replay_step.specs.Beginning.{Leaving, leaving, cursor, numbersLeft, beginningLeft}
 
 -- an argument has 32 bits
 pub argument-fits : (z : ℤ) → mag z < 2 ^ 31 → ltZ z (pos 0) ≡ false → T (nonNeg z) × Fits w32 (natAbs z)
@@ -81,28 +83,6 @@ abbrev behind : Numbers → ℕ
 behind (Numbers.Read next) = next .at
 behind Numbers.Unreadable = 0
 
--- a number stored behind the numbers so far
-pub laid-next : (l : List ℤ) (place : ℕ) (z : ℤ) → place < length l → set l place z ≡ laid (take place l ++ z ∷ []) l
-laid-next l place z h =
-    let e = length-append (take place l) (z ∷ []) in
-    let t = length-take-le place l (omega arith) in
-    let n : length (take place l ++ z ∷ []) ≡ suc place = omega (arith, e, t) in
-    set-split l place z h ∙ sym (append-snoc (take place l) z (drop (suc place) l))
-    ∙ ap (λ (k : ℕ). (take place l ++ z ∷ []) ++ drop k l) (sym n)
-
--- the front as it stands
-pub laid-front : (l : List ℤ) (n : ℕ) → n ≤ length l → laid (take n l) l ≡ l
-laid-front l n h = ap (λ (k : ℕ). take n l ++ drop k l) (length-take-le n l h) ∙ take-append-drop n l
-
-pub laid-again : (zs l : List ℤ) → laid zs (laid zs l) ≡ laid zs l
-laid-again zs l = ap (λ (r : List ℤ). zs ++ r) (drop-append-seam zs (drop (length zs) l))
-
--- over a buffer with the same rest
-laid-over : (zs : List ℤ) {place : ℕ} (l m : List ℤ) → length zs ≡ place → drop place l ≡ drop place m
-    → laid zs l ≡ laid zs m
-laid-over zs {place} l m n e =
-    ap (λ (k : ℕ). zs ++ drop k l) n ∙ ap (λ (r : List ℤ). zs ++ r) e ∙ ap (λ (k : ℕ). zs ++ drop k m) (sym n)
-
 -- what the turn of the loop at a place leaves: `l` before the turn, `l′` after it, `m` before the loop
 module _ (text : List ℕ) (at place : ℕ) (m l : List ℤ) {p : ℕ} (within : place < length l)
     (so-far : numbersRead place at text ≡ readTo (take place l) p) (rest : drop place l ≡ drop place m) where
@@ -120,6 +100,7 @@ module _ (text : List ℕ) (at place : ℕ) (m l : List ℤ) {p : ℕ} (within :
       → leaving (Numbers.Read next) l′ ≡ numbersLeft (withNext (take place l) w) l
       → (numbersRead (suc place) at text ≡ readTo (take (suc place) l′) (next .at)) ×
       (drop (suc place) l′ ≡ drop (suc place) m)
+  unfolding laid
   turn-read {l′} {next} (Number r) q e =
       let b : l′ ≡ laid (take place l ++ r .value ∷ []) l = ap (λ (x : Leaving Numbers). x .buffer) e in
       let t = ap (take (suc place)) b ∙ take-at (take place l ++ r .value ∷ []) _ (suc place) (longer (r .value)) in
@@ -177,6 +158,7 @@ pub read-judged : (count : ℕ) (r : Read) {next : Cursor} {b : Begun} {l : List
     → leaving (Numbers.Read next) l ≡ numbersLeft r m
     → leaving b l ≡ beginningLeft (judgedNumbers (take count l) (next .at)) l
     → leaving b l ≡ beginningLeft (ofNumbers r) m
+unfolding laid
 read-judged count (readTo zs at) {next} {b} {l} m n e j =
     let o : l ≡ laid zs m = ap (λ (x : Leaving Numbers). x .buffer) e in
     let t : take count l ≡ zs = ap (take count) o ∙ take-at zs _ count n in
@@ -249,6 +231,7 @@ countOf Begun.Unreadable = 0
 
 left-tells : (b : Beginning) {count : ℕ} {next : Cursor} {l : List ℤ} (m : List ℤ) → tells b ≡ true
     → leaving (Ready count next) l ≡ beginningLeft b m → (count ≤ mostNumbers) × (configOk (take count l) ≡ true)
+unfolding laid
 left-tells (ready zs at) {count} {next} {l} m t e =
     let n : count ≡ length zs = ap (λ (x : Leaving Begun). countOf (x .answer)) e in
     let front : take count l ≡ zs =

@@ -3,9 +3,10 @@ use mathlib.Core.Bool.{Bool, cond}
 use mathlib.Core.List.{List, [], _∷_, _++_}
 use Prim.Native.Nat.{ℕ, zero, suc}
 use lib.IntN.{ℤ, pos}
-use lib.ListN.{length, drop}
+use lib.ListN.{length}
 use Rattle.manual.specs.Words.{between, natOf}
 use Rattle.manual.specs.Configuration.{mostNumbers, configOk}
+use Rattle.writing.specs.Writing.{laid}
 use Rattle.transcript.specs.declared.Cursor.{Cursor}
 use Rattle.transcript.specs.declared.Word.{Word}
 use Rattle.transcript.specs.declared.Word.the-variants.{Number, End}
@@ -74,13 +75,10 @@ pub record Leaving (A : Type 0) : Type 0 where
 abbrev pub leaving : {A : Type 0} → A → List ℤ → Leaving A
 leaving answer buffer = record { answer = answer; buffer = buffer }
 
--- the numbers that were read stand in front of the buffer, the rest of it as found
-abbrev pub laid : List ℤ → List ℤ → List ℤ
-laid numbers buffer = numbers ++ drop (length numbers) buffer
-
 abbrev pub cursor : ℕ → Cursor
 cursor at = record { at = at }
 
+-- the numbers that were read stand in front of the buffer, the rest of it as found
 abbrev pub numbersLeft : Read → List ℤ → Leaving Numbers
 numbersLeft (readTo numbers at) buffer = leaving (Numbers.Read (cursor at)) (laid numbers buffer)
 numbersLeft (unread numbers) buffer = leaving Numbers.Unreadable (laid numbers buffer)

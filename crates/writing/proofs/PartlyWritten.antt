@@ -7,7 +7,7 @@ use native.Mathlib.Nat.{add-zero, zero-add, add-suc, suc-add, le-of-suc-le-suc, 
 use native.Mathlib.Numerals.{add-one, one-add}
 use native.Mathlib.Omega.{arith}
 use lib.ListN.{length, take, drop, getD, set, take-append-drop, drop-of-length-le, length-append}
-use lib.Seq.{sets, sets-eq, take-suc, take-all, length-take-le, drop-at}
+use lib.Seq.{sets, sets-eq, take-suc, take-all, length-take-le, drop-at, set-split, append-snoc, drop-append-seam}
 use Rattle.writing.specs.Writing.{laid}
 
 -- ---- xs is stored in l from a place on: after i turns the list is sets l at (take i xs)
@@ -40,10 +40,32 @@ module _ {A : Type 0} where
   unfolding laid
   sets-laid xs l h = sets-eq xs l 0 (omega arith) ∙ ap (λ k. xs ++ drop k l) (zero-add (length xs))
 
-  -- a list that is as long as the whole
-  pub laid-whole : (xs l : List A) → length xs ≡ length l → laid xs l ≡ xs
+  -- an element stored behind those at the front
+  pub laid-next : (l : List A) (place : ℕ) (x : A) → place < length l
+      → set l place x ≡ laid (take place l ++ x ∷ []) l
   unfolding laid
-  laid-whole xs l e = ap (λ (r : List A). xs ++ r) (drop-of-length-le l {i = length xs} (omega arith)) ∙ append-nil xs
+  laid-next l place x h =
+      let e = length-append (take place l) (x ∷ []) in
+      let t = length-take-le place l (omega arith) in
+      let n : length (take place l ++ x ∷ []) ≡ suc place = omega (arith, e, t) in
+      set-split l place x h ∙ sym (append-snoc (take place l) x (drop (suc place) l))
+      ∙ ap (λ (k : ℕ). (take place l ++ x ∷ []) ++ drop k l) (sym n)
+
+  -- the front as it stands
+  pub laid-front : (l : List A) (n : ℕ) → n ≤ length l → laid (take n l) l ≡ l
+  unfolding laid
+  laid-front l n h = ap (λ (k : ℕ). take n l ++ drop k l) (length-take-le n l h) ∙ take-append-drop n l
+
+  pub laid-again : (xs l : List A) → laid xs (laid xs l) ≡ laid xs l
+  unfolding laid
+  laid-again xs l = ap (λ (r : List A). xs ++ r) (drop-append-seam xs (drop (length xs) l))
+
+  -- over a list with the same rest
+  pub laid-over : (xs : List A) {place : ℕ} (l m : List A) → length xs ≡ place → drop place l ≡ drop place m
+      → laid xs l ≡ laid xs m
+  unfolding laid
+  laid-over xs {place} l m n e =
+      ap (λ (k : ℕ). xs ++ drop k l) n ∙ ap (λ (r : List A). xs ++ r) e ∙ ap (λ (k : ℕ). xs ++ drop k m) (sym n)
 
   -- what stands before the place stays
   sets-cons : (x : A) (at : ℕ) (xs l : List A) → sets (x ∷ l) (suc at) xs ≡ x ∷ sets l at xs

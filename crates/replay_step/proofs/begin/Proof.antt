@@ -3,12 +3,13 @@ use lib.IntN.{ℤ}
 use denote.Ref.{now}
 use Rattle.config.proofs.SignedInCode.{back}
 use Rattle.replay_step.specs.Beginning.{beginning, withCount, beginningLeft}
+use Rattle.writing.specs.Writing.{laid}
 use borrow.Author.Needs.{needs}
 use Rattle.replay_step.proofs.begin.Statement.{statement}
 use Rattle.replay_step.proofs.begin.Tie as tie
 
 returns : tie.Need-returns
-unfolding beginning
+unfolding beginning laid
 returns c = rw (c .if1 .taken)
 
 returns-2 : tie.Need-returns-2
@@ -30,12 +31,12 @@ returns-2 c =
     (c .before .before .struct-told .given .0 .1)))
 
 returns-3 : tie.Need-returns-3
-unfolding beginning
+unfolding beginning laid
 returns-3 c =
     rw (c .before .before .before .if1 .left, ← c .before .before .next-number .ensures, c .enum-told .given .1)
 
 returns-4 : tie.Need-returns-4
-unfolding beginning
+unfolding beginning laid
 returns-4 c =
     rw (c .before .before .before .if1 .left, ← c .before .before .next-number .ensures, c .enum-told2 .given .1)
 

@@ -6,12 +6,13 @@ use borrow.Author.Tests.{not-true, not-false}
 use Rattle.replay_step.specs.Beginning.{withCount, ofNumbers, numbersRead, beginningLeft}
 use Rattle.replay_step.proofs.BeginningLaws.{count-small}
 use denote.Ref.{now}
+use Rattle.writing.specs.Writing.{laid}
 use borrow.Author.Needs.{needs}
 use Rattle.replay_step.proofs.counted.Statement.{statement}
 use Rattle.replay_step.proofs.counted.Tie as tie
 
 returns : tie.Need-returns
-unfolding withCount
+unfolding withCount laid
 returns c =
     let e = toZ-ofZ (c .before .before .before .fits .count) in let r = rw e at (c .before .count-allowed .ensures) in
     rw (← r, not-true (c .before .count-allowed .result) (c .if1 .taken))

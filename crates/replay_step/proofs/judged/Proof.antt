@@ -3,7 +3,8 @@ use mathlib.Core.Path.{sym}
 use Rattle.replay_step.specs.declared.Begun.{Begun}
 use Rattle.replay_step.specs.declared.Begun.the-variants.{Ready}
 use Rattle.replay_step.specs.Beginning.{leaving}
-use Rattle.replay_step.proofs.BeginningLaws.{length-of-front, laid-front}
+use Rattle.writing.proofs.PartlyWritten.{laid-front}
+use Rattle.replay_step.proofs.BeginningLaws.{length-of-front}
 use denote.Ref.{now}
 use borrow.Author.Needs.{needs}
 use Rattle.replay_step.proofs.judged.Statement.{statement}

@@ -3,7 +3,7 @@ use native.Mathlib.Omega.{arith}
 use Rattle.config.proofs.SignedInCode.{back}
 use Rattle.replay_step.specs.declared.Numbers.{Numbers}
 use Rattle.replay_step.specs.Beginning.{leaving}
-use Rattle.replay_step.proofs.BeginningLaws.{laid-next, laid-front}
+use Rattle.writing.proofs.PartlyWritten.{laid-next, laid-front}
 use denote.Ref.{now}
 use borrow.Author.Needs.{needs}
 use Rattle.replay_step.proofs.read_into.Statement.{statement}
