@@ -1,6 +1,10 @@
 /*
  * grelpicado.h: the diagnostic event manager, for firmware in C or C++.
  *
+ * To start: write a configuration (grelpicado_event), give grelpicado_begin your
+ * arrays, and make the calls grelpicado_ctx_... on what it filled. They stand at
+ * the end of this file, over the eleven plain calls that do the work.
+ *
  * The manager keeps nothing of its own. Everything it works on is lent by the
  * caller for the length of one call:
  *
@@ -19,7 +23,8 @@
  * What the caller owes, since no call can test it:
  *   - each pointer points to as many elements as the length beside it says,
  *     readable, and writable where it is not const; it is aligned for its type,
- *     and not NULL even where the length is 0;
+ *     and not NULL even where the length is 0 (the calls on a context take NULL
+ *     with length 0 for a frame, an image, a request or a room);
  *   - a block that a call may write overlaps no other block of that call, and
  *     nobody else reads or writes it meanwhile. Blocks that are const in a call
  *     may overlap one another.
@@ -38,6 +43,21 @@
 extern "C" {
 #endif
 
+/*
+ * Of this header: 1000 is 1.0. The thousands rise when a program that includes it must be changed
+ * or compiled again, the rest when something is added.
+ */
+#define GRELPICADO_HEADER_VERSION 1000
+
+/* A cast and a check in the words of either language, for this file. */
+#ifdef __cplusplus
+#define GRELPICADO_SIZE_(number) static_cast<size_t>(number)
+#define GRELPICADO_CHECK_(condition, words) static_assert(condition, words)
+#else
+#define GRELPICADO_SIZE_(number) ((size_t)(number))
+#define GRELPICADO_CHECK_(condition, words) _Static_assert(condition, words)
+#endif
+
 /* ---- sizes, from n events, M memory places and F frame bytes */
 
 #define GRELPICADO_MAX_EVENTS 512u
@@ -45,19 +65,111 @@ extern "C" {
 #define GRELPICADO_MAX_FRAME 32u
 
 /* Numbers of the configuration. */
-#define GRELPICADO_CONFIG_NUMBERS(n) ((size_t)3 + (size_t)13 * (size_t)(n))
+#define GRELPICADO_CONFIG_NUMBERS(n) (GRELPICADO_SIZE_(3) + GRELPICADO_SIZE_(13) * GRELPICADO_SIZE_(n))
 /* Bytes of the records. */
-#define GRELPICADO_RECORDS_BYTES(n) ((size_t)4 * (size_t)(n))
+#define GRELPICADO_RECORDS_BYTES(n) (GRELPICADO_SIZE_(4) * GRELPICADO_SIZE_(n))
 /* Debounce numbers. */
-#define GRELPICADO_DEBOUNCE_NUMBERS(n) ((size_t)(n))
+#define GRELPICADO_DEBOUNCE_NUMBERS(n) GRELPICADO_SIZE_(n)
 /* Bytes of the memory. */
 #define GRELPICADO_MEMORY_BYTES(M, F) \
-    ((size_t)1 + (size_t)(M) * ((size_t)3 + (size_t)(F)))
+    (GRELPICADO_SIZE_(1) + GRELPICADO_SIZE_(M) * (GRELPICADO_SIZE_(3) + GRELPICADO_SIZE_(F)))
 /* Bytes of the largest saved image. */
 #define GRELPICADO_IMAGE_BYTES(n, M, F) \
-    ((size_t)20 + GRELPICADO_RECORDS_BYTES(n) + GRELPICADO_MEMORY_BYTES(M, F) + (size_t)1)
+    (GRELPICADO_SIZE_(20) + GRELPICADO_RECORDS_BYTES(n) + GRELPICADO_MEMORY_BYTES(M, F) + GRELPICADO_SIZE_(1))
 /* Bytes of the largest diagnostic reply. */
-#define GRELPICADO_REPLY_BYTES(n) ((size_t)3 + (size_t)4 * (size_t)(n))
+#define GRELPICADO_REPLY_BYTES(n) (GRELPICADO_SIZE_(3) + GRELPICADO_SIZE_(4) * GRELPICADO_SIZE_(n))
+
+/* An array by its name, not by a pointer to it, as a call takes it: the pointer and how many elements. */
+#define GRELPICADO_LEND(array) (array), sizeof (array) / sizeof (array)[0]
+
+/* ---- the configuration */
+
+/*
+ * Three numbers in front, then thirteen for each event, event 0 first. Any other length, or any
+ * number that this table does not allow, and every call answers GRELPICADO_BAD_CONFIGURATION.
+ *
+ *      in front       meaning                                        allowed
+ *      events         n, how many events there are                   1 to 512
+ *      places         M, how many entries the memory holds           1 to 64
+ *      frame_bytes    F, how many bytes a frame has                  0 to 32
+ *
+ *   #  of an event    meaning                                        allowed
+ *   1  trouble_code   the code that a tester knows it by             1 to 16,777,214, each greater than
+ *                                                                    that of the event before
+ *   2  priority       1 the most important: who gives way in a       1 to 255
+ *                     full memory
+ *   3  cycle          the cycle in which its test runs               0 to 3
+ *   4  debounce_kind  who debounces: 0 the test itself (internal),   0 to 2
+ *                     1 a counter, 2 time
+ *   5  p              P: passed when counted down to it, or after    kinds 1, 2: -30,000 to -1; kind 0: 0
+ *                     -P ms of pre-passed
+ *   6  q              Q: failed when counted up to it, or after      kinds 1, 2: 1 to 30,000; kind 0: 0
+ *                     Q ms of pre-failed
+ *   7  up             what a pre-failed adds                         kind 1: 1 to 30,000; else 0
+ *   8  down           what a pre-passed takes off                    kind 1: 1 to 30,000; else 0
+ *   9  jumps          start from 0 when the count turns: 1 up,       kind 1: 0 to 3; else 0
+ *                     2 down, 3 both
+ *  10  confirm        C: in how many runs it must fail to be         1 to 255
+ *                     confirmed
+ *  11  heal           H: after how many clean runs it warns no       1 to 255
+ *                     more
+ *  12  age            A: after how many runs without a failure it    1 to 255
+ *                     is forgotten
+ *  13  indicator      whether it warns when confirmed: 1 yes, 0 no   0 or 1
+ */
+typedef struct grelpicado_event {
+    int32_t trouble_code;
+    int32_t priority;
+    int32_t cycle;         /* GRELPICADO_CYCLE_... */
+    int32_t debounce_kind; /* GRELPICADO_KIND_... */
+    int32_t p;
+    int32_t q;
+    int32_t up;
+    int32_t down;
+    int32_t jumps;         /* GRELPICADO_JUMP_... */
+    int32_t confirm;
+    int32_t heal;
+    int32_t age;
+    int32_t indicator;
+} grelpicado_event;
+
+#define GRELPICADO_MAX_TROUBLE_CODE 0xFFFFFE
+
+#define GRELPICADO_CYCLES 4
+#define GRELPICADO_CYCLE_0 0
+#define GRELPICADO_CYCLE_1 1
+#define GRELPICADO_CYCLE_2 2
+#define GRELPICADO_CYCLE_3 3
+
+#define GRELPICADO_KIND_INTERNAL 0
+#define GRELPICADO_KIND_COUNTER 1
+#define GRELPICADO_KIND_TIME 2
+
+#define GRELPICADO_JUMP_NONE 0
+#define GRELPICADO_JUMP_UP 1
+#define GRELPICADO_JUMP_DOWN 2
+#define GRELPICADO_JUMP_BOTH 3
+
+/*
+ * The type of a whole configuration of n events, laid out as the numbers that a call takes:
+ *
+ *     static const GRELPICADO_CONFIG(1) config = {
+ *         1, 4, 0,
+ *         {{0x1234, 1, GRELPICADO_CYCLE_0, GRELPICADO_KIND_INTERNAL, 0, 0, 0, 0, 0, 1, 1, 1, 1}},
+ *     };
+ *
+ * In C the fields may be named, as .trouble_code = 0x1234. Its pointer for a call is &config.events.
+ */
+#define GRELPICADO_CONFIG(n)                \
+    struct {                                \
+        int32_t events;                     \
+        int32_t places;                     \
+        int32_t frame_bytes;                \
+        grelpicado_event event[n];          \
+    }
+
+/* Such a configuration as a call takes it: the pointer and how many numbers. */
+#define GRELPICADO_LEND_CONFIG(config) &(config).events, sizeof (config) / sizeof (config).events
 
 /* ---- the numbers a call answers with */
 
@@ -99,6 +211,9 @@ extern "C" {
 
 /* The trouble code that clears all events. */
 #define GRELPICADO_ALL_CODES 0xFFFFFFu
+
+/* The longest tick, in milliseconds. */
+#define GRELPICADO_MAX_TICK 60000u
 
 /* ---- what crosses by value */
 
@@ -284,6 +399,198 @@ grelpicado_request_answer grelpicado_request(
     grelpicado_board board,
     const uint8_t *request, size_t request_length,
     uint8_t *room, size_t room_length);
+
+/* ---- the context: the same calls on what one object holds */
+
+/*
+ * All that every call is lent, and the board that the last call handed back. grelpicado_begin fills
+ * it; it holds pointers into your arrays, which must live as long as it does.
+ *
+ * Each function grelpicado_ctx_x makes the plain call grelpicado_x, with its refusals in its order,
+ * keeps the board that it hands back, and answers the rest: the number where there is nothing else.
+ * A refused call hands back the board it was given, so it changes nothing here either.
+ *
+ * A frame, an image, a request or a room of length 0 may be NULL: an address that is not is lent in
+ * its place.
+ */
+typedef struct grelpicado {
+    const int32_t *config;
+    size_t config_length; /* numbers */
+    uint8_t *records;
+    size_t records_length; /* bytes */
+    int32_t *debounce;
+    size_t debounce_length; /* numbers */
+    uint8_t *memory;
+    size_t memory_length; /* bytes */
+    grelpicado_board board;
+} grelpicado;
+
+typedef struct grelpicado_verdict_answer {
+    uint8_t number;
+    uint8_t verdict; /* GRELPICADO_VERDICT_... */
+} grelpicado_verdict_answer;
+
+/* What every plain call is lent, in its order. */
+#define GRELPICADO_LENT_(manager)                       \
+    (manager)->config, (manager)->config_length,        \
+    (manager)->records, (manager)->records_length,      \
+    (manager)->debounce, (manager)->debounce_length,    \
+    (manager)->memory, (manager)->memory_length,        \
+    (manager)->board
+
+/* Keeps the board, answers the number. */
+static inline uint8_t grelpicado_keep_(grelpicado *manager, grelpicado_answer answer)
+{
+    manager->board = answer.board;
+    return answer.number;
+}
+
+/* The bytes, or an address for none. */
+static inline const uint8_t *grelpicado_bytes_(const uint8_t *bytes, size_t length)
+{
+    static const uint8_t none = 0;
+    return length == 0 ? &none : bytes;
+}
+
+/* The fresh state. The blocks may hold anything. */
+static inline uint8_t grelpicado_ctx_fresh(grelpicado *manager)
+{
+    return grelpicado_keep_(manager, grelpicado_fresh(GRELPICADO_LENT_(manager)));
+}
+
+/*
+ * Fills the context from the caller's arrays and makes the fresh state. Every length is the number of
+ * elements: GRELPICADO_LEND and GRELPICADO_LEND_CONFIG write pointer and length of an array.
+ * Refusals, in order: 2, 3 (the blocks' lengths alone).
+ */
+static inline uint8_t grelpicado_begin(
+    grelpicado *manager,
+    const int32_t *config, size_t config_length,
+    uint8_t *records, size_t records_length,
+    int32_t *debounce, size_t debounce_length,
+    uint8_t *memory, size_t memory_length)
+{
+    const grelpicado_board stopped = {{0, 0, 0, 0}, 0};
+    manager->config = config;
+    manager->config_length = config_length;
+    manager->records = records;
+    manager->records_length = records_length;
+    manager->debounce = debounce;
+    manager->debounce_length = debounce_length;
+    manager->memory = memory;
+    manager->memory_length = memory_length;
+    manager->board = stopped;
+    return grelpicado_ctx_fresh(manager);
+}
+
+/* A test's result for one event, with the frame of F bytes. Refusals: 2, 3, 4, 1, 6, 9, 5. */
+static inline grelpicado_verdict_answer grelpicado_ctx_report(
+    grelpicado *manager, size_t event, uint32_t code, const uint8_t *frame, size_t frame_length)
+{
+    const grelpicado_report_answer answer = grelpicado_report(
+        GRELPICADO_LENT_(manager), event, code, grelpicado_bytes_(frame, frame_length), frame_length);
+    const grelpicado_verdict_answer rest = {answer.number, answer.verdict};
+    manager->board = answer.board;
+    return rest;
+}
+
+/* So many milliseconds have passed. Refusals: 2, 3, 1, 9. */
+static inline uint8_t grelpicado_ctx_tick(
+    grelpicado *manager, uint32_t ms, const uint8_t *frame, size_t frame_length)
+{
+    return grelpicado_keep_(manager, grelpicado_tick(
+        GRELPICADO_LENT_(manager), ms, grelpicado_bytes_(frame, frame_length), frame_length));
+}
+
+/* Starts a cycle. Refusals: 2, 3, 4, 5. */
+static inline uint8_t grelpicado_ctx_start(grelpicado *manager, uint32_t cycle)
+{
+    return grelpicado_keep_(manager, grelpicado_start(GRELPICADO_LENT_(manager), cycle));
+}
+
+/* Stops a cycle. Refusals: 2, 3, 4, 5. */
+static inline uint8_t grelpicado_ctx_stop(grelpicado *manager, uint32_t cycle)
+{
+    return grelpicado_keep_(manager, grelpicado_stop(GRELPICADO_LENT_(manager), cycle));
+}
+
+/* Clears the event of a trouble code, or all for GRELPICADO_ALL_CODES. Refusals: 2, 3, 4. */
+static inline uint8_t grelpicado_ctx_clear(grelpicado *manager, uint32_t code)
+{
+    return grelpicado_keep_(manager, grelpicado_clear(GRELPICADO_LENT_(manager), code));
+}
+
+/* The status byte of an event. Refusals: 2, 3, 4. */
+static inline grelpicado_status_answer grelpicado_ctx_read_status(const grelpicado *manager, size_t event)
+{
+    return grelpicado_read_status(GRELPICADO_LENT_(manager), event);
+}
+
+/* Where the stored frame of an event lies: at manager->memory + start. Refusals: 2, 3, 4, 10. */
+static inline grelpicado_frame_answer grelpicado_ctx_read_frame(const grelpicado *manager, size_t event)
+{
+    return grelpicado_read_frame(GRELPICADO_LENT_(manager), event);
+}
+
+/* Saves the state into a room. Refusals: 2, 3, 5, 7. */
+static inline grelpicado_length_answer grelpicado_ctx_save(
+    const grelpicado *manager, uint8_t *room, size_t room_length)
+{
+    uint8_t none = 0;
+    return grelpicado_save(GRELPICADO_LENT_(manager), room_length == 0 ? &none : room, room_length);
+}
+
+/* Makes the state that an image was saved of. Refusals: 2, 3 (the blocks' lengths alone), 8. */
+static inline uint8_t grelpicado_ctx_restore(grelpicado *manager, const uint8_t *image, size_t image_length)
+{
+    return grelpicado_keep_(manager, grelpicado_restore(
+        GRELPICADO_LENT_(manager), grelpicado_bytes_(image, image_length), image_length));
+}
+
+/* Answers a diagnostic request. Refusals: 2, 3, 7, 1. */
+static inline grelpicado_length_answer grelpicado_ctx_request(
+    grelpicado *manager, const uint8_t *request, size_t request_length, uint8_t *room, size_t room_length)
+{
+    uint8_t none = 0;
+    const grelpicado_request_answer answer = grelpicado_request(
+        GRELPICADO_LENT_(manager), grelpicado_bytes_(request, request_length), request_length,
+        room_length == 0 ? &none : room, room_length);
+    const grelpicado_length_answer rest = {answer.number, answer.length};
+    manager->board = answer.board;
+    return rest;
+}
+
+#undef GRELPICADO_LENT_
+
+/* ---- the layout that the archive was compiled for; a compiler that lays out otherwise stops here */
+
+typedef GRELPICADO_CONFIG(2) grelpicado_config_of_two_;
+
+GRELPICADO_CHECK_(sizeof(size_t) == 8, "lengths have 64 bits");
+GRELPICADO_CHECK_(sizeof(grelpicado_event) == 13 * sizeof(int32_t), "an event is thirteen numbers");
+GRELPICADO_CHECK_(offsetof(grelpicado_event, indicator) == 12 * sizeof(int32_t), "the indicator is the last");
+GRELPICADO_CHECK_(offsetof(grelpicado_config_of_two_, events) == 0, "n is the first number");
+GRELPICADO_CHECK_(offsetof(grelpicado_config_of_two_, event) == 3 * sizeof(int32_t),
+    "the events follow three numbers");
+GRELPICADO_CHECK_(sizeof(grelpicado_config_of_two_) == GRELPICADO_CONFIG_NUMBERS(2) * sizeof(int32_t),
+    "a configuration has no gaps");
+GRELPICADO_CHECK_(sizeof(grelpicado_board) == 5 && offsetof(grelpicado_board, running) == 0
+    && offsetof(grelpicado_board, overflow) == 4, "layout of grelpicado_board");
+GRELPICADO_CHECK_(sizeof(grelpicado_answer) == 6 && offsetof(grelpicado_answer, number) == 0
+    && offsetof(grelpicado_answer, board) == 1, "layout of grelpicado_answer");
+GRELPICADO_CHECK_(sizeof(grelpicado_report_answer) == 7 && offsetof(grelpicado_report_answer, number) == 0
+    && offsetof(grelpicado_report_answer, verdict) == 1
+    && offsetof(grelpicado_report_answer, board) == 2, "layout of grelpicado_report_answer");
+GRELPICADO_CHECK_(sizeof(grelpicado_status_answer) == 2 && offsetof(grelpicado_status_answer, number) == 0
+    && offsetof(grelpicado_status_answer, status) == 1, "layout of grelpicado_status_answer");
+GRELPICADO_CHECK_(sizeof(grelpicado_frame_answer) == 24 && offsetof(grelpicado_frame_answer, number) == 0
+    && offsetof(grelpicado_frame_answer, start) == 8
+    && offsetof(grelpicado_frame_answer, length) == 16, "layout of grelpicado_frame_answer");
+GRELPICADO_CHECK_(sizeof(grelpicado_length_answer) == 16 && offsetof(grelpicado_length_answer, number) == 0
+    && offsetof(grelpicado_length_answer, length) == 8, "layout of grelpicado_length_answer");
+GRELPICADO_CHECK_(sizeof(grelpicado_request_answer) == 24 && offsetof(grelpicado_request_answer, number) == 0
+    && offsetof(grelpicado_request_answer, length) == 8
+    && offsetof(grelpicado_request_answer, board) == 16, "layout of grelpicado_request_answer");
 
 #ifdef __cplusplus
 }
