@@ -1,10 +1,13 @@
-//! How long a call takes, through the door and in the reference, from one run.
+//! How long a call takes, in the C program behind the door and in the reference, from one
+//! run; and how many instructions it is behind the door, which repeats where a time does not.
 
 use crate::call::{Call, Outcome};
 use crate::compare::as_bytes;
-use crate::door::{self, Lent};
-use crate::reference::{Board, Configuration, State, FAILED};
+use crate::door::{Answer, Asked, Lengths, Program, Way};
+use crate::reference::{Board, Configuration, State, DONE, FAILED};
 use std::hint::black_box;
+use std::io::{self, BufReader, Write};
+use std::process::{Child, Command, Stdio};
 use std::time::Instant;
 
 const PLACES: usize = 64;
@@ -23,11 +26,13 @@ Median of 501 batches a side, the two sides in turn.
   tick     10 ms: every third event counts time, one in eight of these fails and is stored
   stop     of the one cycle of all events: h rises for half of them, one in eight ages
   19 02    mask 08h, one event in two matches
-  save     records, 64 entries and overflow";
+  save     records, 64 entries and overflow
+Instructions are those of one call behind the door, counted by callgrind; - where there is none.";
 
-pub fn run() {
+pub fn run(program: &Program) {
     println!("{WORDS}");
-    println!("call        n   door ns   reference ns   door/reference");
+    println!("call        n   door ns   reference ns   door/reference   instructions");
+    let mut door = Door::open(program.listen());
     for events in [64, 512] {
         let numbers = configuration(events);
         let config = Configuration::judge(&numbers).expect("made to be right");
@@ -43,10 +48,25 @@ pub fn run() {
             ("save", &stopped, Call::Save { room: room.len() }),
         ];
         for (name, prepared, call) in cases {
-            let [door, reference] = measure(&numbers, prepared, &call, room.clone());
-            let ratio = door / reference;
-            println!("{name:8}{events:5}{door:10.0}{reference:15.0}{ratio:17.2}");
+            let asked = asked(&numbers, prepared, &call, &room);
+            let [ns, reference] = measure(&mut door, &asked);
+            let ratio = ns / reference;
+            let count = instructions(program, &asked).unwrap_or("-".to_string());
+            println!("{name:8}{events:5}{ns:10.0}{reference:15.0}{ratio:17.2}{count:>15}");
         }
+    }
+    door.close();
+}
+
+fn asked<'a>(config: &'a [i32], state: &'a State, call: &'a Call, room: &'a [u8]) -> Asked<'a> {
+    Asked {
+        way: Way::Plain,
+        timed: BATCH as u8,
+        config,
+        state,
+        board: as_bytes(&state.board),
+        call,
+        room,
     }
 }
 
@@ -113,56 +133,95 @@ fn state(config: &Configuration, running: bool) -> State {
     state
 }
 
-/// One call on one side, on a room for its reply; answers its number.
-type Side = fn(&[i32], &mut State, &Call, &mut [u8]) -> u8;
+/// The C program, asked and answering in turn.
+struct Door {
+    child: Child,
+    from: BufReader<std::process::ChildStdout>,
+}
+
+impl Door {
+    fn open(mut child: Child) -> Door {
+        let from = child.stdout.take().expect("piped");
+        Door {
+            child,
+            from: BufReader::new(from),
+        }
+    }
+
+    fn ask(&mut self, asked: &Asked) -> io::Result<Answer> {
+        let mut bytes = Vec::new();
+        asked.write(&mut bytes);
+        self.child
+            .stdin
+            .as_mut()
+            .expect("piped")
+            .write_all(&bytes)?;
+        let lengths = Lengths {
+            config: asked.config.len(),
+            records: asked.state.records.len(),
+            debounce: asked.state.debounce.len(),
+            memory: asked.state.memory.len(),
+            input: asked.call.input().len(),
+            room: asked.room.len(),
+        };
+        let answer = Answer::read(&mut self.from, &lengths)?;
+        assert_eq!(answer.number, DONE, "{} is accepted", asked.call);
+        Ok(answer)
+    }
+
+    /// What the program wrote to its standard error, if that was piped.
+    fn close(mut self) -> String {
+        drop(self.child.stdin.take());
+        let output = self.child.wait_with_output().expect("it was started");
+        String::from_utf8_lossy(&output.stderr).into_owned()
+    }
+}
 
 /// The median time of one call in nanoseconds, door first.
-fn measure(numbers: &[i32], prepared: &State, call: &Call, mut room: Vec<u8>) -> [f64; 2] {
+fn measure(door: &mut Door, asked: &Asked) -> [f64; 2] {
     let mut copies = vec![State::default(); BATCH];
+    let mut room = asked.room.to_vec();
     let mut times = [Vec::new(), Vec::new()];
-    let sides: [Side; 2] = [by_door, by_reference];
     for _ in 0..BATCHES {
-        for (side, times) in sides.iter().zip(&mut times) {
-            copies.iter_mut().for_each(|copy| copy.clone_from(prepared));
-            let clock = Instant::now();
-            for copy in &mut copies {
-                let number = side(
-                    black_box(numbers),
-                    black_box(copy),
-                    black_box(call),
-                    &mut room,
-                );
-                assert_eq!(black_box(number), 0, "{call} is accepted");
-            }
-            times.push(clock.elapsed().as_nanos() as f64 / BATCH as f64);
+        let answer = door.ask(asked).expect("the C program answers");
+        times[0].push(answer.nanoseconds as f64);
+        copies
+            .iter_mut()
+            .for_each(|copy| copy.clone_from(asked.state));
+        let clock = Instant::now();
+        for copy in &mut copies {
+            let number = by_reference(black_box(asked), black_box(copy), &mut room);
+            assert_eq!(black_box(number), DONE, "{} is accepted", asked.call);
         }
+        times[1].push(clock.elapsed().as_nanos() as f64);
     }
     times.map(|mut times| {
         times.sort_by(f64::total_cmp);
-        times[BATCHES / 2]
+        times[BATCHES / 2] / BATCH as f64
     })
 }
 
-fn by_reference(numbers: &[i32], state: &mut State, call: &Call, room: &mut [u8]) -> u8 {
-    let Outcome { number, values } = call.by_reference(numbers, state, room);
+fn by_reference(asked: &Asked, state: &mut State, room: &mut [u8]) -> u8 {
+    let Outcome { number, values } = asked.call.by_reference(asked.config, state, room);
     black_box(values);
     number
 }
 
-fn by_door(numbers: &[i32], state: &mut State, call: &Call, room: &mut [u8]) -> u8 {
-    let lent = Lent {
-        config: numbers,
-        board: as_bytes(&state.board),
-        records: &mut state.records,
-        debounce: &mut state.debounce,
-        memory: &mut state.memory,
-    };
-    match call {
-        Call::Report { event, code, frame } => door::report(lent, *event, *code, frame).number,
-        Call::Tick { ms, frame } => door::tick(lent, *ms, frame).number,
-        Call::Stop { cycle } => door::stop(lent, *cycle).number,
-        Call::Request { request, .. } => door::request(lent, request, room).number,
-        Call::Save { .. } => door::save(lent, room).number,
-        _ => unreachable!("not measured"),
+/// The instructions of the C program's function that makes one call, by callgrind.
+fn instructions(program: &Program, asked: &Asked) -> Option<String> {
+    if program.runner.is_some() {
+        return None;
     }
+    let mut command = Command::new("valgrind");
+    command
+        .args(["--tool=callgrind", "--callgrind-out-file=/dev/null"])
+        .args(["--toggle-collect=make_call", &program.path, "calls"])
+        .stdin(Stdio::piped())
+        .stdout(Stdio::piped())
+        .stderr(Stdio::piped());
+    let mut door = Door::open(command.spawn().ok()?);
+    door.ask(&Asked { timed: 0, ..*asked }).ok()?;
+    let words = door.close();
+    let line = words.lines().find(|line| line.contains("Collected :"))?;
+    line.split_whitespace().last().map(str::to_string)
 }

@@ -1,7 +1,6 @@
 //! One call with its arguments, what it answers, and how the reference takes it.
 
 use crate::reference::{self, State, Verdict, DONE};
-use crate::tally::first_difference;
 use std::fmt;
 
 #[derive(Clone, PartialEq, Eq, Debug)]
@@ -106,7 +105,6 @@ impl Call {
     }
 
     /// The bytes that are lent to be read: a frame, an image or a request.
-    #[cfg(feature = "door")]
     pub fn input(&self) -> &[u8] {
         match self {
             Call::Report { frame, .. } | Call::Tick { frame, .. } => frame,
@@ -114,6 +112,26 @@ impl Call {
             Call::Request { request, .. } => request,
             _ => &[],
         }
+    }
+
+    /// The call's own numbers: event, cycle, milliseconds or trouble code; and a report's code.
+    pub fn numbers(&self) -> (usize, u32) {
+        match self {
+            Call::Report { event, code, .. } => (*event, *code),
+            Call::ReadStatus { event } | Call::ReadFrame { event } => (*event, 0),
+            Call::Tick { ms, .. } => (*ms as usize, 0),
+            Call::Start { cycle } | Call::Stop { cycle } => (*cycle as usize, 0),
+            Call::Clear { code } => (*code as usize, 0),
+            _ => (0, 0),
+        }
+    }
+
+    /// Read status, read frame and save cannot change the board, and hand none back.
+    pub fn hands_back_board(&self) -> bool {
+        !matches!(
+            self,
+            Call::ReadStatus { .. } | Call::ReadFrame { .. } | Call::Save { .. }
+        )
     }
 
     pub fn by_reference(&self, config: &[i32], state: &mut State, room: &mut [u8]) -> Outcome {
@@ -134,25 +152,6 @@ impl Call {
                 length(reference::request(config, state, request, room))
             }
         }
-    }
-}
-
-/// "The stored frame is read as a part of the caller's own memory block": the bytes
-/// where the answer says that the frame stands, against those of the event's entry.
-pub fn frame_difference(
-    config: &[i32],
-    state: &State,
-    call: &Call,
-    got: &Outcome,
-    memory: &[u8],
-) -> Option<String> {
-    let (Call::ReadFrame { event }, Values::Frame { start, length }) = (call, got.values) else {
-        return None;
-    };
-    let wanted = reference::stored_frame(config, state, *event);
-    match memory.get(start..start.saturating_add(length)) {
-        Some(found) => first_difference("frame", found, wanted),
-        None => Some("the frame is outside the memory block".to_string()),
     }
 }
 

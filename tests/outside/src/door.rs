@@ -1,285 +1,193 @@
-//! The C door, as grelpicado.h declares it, and a safe wrapper for each call.
-//!
-//! The lent slices keep what the header asks of a caller: as many elements as
-//! the length says, aligned, never NULL (also when empty), writable blocks
-//! apart from all others.
+//! The C program that makes the calls: how it is started, and what goes over its pipes.
+
+use crate::call::Call;
+use crate::reference::State;
+use std::io::{self, Read};
+use std::process::{Child, Command, Stdio};
+
+/// Where the C program lies, and what runs it on a machine that is not x86-64.
+pub struct Program {
+    pub path: String,
+    pub runner: Option<String>,
+}
+
+impl Program {
+    pub fn command(&self, word: &str) -> Command {
+        let mut command = match &self.runner {
+            Some(runner) => {
+                let mut command = Command::new(runner);
+                command.arg(&self.path);
+                command
+            }
+            None => Command::new(&self.path),
+        };
+        command.arg(word);
+        command
+    }
+
+    /// The program as it waits for calls.
+    pub fn listen(&self) -> Child {
+        let mut command = self.command("calls");
+        command.stdin(Stdio::piped()).stdout(Stdio::piped());
+        let started = command.spawn();
+        started.unwrap_or_else(|error| panic!("{command:?} does not start: {error}"))
+    }
+
+    /// What the program prints when asked for this.
+    pub fn ask(&self, word: &str) -> Result<String, String> {
+        let output = self.command(word).output();
+        match output {
+            Ok(output) if output.status.success() => {
+                String::from_utf8(output.stdout).map_err(|error| error.to_string())
+            }
+            Ok(output) => Err(format!("asked for {word}, it ended: {}", output.status)),
+            Err(error) => Err(format!("{} does not start: {error}", self.path)),
+        }
+    }
+}
+
+/// How the C program makes a call.
+#[derive(Clone, Copy, PartialEq, Eq, Debug)]
+pub enum Way {
+    Plain,
+    Context,
+    /// Fresh alone, by the function that fills a context.
+    Begin,
+}
 
 /// Each byte a flag: 0 no, anything else yes.
-#[repr(C)]
 #[derive(Clone, Copy, PartialEq, Eq, Debug)]
 pub struct Board {
     pub running: [u8; 4],
     pub overflow: u8,
 }
 
-#[repr(C)]
+impl Board {
+    /// The board that grelpicado_begin gives.
+    pub const STOPPED: Board = Board {
+        running: [0; 4],
+        overflow: 0,
+    };
+
+    fn bytes(&self) -> [u8; 5] {
+        let [a, b, c, d] = self.running;
+        [a, b, c, d, self.overflow]
+    }
+}
+
+/// All that goes to the C program for one call.
+pub struct Asked<'a> {
+    pub way: Way,
+    /// 0, or how often to make the call by the clock.
+    pub timed: u8,
+    pub config: &'a [i32],
+    pub state: &'a State,
+    pub board: Board,
+    pub call: &'a Call,
+    pub room: &'a [u8],
+}
+
+impl Asked<'_> {
+    pub fn write(&self, to: &mut Vec<u8>) {
+        let call = self.call.index() as u8;
+        to.extend([call, self.way as u8, self.timed]);
+        to.extend(self.board.bytes());
+        let (event, code) = self.call.numbers();
+        let input = self.call.input();
+        let lengths = [
+            4 * self.config.len(),
+            self.state.records.len(),
+            4 * self.state.debounce.len(),
+            self.state.memory.len(),
+            input.len(),
+            self.room.len(),
+        ];
+        for number in [event as u64, u64::from(code)] {
+            to.extend(number.to_le_bytes());
+        }
+        for length in lengths {
+            to.extend((length as u64).to_le_bytes());
+        }
+        to.extend(self.config.iter().flat_map(|number| number.to_le_bytes()));
+        to.extend(&self.state.records);
+        let debounce = self.state.debounce.iter();
+        to.extend(debounce.flat_map(|number| number.to_le_bytes()));
+        to.extend(&self.state.memory);
+        to.extend(input);
+        to.extend(self.room);
+    }
+}
+
+/// How many elements each block of an answer has: those that were lent.
+pub struct Lengths {
+    pub config: usize,
+    pub records: usize,
+    pub debounce: usize,
+    pub memory: usize,
+    pub input: usize,
+    pub room: usize,
+}
+
+/// All that comes back.
 pub struct Answer {
     pub number: u8,
+    /// Verdict or status.
+    pub value: u8,
+    /// A bit for each block beside which a byte was written, and one for the context.
+    pub broken: u8,
     pub board: Board,
-}
-
-#[repr(C)]
-pub struct ReportAnswer {
-    pub number: u8,
-    pub verdict: u8,
-    pub board: Board,
-}
-
-#[repr(C)]
-pub struct StatusAnswer {
-    pub number: u8,
-    pub status: u8,
-}
-
-#[repr(C)]
-pub struct FrameAnswer {
-    pub number: u8,
     pub start: usize,
     pub length: usize,
+    pub nanoseconds: u64,
+    pub config: Vec<i32>,
+    pub records: Vec<u8>,
+    pub debounce: Vec<i32>,
+    pub memory: Vec<u8>,
+    pub input: Vec<u8>,
+    pub room: Vec<u8>,
 }
 
-#[repr(C)]
-pub struct LengthAnswer {
-    pub number: u8,
-    pub length: usize,
+impl Answer {
+    pub fn read(from: &mut impl Read, lengths: &Lengths) -> io::Result<Answer> {
+        let mut head = [0; 32];
+        from.read_exact(&mut head)?;
+        let [number, value, broken, a, b, c, d, overflow, ..] = head;
+        Ok(Answer {
+            number,
+            value,
+            broken,
+            board: Board {
+                running: [a, b, c, d],
+                overflow,
+            },
+            start: word(&head, 8) as usize,
+            length: word(&head, 16) as usize,
+            nanoseconds: word(&head, 24),
+            config: numbers(from, lengths.config)?,
+            records: bytes(from, lengths.records)?,
+            debounce: numbers(from, lengths.debounce)?,
+            memory: bytes(from, lengths.memory)?,
+            input: bytes(from, lengths.input)?,
+            room: bytes(from, lengths.room)?,
+        })
+    }
 }
 
-#[repr(C)]
-pub struct RequestAnswer {
-    pub number: u8,
-    pub length: usize,
-    pub board: Board,
+fn word(head: &[u8; 32], at: usize) -> u64 {
+    let bytes = head[at..at + 8].try_into().expect("eight bytes");
+    u64::from_le_bytes(bytes)
 }
 
-/// What every call is lent.
-pub struct Lent<'a> {
-    pub config: &'a [i32],
-    pub records: &'a mut [u8],
-    pub debounce: &'a mut [i32],
-    pub memory: &'a mut [u8],
-    pub board: Board,
+fn bytes(from: &mut impl Read, length: usize) -> io::Result<Vec<u8>> {
+    let mut bytes = vec![0; length];
+    from.read_exact(&mut bytes)?;
+    Ok(bytes)
 }
 
-extern "C" {
-    fn grelpicado_fresh(
-        config: *const i32,
-        config_length: usize,
-        records: *mut u8,
-        records_length: usize,
-        debounce: *mut i32,
-        debounce_length: usize,
-        memory: *mut u8,
-        memory_length: usize,
-        board: Board,
-    ) -> Answer;
-    fn grelpicado_report(
-        config: *const i32,
-        config_length: usize,
-        records: *mut u8,
-        records_length: usize,
-        debounce: *mut i32,
-        debounce_length: usize,
-        memory: *mut u8,
-        memory_length: usize,
-        board: Board,
-        event: usize,
-        code: u32,
-        frame: *const u8,
-        frame_length: usize,
-    ) -> ReportAnswer;
-    fn grelpicado_tick(
-        config: *const i32,
-        config_length: usize,
-        records: *mut u8,
-        records_length: usize,
-        debounce: *mut i32,
-        debounce_length: usize,
-        memory: *mut u8,
-        memory_length: usize,
-        board: Board,
-        ms: u32,
-        frame: *const u8,
-        frame_length: usize,
-    ) -> Answer;
-    fn grelpicado_start(
-        config: *const i32,
-        config_length: usize,
-        records: *mut u8,
-        records_length: usize,
-        debounce: *const i32,
-        debounce_length: usize,
-        memory: *const u8,
-        memory_length: usize,
-        board: Board,
-        cycle: u32,
-    ) -> Answer;
-    fn grelpicado_stop(
-        config: *const i32,
-        config_length: usize,
-        records: *mut u8,
-        records_length: usize,
-        debounce: *mut i32,
-        debounce_length: usize,
-        memory: *mut u8,
-        memory_length: usize,
-        board: Board,
-        cycle: u32,
-    ) -> Answer;
-    fn grelpicado_clear(
-        config: *const i32,
-        config_length: usize,
-        records: *mut u8,
-        records_length: usize,
-        debounce: *mut i32,
-        debounce_length: usize,
-        memory: *mut u8,
-        memory_length: usize,
-        board: Board,
-        code: u32,
-    ) -> Answer;
-    fn grelpicado_read_status(
-        config: *const i32,
-        config_length: usize,
-        records: *const u8,
-        records_length: usize,
-        debounce: *const i32,
-        debounce_length: usize,
-        memory: *const u8,
-        memory_length: usize,
-        board: Board,
-        event: usize,
-    ) -> StatusAnswer;
-    fn grelpicado_read_frame(
-        config: *const i32,
-        config_length: usize,
-        records: *const u8,
-        records_length: usize,
-        debounce: *const i32,
-        debounce_length: usize,
-        memory: *const u8,
-        memory_length: usize,
-        board: Board,
-        event: usize,
-    ) -> FrameAnswer;
-    fn grelpicado_save(
-        config: *const i32,
-        config_length: usize,
-        records: *const u8,
-        records_length: usize,
-        debounce: *const i32,
-        debounce_length: usize,
-        memory: *const u8,
-        memory_length: usize,
-        board: Board,
-        room: *mut u8,
-        room_length: usize,
-    ) -> LengthAnswer;
-    fn grelpicado_restore(
-        config: *const i32,
-        config_length: usize,
-        records: *mut u8,
-        records_length: usize,
-        debounce: *mut i32,
-        debounce_length: usize,
-        memory: *mut u8,
-        memory_length: usize,
-        board: Board,
-        image: *const u8,
-        image_length: usize,
-    ) -> Answer;
-    fn grelpicado_request(
-        config: *const i32,
-        config_length: usize,
-        records: *mut u8,
-        records_length: usize,
-        debounce: *mut i32,
-        debounce_length: usize,
-        memory: *mut u8,
-        memory_length: usize,
-        board: Board,
-        request: *const u8,
-        request_length: usize,
-        room: *mut u8,
-        room_length: usize,
-    ) -> RequestAnswer;
-}
-
-/// Calls a function of the header: what is lent first, then the call's own arguments.
-macro_rules! call {
-    ($function:ident, $lent:expr $(, $argument:expr)*) => {{
-        let lent = $lent;
-        // SAFETY: each pointer and length come from one slice, and writable slices are exclusive.
-        unsafe {
-            $function(
-                lent.config.as_ptr(),
-                lent.config.len(),
-                lent.records.as_mut_ptr(),
-                lent.records.len(),
-                lent.debounce.as_mut_ptr(),
-                lent.debounce.len(),
-                lent.memory.as_mut_ptr(),
-                lent.memory.len(),
-                lent.board
-                $(, $argument)*
-            )
-        }
-    }};
-}
-
-pub fn fresh(lent: Lent) -> Answer {
-    call!(grelpicado_fresh, lent)
-}
-
-pub fn report(lent: Lent, event: usize, code: u32, frame: &[u8]) -> ReportAnswer {
-    call!(
-        grelpicado_report,
-        lent,
-        event,
-        code,
-        frame.as_ptr(),
-        frame.len()
-    )
-}
-
-pub fn tick(lent: Lent, ms: u32, frame: &[u8]) -> Answer {
-    call!(grelpicado_tick, lent, ms, frame.as_ptr(), frame.len())
-}
-
-pub fn start(lent: Lent, cycle: u32) -> Answer {
-    call!(grelpicado_start, lent, cycle)
-}
-
-pub fn stop(lent: Lent, cycle: u32) -> Answer {
-    call!(grelpicado_stop, lent, cycle)
-}
-
-pub fn clear(lent: Lent, code: u32) -> Answer {
-    call!(grelpicado_clear, lent, code)
-}
-
-pub fn read_status(lent: Lent, event: usize) -> StatusAnswer {
-    call!(grelpicado_read_status, lent, event)
-}
-
-pub fn read_frame(lent: Lent, event: usize) -> FrameAnswer {
-    call!(grelpicado_read_frame, lent, event)
-}
-
-pub fn save(lent: Lent, room: &mut [u8]) -> LengthAnswer {
-    call!(grelpicado_save, lent, room.as_mut_ptr(), room.len())
-}
-
-pub fn restore(lent: Lent, image: &[u8]) -> Answer {
-    call!(grelpicado_restore, lent, image.as_ptr(), image.len())
-}
-
-pub fn request(lent: Lent, request: &[u8], room: &mut [u8]) -> RequestAnswer {
-    call!(
-        grelpicado_request,
-        lent,
-        request.as_ptr(),
-        request.len(),
-        room.as_mut_ptr(),
-        room.len()
-    )
+fn numbers(from: &mut impl Read, length: usize) -> io::Result<Vec<i32>> {
+    let bytes = bytes(from, 4 * length)?;
+    let words = bytes.chunks_exact(4);
+    Ok(words
+        .map(|word| i32::from_le_bytes(word.try_into().expect("four bytes")))
+        .collect())
 }

@@ -3,7 +3,7 @@
 use crate::call::{Call, ANSWERS};
 use crate::compare::Comparison;
 use crate::damage;
-use crate::door;
+use crate::door::{self, Program};
 use crate::making;
 use crate::random::Random;
 use crate::reference::{Board, Configuration, State, ALL_CODES};
@@ -18,9 +18,9 @@ const CALLS_EACH: usize = 30;
 /// How often each call gave each answer.
 pub type Counts = [[u64; 11]; ANSWERS.len()];
 
-pub fn run(rounds: u64, seed: u64) -> (Tally, Counts) {
+pub fn run(program: &Program, rounds: u64, seed: u64) -> (Tally, Counts) {
     let mut random = Random::new(!seed);
-    let mut both = Comparison::new("hostile");
+    let mut both = Comparison::new("hostile", program, !seed);
     let mut counts = Counts::default();
     while both.tally.ran < rounds {
         let numbers = making::configuration(&mut random);
@@ -41,7 +41,7 @@ pub fn run(rounds: u64, seed: u64) -> (Tally, Counts) {
             }
         }
     }
-    (both.tally, counts)
+    (both.finish(), counts)
 }
 
 /// One call. Damage is done to copies, so that the state stays well formed.

@@ -1,97 +1,114 @@
 //! Outside tests: the archive behind the C door against an independent
-//! implementation of document 01.
+//! implementation of document 01. The door is a C program that includes
+//! grelpicado.h; `tests/outside/run` builds both and runs them.
 //!
-//!     outside [--rounds N] [--seed S] [--counts]    calls.txt, stories, hostile calls
-//!     outside bench                                 time of a call on both sides
-//!     outside reference                             calls.txt through the reference alone
+//!     outside --door PROGRAM [--runner COMMAND] [--rounds N] [--seed S] [--counts]
+//!         the header, the stored calls, stories, hostile calls
+//!     outside bench --door PROGRAM [--runner COMMAND --emulated]
+//!         time and instructions of a call on both sides
+//!     outside reference
+//!         the stored calls through the reference alone
 
+mod bench;
 mod call;
+mod compare;
+mod damage;
+mod door;
+mod happenings;
+mod header;
+mod hostile;
+mod line;
+mod making;
+mod random;
 mod reference;
+mod stories;
 mod tally;
 mod vectors;
 
-#[cfg(feature = "door")]
-mod bench;
-#[cfg(feature = "door")]
-mod compare;
-#[cfg(feature = "door")]
-mod damage;
-#[cfg(feature = "door")]
-mod door;
-#[cfg(feature = "door")]
-mod happenings;
-#[cfg(feature = "door")]
-mod hostile;
-#[cfg(feature = "door")]
-mod making;
-#[cfg(feature = "door")]
-mod random;
-#[cfg(feature = "door")]
-mod stories;
-
+use door::Program;
 use std::process::ExitCode;
+use tally::Tally;
 
-#[cfg_attr(not(feature = "door"), allow(dead_code))]
 struct Settings {
+    program: Program,
     rounds: u64,
     seed: u64,
     /// Whether to print how often each call gave each answer.
     counts: bool,
+    /// Whether to time calls under an emulator, which says nothing about the archive.
+    emulated: bool,
 }
 
 fn main() -> ExitCode {
     let arguments: Vec<String> = std::env::args().skip(1).collect();
     let words: Vec<&str> = arguments.iter().map(String::as_str).collect();
     let well = match words[..] {
-        ["reference"] => vectors::run_reference().print("ran"),
-        #[cfg(feature = "door")]
-        ["bench"] => {
-            bench::run();
-            true
-        }
-        _ => match settings(&words) {
-            Some(settings) => all(&settings),
-            None => {
-                eprintln!("outside [reference | bench | --rounds N --seed S --counts]");
-                false
-            }
-        },
+        ["reference"] => print(&vectors::run_reference(), "ran"),
+        ["bench", ref words @ ..] => settings(words).is_some_and(|settings| timed(&settings)),
+        _ => settings(&words).is_some_and(|settings| all(&settings)),
     };
     ExitCode::from(u8::from(!well))
 }
 
+/// None, and a line that says why, where the words are not understood.
 fn settings(words: &[&str]) -> Option<Settings> {
+    let read = read_settings(words);
+    if read.is_none() {
+        eprintln!("outside [reference | bench] --door PROGRAM [--runner COMMAND] [--rounds N] [--seed S] [--counts]");
+    }
+    read
+}
+
+fn read_settings(words: &[&str]) -> Option<Settings> {
     let mut settings = Settings {
+        program: Program {
+            path: String::new(),
+            runner: None,
+        },
         rounds: 100_000,
         seed: 1,
         counts: false,
+        emulated: false,
     };
     let mut words = words.iter();
     while let Some(word) = words.next() {
         match *word {
+            "--door" => settings.program.path = words.next()?.to_string(),
+            "--runner" => settings.program.runner = Some(words.next()?.to_string()),
             "--rounds" => settings.rounds = words.next()?.parse().ok()?,
             "--seed" => settings.seed = words.next()?.parse().ok()?,
             "--counts" => settings.counts = true,
+            "--emulated" => settings.emulated = true,
             _ => return None,
         }
     }
-    Some(settings)
+    (!settings.program.path.is_empty()).then_some(settings)
 }
 
-#[cfg(feature = "door")]
+/// Prints a line for each, and says whether all is well.
+fn print(tallies: &[Tally], word: &str) -> bool {
+    let well: Vec<bool> = tallies.iter().map(|tally| tally.print(word)).collect();
+    well.iter().all(|well| *well)
+}
+
 fn all(settings: &Settings) -> bool {
-    let vectors = vectors::run_both().print("ran");
-    let stories = stories::run(settings.rounds, settings.seed).print("calls");
-    let (hostile, counts) = hostile::run(settings.rounds, settings.seed);
+    let (program, rounds, seed) = (&settings.program, settings.rounds, settings.seed);
+    let header = header::run(program).print("lines compared");
+    let vectors = print(&vectors::run_both(program), "ran");
+    let stories = stories::run(program, rounds, seed).print("calls");
+    let (hostile, counts) = hostile::run(program, rounds, seed);
     let hostile = hostile.print("calls");
     if settings.counts {
         hostile::print(&counts);
     }
-    vectors && stories && hostile
+    header && vectors && stories && hostile
 }
 
-#[cfg(not(feature = "door"))]
-fn all(_: &Settings) -> bool {
-    eprintln!("built without the door: only `outside reference` runs");
-    false
+fn timed(settings: &Settings) -> bool {
+    if settings.program.runner.is_some() && !settings.emulated {
+        println!("the benchmark is for an x86-64 machine: under an emulator its times say nothing");
+        return false;
+    }
+    bench::run(&settings.program);
+    true
 }

@@ -41,8 +41,8 @@ pub const ROW: usize = 13;
 pub const KIND_INTERNAL: i32 = 0;
 pub const KIND_COUNTER: i32 = 1;
 pub const KIND_TIME: i32 = 2;
-const JUMP_UP: i32 = 1;
-const JUMP_DOWN: i32 = 2;
+pub const JUMP_UP: i32 = 1;
+pub const JUMP_DOWN: i32 = 2;
 
 /// The image's two bytes in front and three rows of 6.
 const IMAGE_HEAD: usize = 20;

@@ -3,6 +3,7 @@
 
 use crate::call::{Call, Outcome};
 use crate::compare::{as_bytes, Comparison};
+use crate::door::Program;
 use crate::happenings::Happenings;
 use crate::making;
 use crate::random::Random;
@@ -15,9 +16,9 @@ use crate::tally::Tally;
 /// Stories fail when something they are about did not happen in so many calls.
 const ENOUGH: u64 = 100_000;
 
-pub fn run(rounds: u64, seed: u64) -> Tally {
+pub fn run(program: &Program, rounds: u64, seed: u64) -> Tally {
     let mut random = Random::new(seed);
-    let mut both = Comparison::new("stories");
+    let mut both = Comparison::new("stories", program, seed);
     let mut happenings = Happenings::default();
     while both.tally.ran < rounds {
         let numbers = making::configuration(&mut random);
@@ -40,7 +41,7 @@ pub fn run(rounds: u64, seed: u64) -> Tally {
             both.tally.miss(what.to_string());
         }
     }
-    both.tally
+    both.finish()
 }
 
 /// What a story is like.

@@ -6,6 +6,8 @@ const TOLD: usize = 5;
 pub struct Tally {
     name: &'static str,
     pub ran: u64,
+    /// Behind the number of calls, how they were made.
+    pub remark: String,
     pub differed: u64,
     told: Vec<String>,
     /// What the test needed to meet and did not.
@@ -17,16 +19,10 @@ impl Tally {
         Tally {
             name,
             ran: 0,
+            remark: String::new(),
             differed: 0,
             told: Vec::new(),
             missing: Vec::new(),
-        }
-    }
-
-    pub fn count(&mut self, difference: Option<String>) {
-        self.ran += 1;
-        if let Some(difference) = difference {
-            self.differ(difference);
         }
     }
 
@@ -37,7 +33,6 @@ impl Tally {
         }
     }
 
-    #[cfg(feature = "door")]
     pub fn miss(&mut self, what: String) {
         self.missing.push(what);
     }
@@ -45,8 +40,8 @@ impl Tally {
     /// Prints the line, and says whether all is well.
     pub fn print(&self, word: &str) -> bool {
         println!(
-            "{}: {} {word}, {} differed",
-            self.name, self.ran, self.differed
+            "{}: {} {word}{}, {} differed",
+            self.name, self.ran, self.remark, self.differed
         );
         for difference in &self.told {
             println!("  {difference}");

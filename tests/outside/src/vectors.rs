@@ -1,36 +1,60 @@
-//! Runs calls.txt: every call with the blocks lent to it and what must come back.
+//! Runs the stored calls: every call with the blocks lent to it and what must come back.
 
-use crate::call::{frame_difference, Call, Outcome, Values};
-#[cfg(feature = "door")]
-use crate::compare::{as_bytes, as_flags, board_difference, Loan};
-use crate::reference::{self, Board, Configuration, State};
+use crate::call::{Call, Outcome, Values};
+use crate::compare::{as_bytes, stored_frame};
+use crate::door::{Asked, Program, Way};
+use crate::line::{Expected, Line};
+use crate::reference::{self, Board, Configuration, State, DONE};
 use crate::tally::{first_difference, Tally};
 
-const CALLS: &str = include_str!("../data/calls.txt");
+/// The files, which the program `call_cases` runs too.
+const FILES: [(&str, &str); 4] = [
+    (
+        "calls.txt",
+        include_str!("../../../crates/call_cases/data/calls.txt"),
+    ),
+    (
+        "document.txt",
+        include_str!("../../../crates/call_cases/data/document.txt"),
+    ),
+    (
+        "states.txt",
+        include_str!("../../../crates/call_cases/data/states.txt"),
+    ),
+    (
+        "stories.txt",
+        include_str!("../../../crates/call_cases/data/stories.txt"),
+    ),
+];
 
 /// "Rooms are given by their length and filled with A5h beforehand."
-pub const FILL: u8 = 0xA5;
+const FILL: u8 = 0xA5;
 
-/// One call of the file.
-pub struct Case {
-    pub line: usize,
-    pub config: Vec<i32>,
-    pub before: State,
-    pub call: Call,
-    pub outcome: Outcome,
-    pub room: Vec<u8>,
-    pub after: State,
+/// One call of a file.
+struct Case {
+    line: usize,
+    /// Whether it is the fresh state that a story begins with, and not a call of it.
+    begins: bool,
+    config: Vec<i32>,
+    before: State,
+    call: Call,
+    outcome: Outcome,
+    room: Vec<u8>,
+    after: State,
 }
 
 impl Case {
-    /// What differs from the file's words, if anything does.
-    pub fn judge(&self, side: &str, got: &Outcome, room: &[u8], after: &State) -> Option<String> {
-        let difference = self.first(got, room, after)?;
-        Some(self.place(side, &difference))
+    /// What the reference makes of it, where that is not what the file says.
+    fn by_reference(&self) -> Option<String> {
+        let mut state = self.before.clone();
+        let mut room = vec![FILL; self.call.room()];
+        let got = self.call.by_reference(&self.config, &mut state, &mut room);
+        let first = self.first(&got, &room, &state)?;
+        Some(format!("{}, by the reference: {first}", self.place()))
     }
 
-    fn place(&self, side: &str, difference: &str) -> String {
-        format!("line {} ({}), {side}: {difference}", self.line, self.call)
+    fn place(&self) -> String {
+        format!("line {} ({})", self.line, self.call)
     }
 
     fn first(&self, got: &Outcome, room: &[u8], after: &State) -> Option<String> {
@@ -45,82 +69,92 @@ impl Case {
             .or_else(|| first_difference("records", &after.records, &self.after.records))
             .or_else(|| first_difference("debounce", &after.debounce, &self.after.debounce))
             .or_else(|| first_difference("memory", &after.memory, &self.after.memory))
-            .or_else(|| {
-                frame_difference(&self.config, &self.before, &self.call, got, &after.memory)
-            })
+    }
+
+    /// Sends it through the door. A board's bytes are 0 and 1 here, before and after.
+    fn send(&self, line: &mut Line, way: Way) {
+        line.prepare(&Asked {
+            way,
+            timed: 0,
+            config: &self.config,
+            state: &self.before,
+            board: as_bytes(&self.before.board),
+            call: &self.call,
+            room: &vec![FILL; self.call.room()],
+        });
+        line.send(Expected {
+            place: self.place(),
+            way,
+            call: self.call.clone(),
+            config: self.config.clone(),
+            outcome: self.outcome,
+            board: as_bytes(&self.after.board),
+            after: self.after.clone(),
+            room: self.room.clone(),
+            frame: stored_frame(&self.config, &self.before, &self.call),
+        });
     }
 }
 
-/// calls.txt through the reference alone.
-pub fn run_reference() -> Tally {
-    let mut tally = Tally::new("calls.txt");
-    run(&mut tally, by_reference);
-    tally
+/// Every file through the reference alone.
+pub fn run_reference() -> Vec<Tally> {
+    FILES.map(|file| run(file, |_| ())).into()
 }
 
-pub fn by_reference(case: &Case) -> Option<String> {
-    let mut state = case.before.clone();
-    let mut room = vec![FILL; case.call.room()];
-    let outcome = case.call.by_reference(&case.config, &mut state, &mut room);
-    case.judge("reference", &outcome, &room, &state)
+/// Every file through the door by both ways, and through the reference too.
+pub fn run_both(program: &Program) -> Vec<Tally> {
+    FILES.map(|file| through_door(program, file)).into()
 }
 
-/// calls.txt through the door, and through the reference too.
-#[cfg(feature = "door")]
-pub fn run_both() -> Tally {
-    let mut tally = Tally::new("calls.txt");
-    let mut loan = Loan::default();
-    run(&mut tally, |case| {
-        by_door(&mut loan, case).or_else(|| by_reference(case))
+fn through_door(program: &Program, file: (&'static str, &str)) -> Tally {
+    let mut line = Line::open(program);
+    let mut tally = run(file, |case| {
+        let ways = match case.begins {
+            true => &[Way::Begin][..],
+            false => &[Way::Plain, Way::Context],
+        };
+        for way in ways {
+            case.send(&mut line, *way);
+        }
     });
+    line.close(&mut tally);
+    tally.remark = ", each by the plain call and on a context".to_string();
     tally
 }
 
-#[cfg(feature = "door")]
-fn by_door(loan: &mut Loan, case: &Case) -> Option<String> {
-    let room = vec![FILL; case.call.room()];
-    loan.lend(&case.config, &case.before, &case.call, &room);
-    let board = as_bytes(&case.before.board);
-    let (got, handed_back) = loan.through_door(&case.call, board);
-    let after = State {
-        records: loan.records.part().to_vec(),
-        debounce: loan.debounce.part().to_vec(),
-        memory: loan.memory.part().to_vec(),
-        board: as_flags(&handed_back.unwrap_or(board)),
-    };
-    // A board's bytes are 0 and 1 here, before and after.
-    let beside = loan
-        .trespass(&case.config, &case.call)
-        .or_else(|| board_difference(handed_back, as_bytes(&case.after.board)));
-    case.judge("door", &got, loan.room.part(), &after)
-        .or_else(|| beside.map(|text| case.place("door", &text)))
-}
-
-/// Hands every case of the file to `side`.
-pub fn run(tally: &mut Tally, mut side: impl FnMut(&Case) -> Option<String>) {
+/// Compares every case of the file with the reference, and hands it to `door`.
+fn run((name, text): (&'static str, &str), mut door: impl FnMut(&Case)) -> Tally {
+    let mut tally = Tally::new(name);
     let mut reader = Reader::default();
-    let mut lines = CALLS.lines().enumerate().peekable();
+    let mut lines = text.lines().enumerate().peekable();
     while let Some((number, line)) = lines.next() {
         let (mark, rest) = line.split_once(' ').unwrap_or((line, ""));
-        match mark {
-            "config" => reader.begin(numbers(rest)),
-            // Only behind `config` does `=` stand alone: it tells the fresh state.
-            "=" if reader.state != state_of(rest) => {
-                tally.differ(format!("line {}: not the fresh state", number + 1));
-            }
-            "=" => {}
-            "%" => reader.state = state_of(rest),
-            "~" => reader.lent_config = Some(numbers(rest)),
+        let case = match mark {
             ">" => {
                 let (_, answer) = lines.next().expect("an answer stands behind each call");
                 let changed = lines.next_if(|(_, line)| line.starts_with("= "));
                 let after = changed.map(|(_, line)| state_of(&line[2..]));
-                tally.count(side(&reader.case(number + 1, rest, answer, after)));
+                tally.ran += 1;
+                Some(reader.case(number + 1, rest, answer, after))
             }
-            mark if mark.starts_with('#') || mark.is_empty() => {}
-            _ => tally.differ(format!("line {}: unknown mark {mark}", number + 1)),
+            // Only behind `config` does `=` stand alone: it tells the fresh state.
+            "=" => Some(reader.first(number + 1, state_of(rest))),
+            _ => {
+                let understood = reader.take(mark, rest);
+                if !understood {
+                    tally.differ(format!("line {}: unknown mark {mark}", number + 1));
+                }
+                None
+            }
+        };
+        if let Some(case) = case {
+            if let Some(difference) = case.by_reference() {
+                tally.differ(difference);
+            }
+            door(&case);
         }
     }
+    tally
 }
 
 /// Where a story of the file stands.
@@ -133,17 +167,40 @@ struct Reader {
 }
 
 impl Reader {
+    /// Takes a line that makes no call, and says whether it knows its mark.
+    fn take(&mut self, mark: &str, rest: &str) -> bool {
+        match mark {
+            "config" => self.begin(numbers(rest)),
+            "%" => self.state = state_of(rest),
+            "~" => self.lent_config = Some(numbers(rest)),
+            _ => return mark.is_empty() || mark.starts_with('#'),
+        }
+        true
+    }
+
     /// "A new story begins: fresh state under this configuration."
     fn begin(&mut self, config: Vec<i32>) {
-        let sizes = Configuration::judge(&config).expect("a story's configuration is right");
-        self.state = State {
-            records: vec![FILL; 4 * sizes.events],
-            debounce: vec![-1; sizes.events],
-            memory: vec![FILL; sizes.memory()],
-            board: Board::default(),
-        };
+        self.state = junk(&config);
         reference::fresh(&config, &mut self.state).expect("lengths fit");
         self.config = config;
+    }
+
+    /// The fresh state of a new story, made of blocks that hold anything.
+    fn first(&mut self, line: usize, after: State) -> Case {
+        self.state = after.clone();
+        Case {
+            line,
+            begins: true,
+            before: junk(&self.config),
+            config: self.config.clone(),
+            call: Call::Fresh,
+            outcome: Outcome {
+                number: DONE,
+                values: Values::Nothing,
+            },
+            room: Vec::new(),
+            after,
+        }
     }
 
     fn case(&mut self, line: usize, call: &str, answer: &str, after: Option<State>) -> Case {
@@ -155,6 +212,7 @@ impl Reader {
         let (outcome, room) = answer_of(&call, answer);
         Case {
             line,
+            begins: false,
             config: self.lent_config.take().unwrap_or(self.config.clone()),
             before,
             call,
@@ -165,13 +223,26 @@ impl Reader {
     }
 }
 
-fn number<T: std::str::FromStr>(word: &str) -> T {
-    let parsed = word.parse().ok();
-    parsed.unwrap_or_else(|| panic!("calls.txt: {word} is no number here"))
+/// Blocks of the right lengths that hold no state.
+fn junk(config: &[i32]) -> State {
+    let sizes = Configuration::judge(config).expect("a story's configuration is right");
+    State {
+        records: vec![FILL; 4 * sizes.events],
+        debounce: vec![-1; sizes.events],
+        memory: vec![FILL; sizes.memory()],
+        board: Board::default(),
+    }
 }
 
+fn number<T: std::str::FromStr>(word: &str) -> T {
+    let parsed = word.parse().ok();
+    parsed.unwrap_or_else(|| panic!("{word} is no number here"))
+}
+
+/// Numbers, `-` for none.
 fn numbers(text: &str) -> Vec<i32> {
-    text.split_whitespace().map(number).collect()
+    let words = text.split_whitespace().filter(|word| *word != "-");
+    words.map(number).collect()
 }
 
 /// Hex bytes, `-` for none.
@@ -179,7 +250,7 @@ fn bytes(word: &str) -> Vec<u8> {
     let digits = word.as_bytes().chunks_exact(2);
     digits
         .map(|pair| {
-            let pair = std::str::from_utf8(pair).expect("calls.txt is plain text");
+            let pair = std::str::from_utf8(pair).expect("the files are plain text");
             u8::from_str_radix(pair, 16).expect("two hex digits")
         })
         .collect()
@@ -189,7 +260,7 @@ fn bytes(word: &str) -> Vec<u8> {
 fn state_of(text: &str) -> State {
     let words: Vec<&str> = text.split_whitespace().collect();
     let [records, debounce, memory, cycles, overflow] = words[..] else {
-        panic!("calls.txt: {text} is no state");
+        panic!("{text} is no state");
     };
     let mut board = Board {
         running: [false; 4],
@@ -243,7 +314,7 @@ fn call_of(text: &str) -> Call {
             request: bytes(request),
             room: room(length),
         },
-        _ => panic!("calls.txt: {text} is no call"),
+        _ => panic!("{text} is no call"),
     }
 }
 
@@ -269,7 +340,7 @@ fn answer_of(call: &Call, text: &str) -> (Outcome, Vec<u8>) {
             Values::Length(number(length))
         }
         (_, []) => Values::Nothing,
-        _ => panic!("calls.txt: {text} is no answer to {call}"),
+        _ => panic!("{text} is no answer to {call}"),
     };
     let number = number(words[1]);
     (Outcome { number, values }, room)
