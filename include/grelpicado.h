@@ -158,7 +158,8 @@ typedef struct grelpicado_event {
  *         {{0x1234, 1, GRELPICADO_CYCLE_0, GRELPICADO_KIND_INTERNAL, 0, 0, 0, 0, 0, 1, 1, 1, 1}},
  *     };
  *
- * In C the fields may be named, as .trouble_code = 0x1234. Its pointer for a call is &config.events.
+ * In C the fields may be named, as .trouble_code = 0x1234; in C++ n may not be a constant with the
+ * name of a field, as events. Its pointer for a call is &config.events.
  */
 #define GRELPICADO_CONFIG(n)                \
     struct {                                \

@@ -6,8 +6,9 @@
  *
  * While the link is silent no value arrives and the pressure is not tested. The
  * panel paints the value by the status bytes of both events: it is good only if
- * both tests were completed in this run and neither has failed. So a last value
- * does not stay good on the glass after the link has dropped.
+ * the cycle runs, both tests were completed in this run and neither has failed.
+ * So a last value does not stay good on the glass after the link has dropped, nor
+ * after the pump has stopped, when nothing is tested and the bytes stay.
  */
 #include <stdbool.h>
 #include <stdio.h>
@@ -23,11 +24,39 @@ enum { STEP_MS = 100 };
 enum { LOWEST = 150, HIGHEST = 400 };  /* the good pressures, in 0.01 bar */
 enum { SILENT = -1 };  /* no value arrived */
 
-static const int32_t config[GRELPICADO_CONFIG_NUMBERS(EVENTS)] = {
-    EVENTS, PLACES, FRAME,
-    /* code, priority, cycle, kind, P, Q, up, down, jumps, C, H, A, indicator */
-    0x0A11, 1, PUMP, 1, -2, 2, 1, 1, 3, 1, 1, 3, 1,
-    0x0A12, 2, PUMP, 2, -200, 500, 0, 0, 0, 1, 1, 3, 1,
+static const GRELPICADO_CONFIG(EVENTS) config = {
+    .events = EVENTS,
+    .places = PLACES,
+    .frame_bytes = FRAME,
+    .event = {
+        [PRESSURE] = {
+            .trouble_code = 0x0A11,
+            .priority = 1,
+            .cycle = PUMP,
+            .debounce_kind = GRELPICADO_KIND_COUNTER,
+            .p = -2,
+            .q = 2,
+            .up = 1,
+            .down = 1,
+            .jumps = GRELPICADO_JUMP_BOTH,
+            .confirm = 1,
+            .heal = 1,
+            .age = 3,
+            .indicator = 1,
+        },
+        [LINK] = {
+            .trouble_code = 0x0A12,
+            .priority = 2,
+            .cycle = PUMP,
+            .debounce_kind = GRELPICADO_KIND_TIME,
+            .p = -200,
+            .q = 500,
+            .confirm = 1,
+            .heal = 1,
+            .age = 3,
+            .indicator = 1,
+        },
+    },
 };
 
 /* All that the manager works on beside the configuration. It belongs to the panel. */
@@ -35,16 +64,8 @@ struct panel {
     uint8_t records[GRELPICADO_RECORDS_BYTES(EVENTS)];
     int32_t debounce[GRELPICADO_DEBOUNCE_NUMBERS(EVENTS)];
     uint8_t memory[GRELPICADO_MEMORY_BYTES(PLACES, FRAME)];
-    grelpicado_board board;
+    grelpicado manager;
 };
-
-/* What a call is lent, in the order in which every call takes it. */
-#define LENT(panel)                                                  \
-    config, sizeof config / sizeof config[0],                        \
-    (panel)->records, sizeof (panel)->records,                       \
-    (panel)->debounce, sizeof (panel)->debounce / sizeof (panel)->debounce[0], \
-    (panel)->memory, sizeof (panel)->memory,                         \
-    (panel)->board
 
 static void must_be_done(uint8_t number, const char *call)
 {
@@ -54,16 +75,17 @@ static void must_be_done(uint8_t number, const char *call)
     }
 }
 
-/* The board that a call hands back is the one that the next call is given. */
-static void keep(struct panel *panel, grelpicado_answer answer, const char *call)
+static void begin(struct panel *panel)
 {
-    must_be_done(answer.number, call);
-    panel->board = answer.board;
+    uint8_t number = grelpicado_begin(
+        &panel->manager, GRELPICADO_LEND_CONFIG(config), GRELPICADO_LEND(panel->records),
+        GRELPICADO_LEND(panel->debounce), GRELPICADO_LEND(panel->memory));
+    must_be_done(number, "begin");
 }
 
 static uint8_t status_of(const struct panel *panel, size_t event)
 {
-    grelpicado_status_answer answer = grelpicado_read_status(LENT(panel), event);
+    grelpicado_status_answer answer = grelpicado_ctx_read_status(&panel->manager, event);
     must_be_done(answer.number, "read status");
     return answer.status;
 }
@@ -87,8 +109,11 @@ static void print_status(const char *name, uint8_t status)
     putchar('\n');
 }
 
-static const char *painted(uint8_t pressure, uint8_t link)
+static const char *painted(const struct panel *panel, uint8_t pressure, uint8_t link)
 {
+    if (!panel->manager.board.running[PUMP]) {
+        return "grey: the pump is stopped";
+    }
     if ((pressure | link) & GRELPICADO_TEST_NOT_COMPLETED_THIS_OPERATION_CYCLE) {
         return "grey: not tested in this run";
     }
@@ -108,13 +133,13 @@ static void print_panel(const struct panel *panel, const char *moment)
     printf("%s\n", moment);
     print_status("pressure", pressure);
     print_status("link", link);
-    printf("  the value is painted %s\n", painted(pressure, link));
+    printf("  the value is painted %s\n", painted(panel, pressure, link));
 }
 
 /* The value that the pressure failed with, read in the panel's own memory block. */
 static void print_frame(const struct panel *panel)
 {
-    grelpicado_frame_answer frame = grelpicado_read_frame(LENT(panel), PRESSURE);
+    grelpicado_frame_answer frame = grelpicado_ctx_read_frame(&panel->manager, PRESSURE);
     if (frame.number == GRELPICADO_NO_ENTRY) {
         printf("  no entry of the pressure\n");
         return;
@@ -129,9 +154,7 @@ static void print_frame(const struct panel *panel)
 
 static void report(struct panel *panel, size_t event, uint32_t code, const uint8_t *frame)
 {
-    grelpicado_report_answer answer = grelpicado_report(LENT(panel), event, code, frame, FRAME);
-    must_be_done(answer.number, "report");
-    panel->board = answer.board;
+    must_be_done(grelpicado_ctx_report(&panel->manager, event, code, frame, FRAME).number, "report");
 }
 
 /* One step: the link answers with a value or is silent, and 100 ms pass. */
@@ -146,12 +169,12 @@ static void step(struct panel *panel, int value)
         report(panel, PRESSURE, good ? GRELPICADO_PRE_PASSED : GRELPICADO_PRE_FAILED, frame);
     }
     report(panel, LINK, answers ? GRELPICADO_PRE_PASSED : GRELPICADO_PRE_FAILED, frame);
-    keep(panel, grelpicado_tick(LENT(panel), STEP_MS, frame, FRAME), "tick");
+    must_be_done(grelpicado_ctx_tick(&panel->manager, STEP_MS, frame, FRAME), "tick");
 }
 
 static void run(struct panel *panel, const int *values, size_t steps)
 {
-    keep(panel, grelpicado_start(LENT(panel), PUMP), "start");
+    must_be_done(grelpicado_ctx_start(&panel->manager, PUMP), "start");
     for (size_t i = 0; i < steps; i++) {
         step(panel, values[i]);
     }
@@ -159,7 +182,7 @@ static void run(struct panel *panel, const int *values, size_t steps)
 
 static void stop(struct panel *panel)
 {
-    keep(panel, grelpicado_stop(LENT(panel), PUMP), "stop");
+    must_be_done(grelpicado_ctx_stop(&panel->manager, PUMP), "stop");
 }
 
 /* ---- power off and on */
@@ -168,11 +191,12 @@ static void stop(struct panel *panel)
 static void lose_power(struct panel *panel)
 {
     uint8_t image[GRELPICADO_IMAGE_BYTES(EVENTS, PLACES, FRAME)];
-    grelpicado_length_answer saved = grelpicado_save(LENT(panel), image, sizeof image);
+    grelpicado_length_answer saved = grelpicado_ctx_save(&panel->manager, GRELPICADO_LEND(image));
     must_be_done(saved.number, "save");
     printf("Power off: %zu bytes saved.\n", saved.length);
     memset(panel, 0xA5, sizeof *panel);
-    keep(panel, grelpicado_restore(LENT(panel), image, saved.length), "restore");
+    begin(panel);
+    must_be_done(grelpicado_ctx_restore(&panel->manager, image, saved.length), "restore");
 }
 
 int main(void)
@@ -182,8 +206,7 @@ int main(void)
     static const int good[] = {210, 209, 210};
     static const int dropping[] = {210, 210, 210, SILENT, SILENT, SILENT, SILENT, SILENT};
     struct panel panel;
-    memset(&panel, 0, sizeof panel);
-    keep(&panel, grelpicado_fresh(LENT(&panel)), "fresh");
+    begin(&panel);
 
     run(&panel, no_answer, sizeof no_answer / sizeof no_answer[0]);
     print_panel(&panel, "First run: the sensor never answers.");

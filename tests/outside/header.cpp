@@ -1,0 +1,56 @@
+// grelpicado.h as firmware in C++17 includes it: a configuration, and each call on a context once.
+#include <cstdint>
+
+#include "grelpicado.h"
+
+namespace {
+
+constexpr int event_count = 2;
+constexpr int place_count = 1;
+constexpr int frame_length = 0;
+
+const GRELPICADO_CONFIG(event_count) config = {
+    event_count, place_count, frame_length,
+    {
+        {0x1234, 1, GRELPICADO_CYCLE_0, GRELPICADO_KIND_INTERNAL, 0, 0, 0, 0, GRELPICADO_JUMP_NONE, 1, 1, 1, 1},
+        {0x1235, 2, GRELPICADO_CYCLE_1, GRELPICADO_KIND_COUNTER, -2, 2, 1, 1, GRELPICADO_JUMP_BOTH, 1, 1, 1, 0},
+    },
+};
+
+std::uint8_t records[GRELPICADO_RECORDS_BYTES(event_count)];
+std::int32_t debounce[GRELPICADO_DEBOUNCE_NUMBERS(event_count)];
+std::uint8_t memory[GRELPICADO_MEMORY_BYTES(place_count, frame_length)];
+std::uint8_t image[GRELPICADO_IMAGE_BYTES(event_count, place_count, frame_length)];
+std::uint8_t reply[GRELPICADO_REPLY_BYTES(event_count)];
+
+bool a_run(grelpicado *manager)
+{
+    return grelpicado_ctx_start(manager, GRELPICADO_CYCLE_0) == GRELPICADO_DONE
+        && grelpicado_ctx_report(manager, 0, GRELPICADO_FAILED, nullptr, 0).verdict == GRELPICADO_VERDICT_FAILED
+        && grelpicado_ctx_tick(manager, GRELPICADO_MAX_TICK, nullptr, 0) == GRELPICADO_DONE
+        && grelpicado_ctx_read_status(manager, 0).status == 0xAF
+        && grelpicado_ctx_read_frame(manager, 0).start == 4
+        && grelpicado_ctx_stop(manager, GRELPICADO_CYCLE_0) == GRELPICADO_DONE;
+}
+
+bool back_and_cleared(grelpicado *manager)
+{
+    const std::uint8_t request[] = {0x19, 0x02, GRELPICADO_CONFIRMED};
+    const grelpicado_length_answer saved = grelpicado_ctx_save(manager, GRELPICADO_LEND(image));
+    return grelpicado_ctx_fresh(manager) == GRELPICADO_DONE
+        && grelpicado_ctx_restore(manager, image, saved.length) == GRELPICADO_DONE
+        && grelpicado_ctx_request(manager, GRELPICADO_LEND(request), GRELPICADO_LEND(reply)).length == 7
+        && grelpicado_ctx_clear(manager, GRELPICADO_ALL_CODES) == GRELPICADO_DONE
+        && grelpicado_ctx_read_status(manager, 0).status == GRELPICADO_FRESH_STATUS;
+}
+
+} // namespace
+
+int main()
+{
+    grelpicado manager;
+    const std::uint8_t begun = grelpicado_begin(
+        &manager, GRELPICADO_LEND_CONFIG(config), GRELPICADO_LEND(records), GRELPICADO_LEND(debounce),
+        GRELPICADO_LEND(memory));
+    return begun == GRELPICADO_DONE && a_run(&manager) && back_and_cleared(&manager) ? 0 : 1;
+}
