@@ -39,6 +39,7 @@ struct head {
     uint8_t way;
     uint8_t timed;          /* 0, or how often to make the call, each on its own copy, by the clock */
     grelpicado_board board;
+    uint64_t turn;          /* handed back, so that no answer is taken for another's */
     uint64_t event;         /* or cycle, milliseconds, trouble code */
     uint64_t code;          /* of a report */
     uint64_t bytes[BLOCKS]; /* of each block; a configuration and debounce numbers in bytes too */
@@ -49,13 +50,14 @@ struct answer {
     uint8_t value;  /* verdict or status */
     uint8_t broken; /* a bit for each block beside which a byte was written; 40h: the context's blocks changed */
     grelpicado_board board;
+    uint64_t turn;
     uint64_t start;
     uint64_t length;
     uint64_t nanoseconds;
 };
 
-_Static_assert(sizeof(struct head) == 72, "the other side writes 72 bytes");
-_Static_assert(sizeof(struct answer) == 32, "the other side reads 32 bytes");
+_Static_assert(sizeof(struct head) == 80, "the other side writes 80 bytes");
+_Static_assert(sizeof(struct answer) == 40, "the other side reads 40 bytes");
 
 static struct {
     uint8_t bytes[1 << 16];
@@ -435,7 +437,7 @@ static void answer_calls(void)
         for (size_t i = 0; i < BLOCKS; i++) {
             get(bytes_of(&blocks[i]), blocks[i].length);
         }
-        struct answer answer = {0, 0, 0, head.board, 0, 0, 0};
+        struct answer answer = {0, 0, 0, head.board, head.turn, 0, 0, 0};
         if (head.timed > 0) {
             time_calls(&head, blocks, &answer);
         } else {

@@ -31,6 +31,9 @@ Instructions are those of one call behind the door, counted by callgrind; - wher
 
 pub fn run(program: &Program) {
     println!("{WORDS}");
+    if program.runner.is_some() {
+        println!("The door runs under an emulator: its times say nothing of the archive.");
+    }
     println!("call        n   door ns   reference ns   door/reference   instructions");
     let mut door = Door::open(program.listen());
     for events in [64, 512] {
@@ -62,6 +65,7 @@ fn asked<'a>(config: &'a [i32], state: &'a State, call: &'a Call, room: &'a [u8]
     Asked {
         way: Way::Plain,
         timed: BATCH as u8,
+        turn: 0,
         config,
         state,
         board: as_bytes(&state.board),

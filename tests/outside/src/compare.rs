@@ -86,9 +86,11 @@ impl Comparison {
         state.board = as_flags(&given);
         self.room.clear();
         self.room.resize(call.room(), fill);
+        let turn = self.line.turn();
         self.line.prepare(&Asked {
             way,
             timed: 0,
+            turn,
             config,
             state,
             board: given,

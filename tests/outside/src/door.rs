@@ -80,6 +80,8 @@ pub struct Asked<'a> {
     pub way: Way,
     /// 0, or how often to make the call by the clock.
     pub timed: u8,
+    /// Which call of this run it is; its answer says it again.
+    pub turn: u64,
     pub config: &'a [i32],
     pub state: &'a State,
     pub board: Board,
@@ -102,7 +104,7 @@ impl Asked<'_> {
             input.len(),
             self.room.len(),
         ];
-        for number in [event as u64, u64::from(code)] {
+        for number in [self.turn, event as u64, u64::from(code)] {
             to.extend(number.to_le_bytes());
         }
         for length in lengths {
@@ -136,6 +138,7 @@ pub struct Answer {
     /// A bit for each block beside which a byte was written, and one for the context.
     pub broken: u8,
     pub board: Board,
+    pub turn: u64,
     pub start: usize,
     pub length: usize,
     pub nanoseconds: u64,
@@ -149,7 +152,7 @@ pub struct Answer {
 
 impl Answer {
     pub fn read(from: &mut impl Read, lengths: &Lengths) -> io::Result<Answer> {
-        let mut head = [0; 32];
+        let mut head = [0; 40];
         from.read_exact(&mut head)?;
         let [number, value, broken, a, b, c, d, overflow, ..] = head;
         Ok(Answer {
@@ -160,9 +163,10 @@ impl Answer {
                 running: [a, b, c, d],
                 overflow,
             },
-            start: word(&head, 8) as usize,
-            length: word(&head, 16) as usize,
-            nanoseconds: word(&head, 24),
+            turn: word(&head, 8),
+            start: word(&head, 16) as usize,
+            length: word(&head, 24) as usize,
+            nanoseconds: word(&head, 32),
             config: numbers(from, lengths.config)?,
             records: bytes(from, lengths.records)?,
             debounce: numbers(from, lengths.debounce)?,
@@ -173,7 +177,7 @@ impl Answer {
     }
 }
 
-fn word(head: &[u8; 32], at: usize) -> u64 {
+fn word(head: &[u8; 40], at: usize) -> u64 {
     let bytes = head[at..at + 8].try_into().expect("eight bytes");
     u64::from_le_bytes(bytes)
 }

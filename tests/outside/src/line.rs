@@ -5,7 +5,7 @@ use crate::call::{Call, Outcome, Values};
 use crate::door::{Answer, Asked, Board, Lengths, Program, Way};
 use crate::reference::{State, DONE};
 use crate::tally::{first_difference, Tally};
-use std::io::{BufReader, BufWriter, Read, Write};
+use std::io::{self, BufReader, BufWriter, Write};
 use std::process::{Child, ChildStdin, ChildStdout};
 use std::sync::mpsc::{channel, Receiver, Sender};
 use std::thread::{self, JoinHandle};
@@ -141,6 +141,7 @@ pub struct Line {
     expected: Sender<Expected>,
     reader: JoinHandle<Found>,
     bytes: Vec<u8>,
+    turns: u64,
 }
 
 impl Line {
@@ -153,9 +154,16 @@ impl Line {
             child,
             to: BufWriter::with_capacity(1 << 16, to),
             expected,
-            reader: thread::spawn(move || compare(from, &wanted)),
+            reader: thread::spawn(move || compare(from, wanted)),
             bytes: Vec::new(),
+            turns: 0,
         }
+    }
+
+    /// Which call of this run the next one is.
+    pub fn turn(&mut self) -> u64 {
+        self.turns += 1;
+        self.turns
     }
 
     /// A call's bytes, taken before the blocks change.
@@ -196,19 +204,27 @@ impl Line {
     }
 }
 
-fn compare(from: ChildStdout, wanted: &Receiver<Expected>) -> Found {
+fn compare(from: ChildStdout, wanted: Receiver<Expected>) -> Found {
     let mut from = BufReader::with_capacity(1 << 16, from);
     let mut found = Found::default();
-    for expected in wanted {
+    for (turn, expected) in (1..).zip(wanted) {
         match Answer::read(&mut from, &expected.lengths()) {
-            Ok(answer) => found.differences.extend(expected.difference(&answer)),
+            Ok(answer) if answer.turn == turn => {
+                found.differences.extend(expected.difference(&answer));
+            }
+            Ok(_) => {
+                let text = format!("{} is answered by another call's answer", expected.place);
+                found.differences.push(text);
+                break;
+            }
             Err(_) => {
                 found.broke_off = Some(format!("{}, {}", expected.place, expected.way_in_words()));
-                return found;
+                break;
             }
         }
     }
-    if !matches!(from.read(&mut [0]), Ok(0)) {
+    // What nobody asked for is read too, or the program would wait for a reader.
+    if !matches!(io::copy(&mut from, &mut io::sink()), Ok(0)) && found.differences.is_empty() {
         let text = "the C program answered more than it was asked";
         found.differences.push(text.to_string());
     }

@@ -73,9 +73,11 @@ impl Case {
 
     /// Sends it through the door. A board's bytes are 0 and 1 here, before and after.
     fn send(&self, line: &mut Line, way: Way) {
+        let turn = line.turn();
         line.prepare(&Asked {
             way,
             timed: 0,
+            turn,
             config: &self.config,
             state: &self.before,
             board: as_bytes(&self.before.board),
