@@ -13,7 +13,6 @@
  */
 #define _POSIX_C_SOURCE 200809L
 
-#include <signal.h>
 #include <stdbool.h>
 #include <stdio.h>
 #include <stdlib.h>
@@ -76,22 +75,20 @@ static void give_up(const char *words)
     exit(EXIT_FAILURE);
 }
 
-/* Also from the handler below, so it uses nothing but write. */
-static bool flush(void)
+/* An answer goes out before the next call is made, so that a crash is that of the first call without one. */
+static void flush(void)
 {
     size_t at = 0;
     while (at < out.used) {
         ssize_t wrote = write(STDOUT_FILENO, out.bytes + at, out.used - at);
         if (wrote < 0) {
-            return false;
+            give_up("nobody reads the answers");
         }
         at += (size_t)wrote;
     }
     out.used = 0;
-    return true;
 }
 
-/* Answers wait until the buffer is full or the input runs dry, so that a pipe carries many at once. */
 static void put(const void *from, size_t length)
 {
     const uint8_t *bytes = from;
@@ -102,8 +99,8 @@ static void put(const void *from, size_t length)
         out.used += part;
         bytes += part;
         length -= part;
-        if (out.used == sizeof out.bytes && !flush()) {
-            give_up("nobody reads the answers");
+        if (out.used == sizeof out.bytes) {
+            flush();
         }
     }
 }
@@ -112,9 +109,6 @@ static void put(const void *from, size_t length)
 static bool more(void)
 {
     if (in.at == in.end) {
-        if (!flush()) {
-            give_up("nobody reads the answers");
-        }
         ssize_t got = read(STDIN_FILENO, in.bytes, sizeof in.bytes);
         if (got < 0) {
             give_up("standard input cannot be read");
@@ -137,26 +131,6 @@ static void get(void *to, size_t length)
         in.at += part;
         bytes += part;
         length -= part;
-    }
-}
-
-/* A call that crashes must not take the answers of the calls before it along. */
-static void crashed(int signal_number)
-{
-    (void)signal_number;
-    (void)flush();
-}
-
-static void answer_before_a_crash(void)
-{
-    static const int signals[] = {SIGSEGV, SIGBUS, SIGILL, SIGFPE, SIGABRT};
-    struct sigaction action;
-    memset(&action, 0, sizeof action);
-    action.sa_handler = crashed;
-    /* The second time the signal ends the program. */
-    action.sa_flags = (int)SA_RESETHAND;
-    for (size_t i = 0; i < sizeof signals / sizeof signals[0]; i++) {
-        (void)sigaction(signals[i], &action, NULL);
     }
 }
 
@@ -425,6 +399,7 @@ static void put_answer(struct answer *answer, const struct block blocks[BLOCKS])
     for (size_t i = 0; i < BLOCKS; i++) {
         put(bytes_of(&blocks[i]), blocks[i].length);
     }
+    flush();
 }
 
 static void answer_calls(void)
@@ -592,7 +567,6 @@ int main(int count, char **words)
 {
     const char *asked = count == 2 ? words[1] : "";
     if (strcmp(asked, "calls") == 0) {
-        answer_before_a_crash();
         answer_calls();
     } else if (strcmp(asked, "layout") == 0) {
         print_events();
