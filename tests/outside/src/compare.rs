@@ -132,4 +132,4 @@ impl Comparison {
 }
 
 /// In so many calls each must have been made both ways.
-const ENOUGH: u64 = 1_000;
+const ENOUGH: u64 = 100_000;
