@@ -211,11 +211,19 @@ fn by_reference(asked: &Asked, state: &mut State, room: &mut [u8]) -> u8 {
     number
 }
 
-/// The instructions of the C program's function that makes one call, by callgrind.
+/// The instructions of one call, by callgrind: of two calls less those of one, since the first
+/// also brings the program's functions together.
 fn instructions(program: &Program, asked: &Asked) -> Option<String> {
     if program.runner.is_some() {
         return None;
     }
+    let two = counted(program, asked, 2)?;
+    let one = counted(program, asked, 1)?;
+    Some((two - one).to_string())
+}
+
+/// The instructions of the C program's function that makes a call, over so many calls.
+fn counted(program: &Program, asked: &Asked, times: u8) -> Option<u64> {
     let mut command = Command::new("valgrind");
     command
         .args(["--tool=callgrind", "--callgrind-out-file=/dev/null"])
@@ -224,8 +232,12 @@ fn instructions(program: &Program, asked: &Asked) -> Option<String> {
         .stdout(Stdio::piped())
         .stderr(Stdio::piped());
     let mut door = Door::open(command.spawn().ok()?);
-    door.ask(&Asked { timed: 0, ..*asked }).ok()?;
+    door.ask(&Asked {
+        timed: times,
+        ..*asked
+    })
+    .ok()?;
     let words = door.close();
     let line = words.lines().find(|line| line.contains("Collected :"))?;
-    line.split_whitespace().last().map(str::to_string)
+    line.split_whitespace().last()?.parse().ok()
 }
