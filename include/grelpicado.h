@@ -114,7 +114,7 @@ extern "C" {
  *  11  heal           H: after how many clean runs it warns no       1 to 255
  *                     more
  *  12  age            A: after how many runs without a failure it    1 to 255
- *                     is forgotten
+ *                     is confirmed no more, and its entry leaves
  *  13  indicator      whether it warns when confirmed: 1 yes, 0 no   0 or 1
  */
 typedef struct grelpicado_event {
@@ -411,8 +411,8 @@ grelpicado_request_answer grelpicado_request(
  * keeps the board that it hands back, and answers the rest: the number where there is nothing else.
  * A refused call hands back the board it was given, so it changes nothing here either.
  *
- * A frame, an image, a request or a room of length 0 may be NULL: an address that is not is lent in
- * its place.
+ * A frame, an image, a request or a room of length 0 may be NULL: the plain call is then lent an
+ * address of this file's own.
  */
 typedef struct grelpicado {
     const int32_t *config;
