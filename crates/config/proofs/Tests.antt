@@ -1,16 +1,12 @@
 -- Laws of tests and of `allBelow` as code makes them: joined one after the other, gathered in a loop.
-use mathlib.Core.Path.{_≡_, refl, sym}
-use mathlib.Core.Bool.{Bool, true, false, not, _&&_, cond}
-use mathlib.Core.List.{List, [], _∷_}
+use mathlib.Core.Path.{_≡_, refl, sym, _∙_}
+use mathlib.Core.Bool.{Bool, true, false, _&&_}
+use mathlib.Core.List.{List, [], _∷_, _++_}
 use Prim.Native.Nat.{ℕ, zero, suc, _+_}
 use native.Mathlib.Numerals.{add-one}
 use Rattle.history.specs.Words.{holds}
 use Rattle.history.proofs.WordsLaws.{and-true, and-false, and-assoc}
 use Rattle.manual.specs.Words.{allBelow}
-
-pub cond-not : {A : Type 0} (b : Bool) (x y : A) → cond (not b) x y ≡ cond b y x
-cond-not true x y = refl
-cond-not false x y = refl
 
 -- a & b & c & …
 abbrev pub joined : Bool → List Bool → Bool
@@ -21,6 +17,18 @@ pub joined-is : (a : Bool) (bs : List Bool) → joined a bs ≡ holds (a ∷ bs)
 unfolding holds
 joined-is a [] = rw (and-true a)
 joined-is a (b ∷ bs) = rw (joined-is (a && b) bs, and-assoc a b (holds bs))
+
+-- tests that are joined on their own, amid others
+holds-both : (xs ys : List Bool) → holds xs && holds ys ≡ holds (xs ++ ys)
+unfolding holds
+holds-both [] ys = refl
+holds-both (x ∷ xs) ys = rw (← and-assoc x (holds xs) (holds ys), holds-both xs ys)
+
+pub joined-amid : (a b c d : Bool) (xs ys : List Bool)
+    → joined a (b ∷ c ∷ d ∷ holds xs ∷ ys) ≡ holds (a ∷ b ∷ c ∷ d ∷ (xs ++ ys))
+unfolding holds
+joined-amid a b c d xs ys =
+    joined-is a (b ∷ c ∷ d ∷ holds xs ∷ ys) ∙ (λ i. a && (b && (c && (d && holds-both xs ys i))))
 
 -- a loop that gathers a test of each number below n
 pub all-none : (f : ℕ → Bool) → allBelow 0 f ≡ true

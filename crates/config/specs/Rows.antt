@@ -1,15 +1,45 @@
 -- What reading and judging the rows of a configuration needs beside the manual's definitions. Assumes nothing.
-use mathlib.Core.Bool.{Bool, true, _&&_}
-use Prim.Native.Nat.{ℕ, zero, suc, _≤_, _<_}
+use mathlib.Core.Bool.{Bool, true, _&&_, cond}
+use mathlib.Core.List.{List, [], _∷_}
+use Prim.Native.Nat.{ℕ, zero, suc, _+_, _*_, _≤_, _<_}
+use lib.Dec.{eqb}
+use lib.IntN.{pos, negsuc}
+use lib.ListN.{length}
 use Rattle.history.specs.StatusByte as status
-use Rattle.manual.specs.Configuration.{Configuration, rowWidth, rowOk, rises}
+use Rattle.manual.specs.Words.{between, eqZ}
+use Rattle.manual.specs.Configuration.{Configuration, inFront, mostEvents, rowWidth, column, rowOk, rises}
 use Rattle.config.specs.declared.Limits.{Limits}
 
 -- "n events (1 to 512)", "Then 13 per event": an event that a configuration can have, and a number of its row
 pub record InRow (e k : ℕ) : Type 0 where
-  pub event-below : e < 512
+  pub event-below : e < mostEvents
   pub least : 1 ≤ k
   pub most : k ≤ rowWidth
+
+-- "the length is exactly 3 + 13n": the rows of n events lie within the configuration, so does the row of each event,
+-- and each number of that row
+pub record RowsWithin (cfg : Configuration) (n : ℕ) : Type 0 where
+  pub most : n ≤ mostEvents
+  pub within : inFront + rowWidth * n ≤ length cfg
+
+pub record RowWithin (cfg : Configuration) (e : ℕ) : Type 0 where
+  pub event-below : e < mostEvents
+  pub within : inFront + rowWidth * e + rowWidth ≤ length cfg
+
+pub record Within (cfg : Configuration) (e k : ℕ) : Type 0 where
+  pub row : RowWithin cfg e
+  pub least : 1 ≤ k
+  pub most : k ≤ rowWidth
+
+-- the numbers 5 to 9 of a row, as the table allows them for a kind
+abbrev pub ofKind : ℕ → Configuration → ℕ → List Bool
+ofKind kind cfg e =
+    cond (eqb kind 0) (eqZ (column 5 cfg e) (pos 0)) (between (negsuc 29999) (negsuc 0) (column 5 cfg e))
+    ∷ cond (eqb kind 0) (eqZ (column 6 cfg e) (pos 0)) (between (pos 1) (pos 30000) (column 6 cfg e))
+    ∷ cond (eqb kind 1) (between (pos 1) (pos 30000) (column 7 cfg e)) (eqZ (column 7 cfg e) (pos 0))
+    ∷ cond (eqb kind 1) (between (pos 1) (pos 30000) (column 8 cfg e)) (eqZ (column 8 cfg e) (pos 0))
+    ∷ cond (eqb kind 1) (between (pos 0) (pos 3) (column 9 cfg e)) (eqZ (column 9 cfg e) (pos 0))
+    ∷ []
 
 -- "strictly rising from event to event", said of the later of two neighbours
 abbrev pub risesHere : Configuration → ℕ → Bool

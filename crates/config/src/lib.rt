@@ -2,14 +2,15 @@
 // code.
 use manual::EventNumber;
 ghost use mathlib.Core.Path.{_≡_};
-ghost use mathlib.Core.Bool.{true, cond};
+ghost use mathlib.Core.Bool.{true};
 ghost use Prim.Native.Nat.{_<_, _≤_};
 ghost use lib.IntN.{pos};
+ghost use Rattle.history.specs.Words.{holds};
 ghost use Rattle.manual.specs.Words.{allBelow, between, eqZ, natOf};
 ghost use Rattle.manual.specs.Configuration.{mostEvents, numberAt, events, places, frameBytes, column, codeOf};
 ghost use Rattle.manual.specs.Configuration.{priorityOf, cycleOf, kindOf, lowOf, highOf, upOf, downOf, jumpsOf};
 ghost use Rattle.manual.specs.Configuration.{limitsOf, rowOk, configOk};
-ghost use Rattle.config.specs.Rows.{InRow, limitsIs, risesHere, rowFits};
+ghost use Rattle.config.specs.Rows.{InRow, Within, RowWithin, RowsWithin, limitsIs, ofKind, risesHere, rowFits};
 ghost use Rattle.config.specs.Search.{hasCode, firstWithCode, searchIs};
 
 // "Configuration: lent signed 32-bit numbers, three in front: n events …, M memory places …, F frame bytes"
@@ -212,6 +213,23 @@ pub fn limits_of(cfg: &[i32], event: EventNumber) -> Limits
     }
 }
 
+// ---- reading a row that lies within the configuration: nothing is tested
+
+// Number k of the event's row.
+fn number_within(cfg: &[i32], event: EventNumber, k: usize) -> i32
+    requires { ⌜ Within (now cfg) (event .0) k ⌝ }
+    ensures { λ r. ⌜ r ≡ column k (now (cfg .entry)) (event .0) ⌝ }
+{
+    cfg[IN_FRONT + ROW_WIDTH * event.0 + (k - 1)]
+}
+
+fn count_within(cfg: &[i32], event: EventNumber, k: usize) -> usize
+    requires { ⌜ Within (now cfg) (event .0) k ⌝ }
+    ensures { λ r. ⌜ r ≡ natOf (column k (now (cfg .entry)) (event .0)) ⌝ }
+{
+    count_of(number_within(cfg, event, k))
+}
+
 // ---- judging
 
 // Whether a number is lo to hi, both allowed.
@@ -228,47 +246,80 @@ fn front_in_range(cfg: &[i32], index: usize, lo: i32, hi: i32) -> bool
 }
 
 fn in_range(cfg: &[i32], event: EventNumber, k: usize, lo: i32, hi: i32) -> bool
-    requires { ⌜ InRow (event .0) k ⌝ }
+    requires { ⌜ Within (now cfg) (event .0) k ⌝ }
     ensures { λ r. ⌜ r ≡ between lo hi (column k (now (cfg .entry)) (event .0)) ⌝ }
 {
-    between(number_in_row(cfg, event, k), lo, hi)
+    between(number_within(cfg, event, k), lo, hi)
 }
 
-// Where the test holds, whether number k of the event's row is lo to hi; "else 0".
-fn in_range_if(test: bool, cfg: &[i32], event: EventNumber, k: usize, lo: i32, hi: i32) -> bool
-    requires { ⌜ InRow (event .0) k ⌝ }
-    ensures { λ r.
-        ⌜
-        r
-        ≡ cond test (between lo hi (column k (now (cfg .entry)) (event .0)))
-        (eqZ (column k (now (cfg .entry)) (event .0)) (pos 0))
-        ⌝ }
+fn is_zero(cfg: &[i32], event: EventNumber, k: usize) -> bool
+    requires { ⌜ Within (now cfg) (event .0) k ⌝ }
+    ensures { λ r. ⌜ r ≡ eqZ (column k (now (cfg .entry)) (event .0)) (pos 0) ⌝ }
 {
-    let number = number_in_row(cfg, event, k);
-    if test {
-        between(number, lo, hi)
-    } else {
-        number == 0
-    }
+    number_within(cfg, event, k) == 0
 }
 
-// The table's column "allowed", a line for each number of the row.
+// The numbers 5 to 9 of a row of kind 0.
+fn internal_ok(cfg: &[i32], event: EventNumber) -> bool
+    requires { ⌜ RowWithin (now cfg) (event .0) ⌝ }
+    ensures { λ r. ⌜ r ≡ holds (ofKind 0 (now (cfg .entry)) (event .0)) ⌝ }
+{
+    is_zero(cfg, event, P)
+        & is_zero(cfg, event, Q)
+        & is_zero(cfg, event, UP)
+        & is_zero(cfg, event, DOWN)
+        & is_zero(cfg, event, JUMPS)
+}
+
+// The numbers 5 to 9 of a row of kind 1.
+fn counter_ok(cfg: &[i32], event: EventNumber) -> bool
+    requires { ⌜ RowWithin (now cfg) (event .0) ⌝ }
+    ensures { λ r. ⌜ r ≡ holds (ofKind 1 (now (cfg .entry)) (event .0)) ⌝ }
+{
+    in_range(cfg, event, P, -30_000, -1)
+        & in_range(cfg, event, Q, 1, 30_000)
+        & in_range(cfg, event, UP, 1, 30_000)
+        & in_range(cfg, event, DOWN, 1, 30_000)
+        & in_range(cfg, event, JUMPS, 0, 3)
+}
+
+// The numbers 5 to 9 of a row of kind 2.
+fn time_ok(cfg: &[i32], event: EventNumber) -> bool
+    requires { ⌜ RowWithin (now cfg) (event .0) ⌝ }
+    ensures { λ r. ⌜ r ≡ holds (ofKind 2 (now (cfg .entry)) (event .0)) ⌝ }
+{
+    in_range(cfg, event, P, -30_000, -1)
+        & in_range(cfg, event, Q, 1, 30_000)
+        & is_zero(cfg, event, UP)
+        & is_zero(cfg, event, DOWN)
+        & is_zero(cfg, event, JUMPS)
+}
+
+// The numbers 5 to 9 of a row; one of a kind that the table does not have is judged as kind 2, and fails by its kind.
+fn of_kind_ok(cfg: &[i32], event: EventNumber, kind: usize) -> bool
+    requires { ⌜ RowWithin (now cfg) (event .0) ⌝ }
+    ensures { λ r. ⌜ r ≡ holds (ofKind kind (now (cfg .entry)) (event .0)) ⌝ }
+{
+    if kind == INTERNAL {
+        return internal_ok(cfg, event);
+    }
+    if kind == COUNTER {
+        return counter_ok(cfg, event);
+    }
+    time_ok(cfg, event)
+}
+
+// The table's column "allowed", a line for each number of the row, but one for those that go by the kind.
 fn row_ok(cfg: &[i32], event: EventNumber) -> bool
-    requires { ⌜ event .0 < mostEvents ⌝ }
+    requires { ⌜ RowWithin (now cfg) (event .0) ⌝ }
     ensures { λ r. ⌜ r ≡ rowOk (now (cfg .entry)) (event .0) ⌝ }
 {
-    let kind = kind_of(cfg, event);
-    let debounced = kind != INTERNAL;
-    let counter = kind == COUNTER;
+    let kind = count_within(cfg, event, KIND);
     in_range(cfg, event, TROUBLE_CODE, 1, 16_777_214)
         & in_range(cfg, event, PRIORITY, 1, 255)
         & in_range(cfg, event, CYCLE, 0, LAST_CYCLE)
         & in_range(cfg, event, KIND, 0, LAST_KIND)
-        & in_range_if(debounced, cfg, event, P, -30_000, -1)
-        & in_range_if(debounced, cfg, event, Q, 1, 30_000)
-        & in_range_if(counter, cfg, event, UP, 1, 30_000)
-        & in_range_if(counter, cfg, event, DOWN, 1, 30_000)
-        & in_range_if(counter, cfg, event, JUMPS, 0, 3)
+        & of_kind_ok(cfg, event, kind)
         & in_range(cfg, event, CONFIRM, 1, 255)
         & in_range(cfg, event, HEAL, 1, 255)
         & in_range(cfg, event, AGE, 1, 255)
@@ -277,25 +328,25 @@ fn row_ok(cfg: &[i32], event: EventNumber) -> bool
 
 // "strictly rising from event to event": the event's trouble code is above that of the event before.
 fn code_rises(cfg: &[i32], event: EventNumber) -> bool
-    requires { ⌜ event .0 < mostEvents ⌝ }
+    requires { ⌜ RowWithin (now cfg) (event .0) ⌝ }
     ensures { λ r. ⌜ r ≡ risesHere (now (cfg .entry)) (event .0) ⌝ }
 {
     if event.0 == 0 {
         return true;
     }
-    let before = number_in_row(cfg, EventNumber(event.0 - 1), TROUBLE_CODE);
-    before < number_in_row(cfg, event, TROUBLE_CODE)
+    let before = number_within(cfg, EventNumber(event.0 - 1), TROUBLE_CODE);
+    before < number_within(cfg, event, TROUBLE_CODE)
 }
 
 fn row_fits(cfg: &[i32], event: EventNumber) -> bool
-    requires { ⌜ event .0 < mostEvents ⌝ }
+    requires { ⌜ RowWithin (now cfg) (event .0) ⌝ }
     ensures { λ r. ⌜ r ≡ rowFits (now (cfg .entry)) (event .0) ⌝ }
 {
     row_ok(cfg, event) & code_rises(cfg, event)
 }
 
 fn rows_fit(cfg: &[i32], n: usize) -> bool
-    requires { ⌜ n ≤ mostEvents ⌝ }
+    requires { ⌜ RowsWithin (now cfg) n ⌝ }
     ensures { λ r. ⌜ r ≡ allBelow n (rowFits (now (cfg .entry))) ⌝ }
 {
     let mut fit = true;

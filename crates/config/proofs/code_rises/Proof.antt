@@ -8,10 +8,10 @@ returns-2 : tie.Need-returns-2
 returns-2 c =
     rw (
       rises-after _ _ (c .before .before .before .if1 .left),
-      back (c .before .number-in-row .result) (c .before .number-in-row .ok),
-      back (c .number-in-row2 .result) (c .number-in-row2 .ok),
-      c .before .number-in-row .ensures,
-      c .number-in-row2 .ensures,
+      back (c .before .number-within .result) (c .before .number-within .ok),
+      back (c .number-within2 .result) (c .number-within2 .ok),
+      c .before .number-within .ensures,
+      c .number-within2 .ensures,
     )
 
 pub code-rises-spec : {M : Type 1} → statement M

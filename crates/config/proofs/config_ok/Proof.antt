@@ -45,7 +45,7 @@ add-if2 : tie.Need-add-if2
 add-if2 c = let h = at-most c in omega arith
 
 rows-fit-requires : tie.Need-rows-fit-requires
-rows-fit-requires c κs = at-most (c .before)
+rows-fit-requires c κs = record { most = at-most (c .before); within = omega (arith, c .if2 .taken) }
 
 returns-2 : tie.Need-returns-2
 returns-2 c =

@@ -5,8 +5,8 @@ use Rattle.config.proofs.in_range.Tie as tie
 
 returns : tie.Need-returns
 returns c =
-    between-back (c .before .before .fits .lo) (c .before .before .fits .hi) (c .before .number-in-row .result)
-    (c .before .number-in-row .ok) (c .between .ensures) (c .before .number-in-row .ensures)
+    between-back (c .before .before .fits .lo) (c .before .before .fits .hi) (c .before .number-within .result)
+    (c .before .number-within .ok) (c .between .ensures) (c .before .number-within .ensures)
 
 pub in-range-spec : {M : Type 1} → statement M
 in-range-spec = tie.close

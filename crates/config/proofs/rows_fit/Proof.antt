@@ -17,6 +17,13 @@ abbrev μ-loop : tie.MeasureT-loop
 loop-holds : tie.Need-loop-holds Inv-loop μ-loop
 loop-holds c = (omega arith, sym (all-none _))
 
+row-fits-requires : tie.Need-row-fits-requires Inv-loop μ-loop
+row-fits-requires c κs =
+    record {
+      event-below = omega (arith, c .before .before .pre .most);
+      within = omega (arith, c .before .before .pre .within);
+    }
+
 loop-again : tie.Need-loop-again Inv-loop μ-loop
 loop-again c = (omega arith, rw (all-more, c .before .before .loop .inv .1, c .row-fits .ensures))
 
@@ -32,6 +39,7 @@ rows-fit-spec =
     Inv-loop
     μ-loop
     loop-holds
-    (λ c κs. omega arith) (λ c. omega arith) (λ c. omega arith)
+    row-fits-requires
+    (λ c. omega arith) (λ c. omega arith)
     loop-again
     returns)
