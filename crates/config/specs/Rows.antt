@@ -4,7 +4,7 @@ use mathlib.Core.List.{List, [], _∷_}
 use Prim.Native.Nat.{ℕ, zero, suc, _+_, _*_, _≤_, _<_}
 use lib.Dec.{eqb}
 use lib.IntN.{pos, negsuc}
-use lib.ListN.{length}
+use lib.ListN.{length, take, drop}
 use Rattle.history.specs.StatusByte as status
 use Rattle.manual.specs.Words.{between, eqZ}
 use Rattle.manual.specs.Configuration.{Configuration, inFront, mostEvents, rowWidth, column, rowOk, rises}
@@ -30,6 +30,10 @@ pub record Within (cfg : Configuration) (e k : ℕ) : Type 0 where
   pub row : RowWithin cfg e
   pub least : 1 ≤ k
   pub most : k ≤ rowWidth
+
+-- an event's row with the three numbers before it: read as a configuration, it is the row of event 0
+abbrev pub partOf : Configuration → ℕ → Configuration
+partOf cfg e = take (inFront + rowWidth) (drop (rowWidth * e) cfg)
 
 -- the numbers 5 to 9 of a row, as the table allows them for a kind
 abbrev pub ofKind : ℕ → Configuration → ℕ → List Bool

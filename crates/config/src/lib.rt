@@ -3,14 +3,15 @@
 use manual::EventNumber;
 ghost use mathlib.Core.Path.{_≡_};
 ghost use mathlib.Core.Bool.{true};
-ghost use Prim.Native.Nat.{_<_, _≤_};
+ghost use Prim.Native.Nat.{_<_};
 ghost use lib.IntN.{pos};
 ghost use Rattle.history.specs.Words.{holds};
 ghost use Rattle.manual.specs.Words.{allBelow, between, eqZ, natOf};
 ghost use Rattle.manual.specs.Configuration.{mostEvents, numberAt, events, places, frameBytes, column, codeOf};
 ghost use Rattle.manual.specs.Configuration.{priorityOf, cycleOf, kindOf, lowOf, highOf, upOf, downOf, jumpsOf};
 ghost use Rattle.manual.specs.Configuration.{limitsOf, rowOk, configOk};
-ghost use Rattle.config.specs.Rows.{InRow, Within, RowWithin, RowsWithin, limitsIs, ofKind, risesHere, rowFits};
+ghost use Rattle.config.specs.Rows.{InRow, Within, RowWithin, RowsWithin, limitsIs, partOf, ofKind};
+ghost use Rattle.config.specs.Rows.{risesHere, rowFits};
 ghost use Rattle.config.specs.Search.{hasCode, firstWithCode, searchIs};
 
 // "Configuration: lent signed 32-bit numbers, three in front: n events …, M memory places …, F frame bytes"
@@ -228,6 +229,18 @@ fn count_within(cfg: &[i32], event: EventNumber, k: usize) -> usize
     ensures { λ r. ⌜ r ≡ natOf (column k (now (cfg .entry)) (event .0)) ⌝ }
 {
     count_of(number_within(cfg, event, k))
+}
+
+const PART_WIDTH: usize = IN_FRONT + ROW_WIDTH;
+
+// The event's row with the three numbers before it: read as a configuration, it is the row of event 0. It is as long for
+// every event, so that nothing is left of the tests by which a number past the end is 0.
+pub fn part_of<'a>(cfg: &'a [i32], event: EventNumber) -> &'a [i32]
+    requires { ⌜ RowWithin (now cfg) (event .0) ⌝ }
+    ensures { λ r. ⌜ now r ≡ partOf (now (cfg .entry)) (event .0) ⌝ }
+{
+    let at = ROW_WIDTH * event.0;
+    &cfg[at..at + PART_WIDTH]
 }
 
 // ---- judging

@@ -7,14 +7,15 @@ ghost use mathlib.Core.Bool.{true};
 ghost use mathlib.Core.List.{[]};
 ghost use lib.IntN.{pos};
 ghost use lib.ListN.{length, getD};
-ghost use Prim.Native.Nat.{_+_, _*_, _≤_, _<_};
+ghost use Prim.Native.Nat.{_+_, _*_, _≤_};
 ghost use Rattle.manual.specs.declared.Board.{Board};
 ghost use Rattle.manual.specs.Words.{allBelow};
-ghost use Rattle.manual.specs.Configuration.{mostEvents, events, configOk};
+ghost use Rattle.manual.specs.Configuration.{events, configOk};
 ghost use Rattle.manual.specs.State.{recordWidth, runs, opened, storedAt, lent};
 ghost use Rattle.manual.specs.WellFormed.{lengthsFit, recordOk, DOk, wellFormed};
 ghost use Rattle.manual.specs.Answers.{firstThatApplies};
 ghost use Rattle.manual.specs.Calls.{begins, beginsWithLengths};
+ghost use Rattle.config.specs.Rows.{RowWithin};
 ghost use Rattle.judgement.specs.Checks.{checkNumber, twoThree};
 ghost use Rattle.judgement.specs.Fits.{EventIn, RecordsFor, NumbersFor};
 
@@ -53,11 +54,11 @@ pub fn lengths_fit(cfg: &[i32], records: &[u8], debounce: &[i32], memory: &[u8])
 
 // The event's record, by the clauses from "bit 4 set means …" to "… g = 0 when bit 3 is clear".
 fn record_ok(cfg: &[i32], records: &[u8], event: EventNumber) -> bool
-    requires { ⌜ (event .0 < mostEvents) × (recordWidth * event .0 + recordWidth ≤ length (now records)) ⌝ }
+    requires { ⌜ (RowWithin (now cfg) (event .0)) × (recordWidth * event .0 + recordWidth ≤ length (now records)) ⌝ }
     ensures { λ r. ⌜ r
         ≡ recordOk (now (cfg .entry)) (event .0) (opened (storedAt (event .0) (now (records .entry)))) ⌝ }
 {
-    let limits = config::limits_of(cfg, event);
+    let limits = config::limits_of(config::part_of(cfg, event), EventNumber(0));
     let record = status::read_record(records, event);
     status::record_ok(limits.heal, limits.age, limits.indicator, record)
 }
@@ -82,8 +83,9 @@ pub fn number_ok(cfg: &[i32], board: Board, event: EventNumber, d: i32) -> bool
     requires { ⌜ EventIn (now cfg) (event .0) ⌝ }
     ensures { λ r. ⌜ r ≡ DOk (now (cfg .entry)) board (event .0) d ⌝ }
 {
-    let row = debounce::row_of(cfg, event);
-    let running = runs(board, config::cycle_of(cfg, event));
+    let part = config::part_of(cfg, event);
+    let row = debounce::row_of(part, EventNumber(0));
+    let running = runs(board, config::cycle_of(part, EventNumber(0)));
     if !running | (row.kind == config::INTERNAL) {
         return d == 0;
     }

@@ -1,63 +1,77 @@
-use mathlib.Core.Path.{_∙_}
+use mathlib.Core.Path.{_≡_, _∙_, ap, subst}
 use native.Mathlib.Omega.{arith}
+use denote.Ref.{now}
 use mir.Facts.{toZ-ofZ}
-use Rattle.manual.specs.Words.{between}
+use borrow.Author.Needs.{needs}
+use Rattle.manual.specs.Words.{between, natOf}
+use Rattle.manual.specs.Configuration.{column, cycleOf}
 use Rattle.manual.specs.WellFormed.{DFits}
-use Rattle.manual.proofs.ConfigurationLaws.{config-tells}
 use Rattle.config.proofs.SignedInCode.{zero-is}
+use Rattle.config.proofs.PartLaws.{column-is, row-within}
+use Rattle.debounce.specs.Rows.{RowOf}
 use Rattle.debounce.proofs.SmallNumbersLaws.{held}
 use Rattle.debounce.proofs.RowsLaws.{small-row, top-is, bottom-is}
-use borrow.Author.Needs.{needs}
+use Rattle.judgement.proofs.RowOfPart.{row-is}
 use Rattle.judgement.proofs.number_ok.Statement.{statement}
 use Rattle.judgement.proofs.number_ok.Tie as tie
 
-row-of-requires : tie.Need-row-of-requires
-row-of-requires c κs = let t = config-tells _ (c .pre .accepted) in omega (arith, c .pre .below)
+-- the event's row and its cycle, by the part
+row : (c : tie.After-row-of)
+    → RowOf (now (c .before .before .args .cfg)) (c .before .before .args .event .0) (c .row-of .result)
+row c =
+    let a = c .before .before .args in
+    row-is (now (a .cfg)) (a .event .0)
+    (subst (λ p. RowOf p 0 (c .row-of .result)) (c .before .part-of .ensures) (c .row-of .ensures))
 
-cycle-of-requires : tie.Need-cycle-of-requires
-cycle-of-requires c κs = let t = config-tells _ (c .before .pre .accepted) in omega (arith, c .before .pre .below)
+cycle : (c : tie.After-cycle-of)
+    → c .cycle-of .result
+    ≡ cycleOf (now (c .before .before .before .args .cfg)) (c .before .before .before .args .event .0)
+cycle c =
+    let a = c .before .before .before .args in
+    c .cycle-of .ensures
+    ∙ ap natOf
+    ((λ j. column 3 (c .before .before .part-of .ensures j) 0)
+    ∙ column-is (now (a .cfg)) (a .event .0) 3 (omega arith))
+
+part-of-requires : tie.Need-part-of-requires
+part-of-requires c κs = row-within _ _ (c .pre .accepted) (c .pre .below)
 
 returns : tie.Need-returns
 unfolding DFits
 returns c =
+    let c6 = c .before .before .before .before .before .before in
     rw (
-      ← c .before .before .before .cycle-of .ensures,
+      ← cycle (c .before .before .before),
       ← c .before .before .runs .ensures,
-      ← c .before .before .before .before .row-of .ensures .kind-is,
+      ← row (c .before .before .before .before) .kind-is,
       c .if1 .taken,
     )
-    (zero-is (c .before .before .before .before .before .args .d)
-    (c .before .before .before .before .before .fits .d .sfits))
+    (zero-is (c6 .args .d) (c6 .fits .d .sfits))
 
 bottom-requires : tie.Need-bottom-requires
 bottom-requires c κs =
-    small-row _ _ _ (c .before .before .before .before .row-of .ensures)
-    (c .before .before .before .before .before .pre .accepted) (c .before .before .before .before .before .pre .below)
+    let c6 = c .before .before .before .before .before .before in
+    small-row _ _ _ (row (c .before .before .before .before)) (c6 .pre .accepted) (c6 .pre .below)
 
 top-requires : tie.Need-top-requires
 top-requires c κs =
-    small-row _ _ _ (c .before .before .before .before .before .row-of .ensures)
-    (c .before .before .before .before .before .before .pre .accepted)
-    (c .before .before .before .before .before .before .pre .below)
+    let c7 = c .before .before .before .before .before .before .before in
+    small-row _ _ _ (row (c .before .before .before .before .before)) (c7 .pre .accepted) (c7 .pre .below)
 
 returns-2 : tie.Need-returns-2
 unfolding DFits between
-returns-2 c = let d = toZ-ofZ (c .before .before .before .before .before .before .before .fits .d) in
-    let bottom =
-    held
-    (c .before .bottom .ensures
-    ∙ bottom-is _ _ _ (c .before .before .before .before .before .before .row-of .ensures))
-    (c .before .bottom .ok) in
-    let top =
-    held (c .top .ensures ∙ top-is _ _ _ (c .before .before .before .before .before .before .row-of .ensures))
-    (c .top .ok) in
+returns-2 c =
+    let c6 = c .before .before .before .before .before .before in
+    let d = toZ-ofZ (c6 .before .before .fits .d) in
+    let bottom = held (c .before .bottom .ensures ∙ bottom-is _ _ _ (row c6)) (c .before .bottom .ok) in
+    let top = held (c .top .ensures ∙ top-is _ _ _ (row c6)) (c .top .ok) in
     rw (
       d,
       bottom,
       top,
-      ← c .before .before .before .before .before .cycle-of .ensures,
+      ← cycle (c .before .before .before .before .before),
       ← c .before .before .before .before .runs .ensures,
-      ← c .before .before .before .before .before .before .row-of .ensures .kind-is,
+      ← row c6 .kind-is,
       c .before .before .if1 .left,
     )
 
@@ -65,9 +79,8 @@ pub number-ok-spec : {M : Type 1} → statement M
 number-ok-spec =
     tie.close
     (tie.spec
-    row-of-requires
-    cycle-of-requires
-    (λ c κs. search needs)
+    part-of-requires
+    (λ c κs. search needs) (λ c κs. search needs) (λ c κs. search needs)
     returns
     bottom-requires
     top-requires

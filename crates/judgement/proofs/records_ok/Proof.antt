@@ -6,8 +6,8 @@ use Rattle.manual.specs.Words.{allBelow}
 use Rattle.manual.specs.Configuration.{events}
 use Rattle.manual.specs.State.{opened, storedAt}
 use Rattle.manual.specs.WellFormed.{recordOk}
-use Rattle.manual.proofs.ConfigurationLaws.{config-tells}
 use Rattle.config.proofs.Tests.{all-none, all-more}
+use Rattle.config.proofs.PartLaws.{row-within}
 use Rattle.judgement.proofs.records_ok.Statement.{statement}
 use Rattle.judgement.proofs.records_ok.Tie as tie
 
@@ -26,9 +26,11 @@ loop-holds c = (omega arith, sym (all-none _))
 
 record-ok-requires : tie.Need-record-ok-requires Inv-loop μ-loop
 record-ok-requires c κs =
-    let t = config-tells _ (c .before .before .before .before .pre .accepted) in let h : c .before .loop .event < events
-    (now (c .before .before .before .before .args .cfg)) = rw (← c .before .before .events .ensures)
-    (c .loop-test .taken) in (omega arith, omega (arith, c .before .before .before .before .pre .as-long))
+    let h : c .before .loop .event < events (now (c .before .before .before .before .args .cfg)) =
+    rw (← c .before .before .events .ensures) (c .loop-test .taken) in (
+      row-within _ _ (c .before .before .before .before .pre .accepted) h,
+      omega (arith, c .before .before .before .before .pre .as-long),
+    )
 
 loop-again : tie.Need-loop-again Inv-loop μ-loop
 loop-again c = (omega arith, rw (all-more, c .before .before .loop .inv .1, c .record-ok .ensures))
