@@ -1,7 +1,7 @@
 -- Laws of specs/Judgement.antt: its loops turn by turn, the bytes in use as a part of the block, and that it is the
 -- manual's judgement.
 use mathlib.Core.Path.{_≡_, refl, sym, ap, _∙_}
-use mathlib.Core.Bool.{Bool, true, false, not, _&&_}
+use mathlib.Core.Bool.{Bool, true, false, _&&_}
 use mathlib.Core.List.{List, [], _∷_, _++_}
 use Prim.Native.Nat.{ℕ, zero, suc, _+_, _-_, _*_, _≤_, _<_, zero-le}
 use native.Mathlib.Nat.{mul-suc, mul-comm}
@@ -10,11 +10,10 @@ use native.Mathlib.Omega.{arith}
 use lib.ListN.{length, getD, take, drop, length-drop, drop-of-length-le, take-append-drop, List·getD-append}
 use lib.Seq.{drop-cons, take-append-le, drop-append-le, drop-at, take-all, length-take-le, getD-take}
 use borrow.Author.Tests.{eq-eqb, ne-eqb, le-leb, lt-leb}
-use Rattle.history.specs.Words.{holds, anyOf, allOf}
+use Rattle.history.specs.Words.{holds, allOf}
 use Rattle.history.proofs.WordsLaws.{and-true, and-false}
-use Rattle.manual.specs.Memory.{Entry, eventOf, entryWidth, entryAt, memoryLength, entryCount}
-use Rattle.manual.specs.Memory.{bytesInUse, entriesFrom, entriesOf, isOf, noTwice}
-use Rattle.memory.specs.Places.{blank, atPlace}
+use Rattle.manual.specs.Memory.{Entry, entryWidth, entryAt, memoryLength, entryCount}
+use Rattle.manual.specs.Memory.{bytesInUse, entriesFrom, entriesOf, noTwice}
 use Rattle.memory.specs.Judgement.{soundEntry, zeros, usedOk, blockOk}
 use Rattle.memory.proofs.PlacesLaws.{starts-rise}
 
@@ -32,33 +31,6 @@ module _ {A : Type 0} (d : A) (q : A → Bool) (l : List A) (i : ℕ) where
 
   pub all-through : length l ≤ i → allOf q (drop i l) ≡ true
   all-through h = ap (allOf q) (drop-of-length-le l {i = i} h)
-
-  pub any-ends : i < length l → q (getD l i d) ≡ true → anyOf q (drop i l) ≡ true
-  any-ends h e = ap (anyOf q) (next h) ∙ rw e refl
-
-  pub any-goes-on : i < length l → q (getD l i d) ≡ false → anyOf q (drop i l) ≡ anyOf q (drop (i + 1) l)
-  any-goes-on h e = ap (anyOf q) (next h) ∙ rw e refl
-
-  pub any-through : length l ≤ i → anyOf q (drop i l) ≡ false
-  any-through h = ap (anyOf q) (drop-of-length-le l {i = i} h)
-
-module _ (xs : List Entry) (i : ℕ) where
-  twice-turn : i < length xs
-      → noTwice (drop i xs) ≡ not (anyOf (isOf (eventOf (atPlace i xs))) (drop (i + 1) xs)) && noTwice (drop (i + 1) xs)
-  unfolding noTwice
-  twice-turn h = ap noTwice (next blank (λ x. true) xs i h)
-
-  pub twice-ends : i < length xs → anyOf (isOf (eventOf (atPlace i xs))) (drop (i + 1) xs) ≡ true
-      → noTwice (drop i xs) ≡ false
-  twice-ends h e = twice-turn h ∙ rw e refl
-
-  pub twice-goes-on : i < length xs → anyOf (isOf (eventOf (atPlace i xs))) (drop (i + 1) xs) ≡ false
-      → noTwice (drop i xs) ≡ noTwice (drop (i + 1) xs)
-  twice-goes-on h e = twice-turn h ∙ rw e refl
-
-  pub twice-through : length xs ≤ i → noTwice (drop i xs) ≡ true
-  unfolding noTwice
-  twice-through h = ap noTwice (drop-of-length-le xs {i = i} h)
 
 -- ---- the bytes in use
 

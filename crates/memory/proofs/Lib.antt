@@ -4,3 +4,4 @@ pub mod SurgeryLaws
 pub mod VictimLaws
 pub mod StoreLaws
 pub mod JudgementLaws
+pub mod SeenLaws

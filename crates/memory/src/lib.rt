@@ -10,12 +10,12 @@ ghost use mathlib.Core.Path.{_≡_};
 ghost use mathlib.Core.Bool.{_&&_};
 ghost use lib.Dec.{eqb};
 ghost use Prim.Native.Nat.{suc, min, _≤_, _<_};
-ghost use lib.ListN.{length, drop};
-ghost use Rattle.history.specs.Words.{anyOf, allOf};
+ghost use lib.ListN.{length};
+ghost use Rattle.history.specs.Words.{allOf};
 ghost use Rattle.manual.specs.Configuration.{mostEvents, mostPlaces, mostPayload, events};
 ghost use Rattle.manual.specs.Configuration.{places, entryFrames, priorityOf};
 ghost use Rattle.manual.specs.Memory.{eventOf, payloadOf, renewedPayload, displacing, memoryLength, entryCount};
-ghost use Rattle.manual.specs.Memory.{bytesInUse, entriesOf, memoryOf, isOf, without, noTwice};
+ghost use Rattle.manual.specs.Memory.{bytesInUse, entriesOf, memoryOf, without, noTwice};
 ghost use Rattle.memory.specs.Places.{frameAt, atPlace, firstPlace, placeOf, outranks, rests, victimPlace};
 ghost use Rattle.memory.specs.Fits.{EntriesFit, PlaceFits, RoomAt, EventsFit};
 ghost use Rattle.memory.specs.InOrder.{InOrder};
@@ -403,38 +403,22 @@ fn each_ok(events: usize, payload_bytes: usize, memory: &[u8], records: &[u8]) -
     true
 }
 
-// Whether an entry of the event stands at a place from `first` on.
-fn stands_from(memory: &[u8], payload_bytes: usize, first: Place, event: EventNumber) -> bool
-    requires { ⌜ (EntriesFit «payload_bytes» (now memory)) × (first .0 ≤ entryCount (now memory)) ⌝ }
-    ensures { λ r. ⌜ r ≡ anyOf (isOf (event .0)) (drop (first .0) (entriesOf «payload_bytes» (now (memory .entry)))) ⌝ }
-{
-    let entries = entry_count(memory);
-    let mut i = first.0;
-    while i < entries {
-        let other = event_at(memory, payload_bytes, Place(i));
-        if other.0 == event.0 {
-            return true;
-        }
-        i += 1;
-    }
-    false
-}
-
-// "no two equal"
+// "no two equal": from the last entry to the first, each entry's event is marked as seen.
 fn none_twice(memory: &[u8], payload_bytes: usize) -> bool
-    requires { ⌜ EntriesFit «payload_bytes» (now memory) ⌝ }
+    requires { ⌜ EventsFit «payload_bytes» (now memory) ⌝ }
     ensures { λ r. ⌜ r ≡ noTwice (entriesOf «payload_bytes» (now (memory .entry))) ⌝ }
 {
-    let entries = entry_count(memory);
-    let mut i = 0;
-    while i < entries {
+    let mut seen = [false; manual::MOST_EVENTS];
+    let mut once = true;
+    let mut i = entry_count(memory);
+    while 0 < i {
+        i -= 1;
         let event = event_at(memory, payload_bytes, Place(i));
-        i += 1;
-        if stands_from(memory, payload_bytes, Place(i), event) {
-            return false;
-        }
+        let e = event.0;
+        once = once & !seen[e];
+        seen[e] = true;
     }
-    true
+    once
 }
 
 // The number of entries and the entries are as a well-formed memory of so many places has them. Any bytes may be
@@ -458,7 +442,10 @@ pub fn entries_ok(
     if used.len() != bytes_in_use(used, payload_bytes) {
         return false;
     }
-    each_ok(events, payload_bytes, used, records) & none_twice(used, payload_bytes)
+    if !each_ok(events, payload_bytes, used, records) {
+        return false;
+    }
+    none_twice(used, payload_bytes)
 }
 
 // "the bytes after the last entry are 0"
