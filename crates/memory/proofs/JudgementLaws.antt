@@ -11,13 +11,13 @@ use lib.ListN.{length, getD, take, drop, length-drop, drop-of-length-le, take-ap
 use lib.Seq.{drop-cons, take-append-le, drop-append-le, drop-at, take-all, length-take-le, getD-take}
 use borrow.Author.Tests.{eq-eqb, ne-eqb, le-leb, lt-leb}
 use Rattle.history.specs.Words.{holds, allOf}
-use Rattle.history.proofs.WordsLaws.{and-true, and-false}
+use Rattle.history.proofs.WordsLaws.{and-true, and-false, and-assoc}
 use Rattle.manual.specs.Memory.{Entry, entryWidth, entryAt, memoryLength, entryCount}
 use Rattle.manual.specs.Memory.{bytesInUse, entriesFrom, entriesOf, noTwice}
 use Rattle.memory.specs.Judgement.{soundEntry, zeros, usedOk, blockOk}
 use Rattle.memory.proofs.PlacesLaws.{starts-rise}
 
--- ---- loops that stop at the first that decides
+-- ---- loops over a list: one that stops at the first that decides, one that gathers
 
 module _ {A : Type 0} (d : A) (q : A → Bool) (l : List A) (i : ℕ) where
   next : i < length l → drop i l ≡ getD l i d ∷ drop (i + 1) l
@@ -28,6 +28,13 @@ module _ {A : Type 0} (d : A) (q : A → Bool) (l : List A) (i : ℕ) where
 
   pub all-goes-on : i < length l → q (getD l i d) ≡ true → allOf q (drop i l) ≡ allOf q (drop (i + 1) l)
   all-goes-on h e = ap (allOf q) (next h) ∙ rw e refl
+
+  -- a loop that gathers the test of each
+  pub all-gathered : (b : Bool) → i < length l
+      → (b && q (getD l i d)) && allOf q (drop (i + 1) l) ≡ b && allOf q (drop i l)
+  all-gathered b h =
+      let turn : allOf q (drop i l) ≡ q (getD l i d) && allOf q (drop (i + 1) l) = ap (allOf q) (next h) in
+      sym (ap (λ (t : Bool). b && t) turn ∙ and-assoc b (q (getD l i d)) (allOf q (drop (i + 1) l)))
 
   pub all-through : length l ≤ i → allOf q (drop i l) ≡ true
   all-through h = ap (allOf q) (drop-of-length-le l {i = i} h)

@@ -452,14 +452,11 @@ pub fn entries_ok(
 pub fn all_zero(bytes: &[u8]) -> bool
     ensures { λ r. ⌜ r ≡ zeros (now (bytes .entry)) ⌝ }
 {
-    let mut i = 0;
-    while i < bytes.len() {
-        if bytes[i] != 0 {
-            return false;
-        }
-        i += 1;
+    let mut zero = true;
+    for i in 0..bytes.len() {
+        zero = zero & (bytes[i] == 0);
     }
-    true
+    zero
 }
 
 // The memory is as a well-formed state has it. Any block and any records may be judged.
