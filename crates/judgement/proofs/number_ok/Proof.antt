@@ -1,12 +1,17 @@
 use mathlib.Core.Path.{_≡_, _∙_, ap, subst}
+use mathlib.Core.Bool.{not, _||_}
 use native.Mathlib.Omega.{arith}
+use lib.Dec.{eqb}
+use lib.IntN.{pos}
 use denote.Ref.{now}
 use mir.Facts.{toZ-ofZ}
 use borrow.Author.Needs.{needs}
-use Rattle.manual.specs.Words.{between, natOf}
+use Rattle.manual.specs.Words.{between, eqZ, natOf}
 use Rattle.manual.specs.Configuration.{column, cycleOf}
+use Rattle.manual.specs.Debouncing.{top, bottom}
 use Rattle.manual.specs.WellFormed.{DFits}
 use Rattle.config.proofs.SignedInCode.{zero-is}
+use Rattle.config.proofs.Tests.{chosen}
 use Rattle.config.proofs.PartLaws.{column-is, row-within}
 use Rattle.debounce.specs.Rows.{RowOf}
 use Rattle.debounce.proofs.SmallNumbersLaws.{held}
@@ -36,44 +41,36 @@ cycle c =
 part-of-requires : tie.Need-part-of-requires
 part-of-requires c κs = row-within _ _ (c .pre .accepted) (c .pre .below)
 
-returns : tie.Need-returns
-unfolding DFits
-returns c =
-    let c6 = c .before .before .before .before .before .before in
-    rw (
-      ← cycle (c .before .before .before),
-      ← c .before .before .runs .ensures,
-      ← row (c .before .before .before .before) .kind-is,
-      c .if1 .taken,
-    )
-    (zero-is (c6 .args .d) (c6 .fits .d .sfits))
-
 bottom-requires : tie.Need-bottom-requires
 bottom-requires c κs =
-    let c6 = c .before .before .before .before .before .before in
-    small-row _ _ _ (row (c .before .before .before .before)) (c6 .pre .accepted) (c6 .pre .below)
+    let c5 = c .before .before .before .before .before in
+    small-row _ _ _ (row (c .before .before .before)) (c5 .pre .accepted) (c5 .pre .below)
 
 top-requires : tie.Need-top-requires
 top-requires c κs =
-    let c7 = c .before .before .before .before .before .before .before in
-    small-row _ _ _ (row (c .before .before .before .before .before)) (c7 .pre .accepted) (c7 .pre .below)
-
-returns-2 : tie.Need-returns-2
-unfolding DFits between
-returns-2 c =
     let c6 = c .before .before .before .before .before .before in
-    let d = toZ-ofZ (c6 .before .before .fits .d) in
-    let bottom = held (c .before .bottom .ensures ∙ bottom-is _ _ _ (row c6)) (c .before .bottom .ok) in
-    let top = held (c .top .ensures ∙ top-is _ _ _ (row c6)) (c .top .ok) in
+    small-row _ _ _ (row (c .before .before .before .before)) (c6 .pre .accepted) (c6 .pre .below)
+
+returns : tie.Need-returns
+unfolding DFits between
+returns c =
+    let c5 = c .before .before .before .before .before in
+    let a = c5 .before .before .args in
+    let d = a .d in
+    let fits = c5 .before .before .fits .d in
+    let low = held (c .before .bottom .ensures ∙ bottom-is _ _ _ (row c5)) (c .before .bottom .ok) in
+    let high = held (c .top .ensures ∙ top-is _ _ _ (row c5)) (c .top .ok) in
     rw (
-      d,
-      bottom,
-      top,
-      ← cycle (c .before .before .before .before .before),
-      ← c .before .before .before .before .runs .ensures,
-      ← row c6 .kind-is,
-      c .before .before .if1 .left,
+      toZ-ofZ fits,
+      low,
+      high,
+      zero-is d (fits .sfits),
+      ← cycle (c .before .before .before .before),
+      ← c .before .before .before .runs .ensures,
+      ← row c5 .kind-is,
     )
+    (chosen (not (c .before .before .before .runs .result) || eqb (c5 .row-of .result .kind) 0) (eqZ d (pos 0))
+    (between (bottom (now (a .cfg)) (a .event .0)) (top (now (a .cfg)) (a .event .0)) d))
 
 pub number-ok-spec : {M : Type 1} → statement M
 number-ok-spec =
@@ -81,7 +78,6 @@ number-ok-spec =
     (tie.spec
     part-of-requires
     (λ c κs. search needs) (λ c κs. search needs) (λ c κs. search needs)
-    returns
     bottom-requires
     top-requires
-    returns-2)
+    returns)
