@@ -233,8 +233,8 @@ fn count_within(cfg: &[i32], event: EventNumber, k: usize) -> usize
 
 const PART_WIDTH: usize = IN_FRONT + ROW_WIDTH;
 
-// The event's row with the three numbers before it: read as a configuration, it is the row of event 0. It is as long for
-// every event, so that nothing is left of the tests by which a number past the end is 0.
+// The event's row with the three numbers before it: read as a configuration, it is the row of event 0. It is as long
+// for every event, so that nothing is left of the tests by which a number past the end is 0.
 pub fn part_of<'a>(cfg: &'a [i32], event: EventNumber) -> &'a [i32]
     requires { ⌜ RowWithin (now cfg) (event .0) ⌝ }
     ensures { λ r. ⌜ now r ≡ partOf (now (cfg .entry)) (event .0) ⌝ }

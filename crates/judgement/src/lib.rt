@@ -25,15 +25,14 @@ pub enum Check {
     Stop(Refusal),
 }
 
-// Whether the cycle runs; a cycle above 3 does not. Each of the four is compared, since an index that a row gives keeps
-// the compiler from judging several events at once.
+// Whether the cycle runs; a cycle above 3 does not.
 pub fn runs(board: Board, cycle: usize) -> bool
     ensures { λ r. ⌜ r ≡ runs board cycle ⌝ }
 {
-    (board.running[0] & (cycle == 0))
-        | (board.running[1] & (cycle == 1))
-        | (board.running[2] & (cycle == 2))
-        | (board.running[3] & (cycle == 3))
+    if cycle < manual::CYCLES {
+        return board.running[cycle];
+    }
+    false
 }
 
 // ---- "A state is well formed when …"
@@ -78,15 +77,26 @@ pub fn records_ok(cfg: &[i32], records: &[u8]) -> bool
     ok
 }
 
+// As `runs`, by comparing the cycle with each of the four: in a pass over the events an index that a row gives keeps
+// the compiler from judging several at once.
+fn one_runs(board: Board, cycle: usize) -> bool
+    ensures { λ r. ⌜ r ≡ runs board cycle ⌝ }
+{
+    (board.running[0] & (cycle == 0))
+        | (board.running[1] & (cycle == 1))
+        | (board.running[2] & (cycle == 2))
+        | (board.running[3] & (cycle == 3))
+}
+
 // "D is 0 if the event's cycle is stopped or its kind is 0, else in P..Q (kind 1) or P−1..Q+1 (kind 2)". Any number may
-// be judged. No branch keeps several events from being judged at once.
+// be judged. A branch, too, would keep the compiler from judging several at once.
 pub fn number_ok(cfg: &[i32], board: Board, event: EventNumber, d: i32) -> bool
     requires { ⌜ EventIn (now cfg) (event .0) ⌝ }
     ensures { λ r. ⌜ r ≡ DOk (now (cfg .entry)) board (event .0) d ⌝ }
 {
     let part = config::part_of(cfg, event);
     let row = debounce::row_of(part, EventNumber(0));
-    let running = runs(board, config::cycle_of(part, EventNumber(0)));
+    let running = one_runs(board, config::cycle_of(part, EventNumber(0)));
     let must_be_zero = !running | (row.kind == config::INTERNAL);
     let within = (debounce::bottom(row) <= d) & (d <= debounce::top(row));
     (must_be_zero & (d == 0)) | (!must_be_zero & within)

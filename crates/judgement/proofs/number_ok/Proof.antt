@@ -66,10 +66,10 @@ returns c =
       high,
       zero-is d (fits .sfits),
       ← cycle (c .before .before .before .before),
-      ← c .before .before .before .runs .ensures,
+      ← c .before .before .before .one-runs .ensures,
       ← row c5 .kind-is,
     )
-    (chosen (not (c .before .before .before .runs .result) || eqb (c5 .row-of .result .kind) 0) (eqZ d (pos 0))
+    (chosen (not (c .before .before .before .one-runs .result) || eqb (c5 .row-of .result .kind) 0) (eqZ d (pos 0))
     (between (bottom (now (a .cfg)) (a .event .0)) (top (now (a .cfg)) (a .event .0)) d))
 
 pub number-ok-spec : {M : Type 1} → statement M
