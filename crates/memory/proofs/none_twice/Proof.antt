@@ -23,7 +23,8 @@ entry-count-requires c κs = omega (arith, c .before .pre .entries .within)
 
 -- there are as many entries as the first byte says
 count : (c : tie.After-entry-count Inv-loop μ-loop)
-    → let a = c .before .before .args in length (entriesOf (a .payload-bytes) (now (a .memory))) ≤ c .entry-count .result
+    → let a = c .before .before .args in
+    length (entriesOf (a .payload-bytes) (now (a .memory))) ≤ c .entry-count .result
 count c =
     let a = c .before .before .args in
     omega (arith, entries-are-count (a .payload-bytes) (now (a .memory)), c .entry-count .ensures)
