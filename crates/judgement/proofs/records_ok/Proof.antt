@@ -28,7 +28,7 @@ record-ok-requires : tie.Need-record-ok-requires Inv-loop μ-loop
 record-ok-requires c κs =
     let h : c .before .loop .event < events (now (c .before .before .before .before .args .cfg)) =
     rw (← c .before .before .events .ensures) (c .loop-test .taken) in (
-      row-within _ _ (c .before .before .before .before .pre .accepted) h,
+      row-within _ _ (c .before .before .before .before .pre .accepted) (omega (arith, h)),
       omega (arith, c .before .before .before .before .pre .as-long),
     )
 
