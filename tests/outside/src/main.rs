@@ -2,8 +2,8 @@
 //! implementation of document 01. The door is a C program that includes
 //! grelpicado.h; `tests/outside/run` builds both and runs them.
 //!
-//!     outside --door PROGRAM [--runner COMMAND] [--rounds N] [--seed S] [--counts]
-//!         the header, the stored calls, stories, hostile calls
+//!     outside --door PROGRAM [--plain PROGRAM] [--runner COMMAND] [--rounds N] [--seed S] [--counts]
+//!         the header, the stored calls, stories, hostile calls; and the calls by plain C
 //!     outside bench --door PROGRAM [--runner COMMAND --emulated]
 //!         time and instructions of a call on both sides
 //!     outside reference
@@ -31,6 +31,8 @@ use tally::Tally;
 
 struct Settings {
     program: Program,
+    /// The same C program with plain C in the archive's place.
+    plain: Option<String>,
     rounds: u64,
     seed: u64,
     /// Whether to print how often each call gave each answer.
@@ -54,7 +56,7 @@ fn main() -> ExitCode {
 fn settings(words: &[&str]) -> Option<Settings> {
     let read = read_settings(words);
     if read.is_none() {
-        eprintln!("outside [reference | bench] --door PROGRAM [--runner COMMAND] [--rounds N] [--seed S] [--counts]");
+        eprintln!("outside [reference | bench] --door PROGRAM [--plain PROGRAM] [--runner COMMAND] [--rounds N] [--seed S] [--counts]");
     }
     read
 }
@@ -65,6 +67,7 @@ fn read_settings(words: &[&str]) -> Option<Settings> {
             path: String::new(),
             runner: None,
         },
+        plain: None,
         rounds: 100_000,
         seed: 1,
         counts: false,
@@ -74,6 +77,7 @@ fn read_settings(words: &[&str]) -> Option<Settings> {
     while let Some(word) = words.next() {
         match *word {
             "--door" => settings.program.path = words.next()?.to_string(),
+            "--plain" => settings.plain = Some(words.next()?.to_string()),
             "--runner" => settings.program.runner = Some(words.next()?.to_string()),
             "--rounds" => settings.rounds = words.next()?.parse().ok()?,
             "--seed" => settings.seed = words.next()?.parse().ok()?,
@@ -101,7 +105,30 @@ fn all(settings: &Settings) -> bool {
     if settings.counts {
         hostile::print(&counts);
     }
-    header && vectors && stories && hostile
+    let plain = plain_c(settings);
+    header && vectors && stories && hostile && plain
+}
+
+/// Of the calls that are made at random, plain C is given one in so many.
+const PLAIN_SHARE: u64 = 5;
+
+/// The plain C beside which the archive's instructions are counted: it must judge and do the same.
+fn plain_c(settings: &Settings) -> bool {
+    let Some(path) = &settings.plain else {
+        return true;
+    };
+    let program = Program {
+        path: path.clone(),
+        runner: settings.program.runner.clone(),
+    };
+    let (rounds, seed) = (settings.rounds / PLAIN_SHARE, settings.seed);
+    let mut tallies = vectors::run_both(&program);
+    tallies.push(stories::run(&program, rounds, seed));
+    tallies.push(hostile::run(&program, rounds, seed).0);
+    for tally in &mut tallies {
+        tally.name = format!("plain C: {}", tally.name);
+    }
+    print(&tallies, "ran")
 }
 
 fn timed(settings: &Settings) -> bool {

@@ -4,7 +4,7 @@
 const TOLD: usize = 5;
 
 pub struct Tally {
-    name: &'static str,
+    pub name: String,
     pub ran: u64,
     /// Behind the number of calls, how they were made.
     pub remark: String,
@@ -15,9 +15,9 @@ pub struct Tally {
 }
 
 impl Tally {
-    pub fn new(name: &'static str) -> Tally {
+    pub fn new(name: &str) -> Tally {
         Tally {
-            name,
+            name: name.to_string(),
             ran: 0,
             remark: String::new(),
             differed: 0,

@@ -1,0 +1,928 @@
+/*
+ * Document 01 in plain C, to count the archive's instructions beside. It shares with the archive the
+ * types and macros of grelpicado.h alone, takes any arguments as the archive does, and judges the same:
+ * the outside tests compare its answers and every lent byte with the reference, as they do the archive's.
+ *
+ * It is written as firmware is written that should be quick and readable. Rows are read through the
+ * header's struct. What is wrong is left at once. That no two entries are of one event is told by a mark
+ * for each event seen, not by comparing pairs. A trouble code is searched by halving, since the codes
+ * rise. Blocks of bytes are moved, filled and compared by the C library.
+ */
+#include "plain.h"
+
+#include <stdbool.h>
+#include <string.h>
+
+enum { STATUS, K, H, G, RECORD };               /* the four bytes of an event's record */
+enum { EVENT_HIGH, EVENT_LOW, OCCURRENCE, HEAD }; /* an entry before its frame */
+enum { IMAGE_HEAD = 20 };
+enum { NO_PLACE = -1 };
+
+/* The status bits, by shorter names. */
+enum {
+    FAILED = GRELPICADO_TEST_FAILED,
+    FAILED_THIS_CYCLE = GRELPICADO_TEST_FAILED_THIS_OPERATION_CYCLE,
+    PENDING = GRELPICADO_PENDING,
+    CONFIRMED = GRELPICADO_CONFIRMED,
+    UNTESTED = GRELPICADO_TEST_NOT_COMPLETED_SINCE_LAST_CLEAR,
+    FAILED_SINCE_CLEAR = GRELPICADO_TEST_FAILED_SINCE_LAST_CLEAR,
+    UNTESTED_THIS_CYCLE = GRELPICADO_TEST_NOT_COMPLETED_THIS_OPERATION_CYCLE,
+    WARNING = GRELPICADO_WARNING_INDICATOR_REQUESTED,
+    FRESH = GRELPICADO_FRESH_STATUS
+};
+
+/* A configuration that keeps its table. */
+struct table {
+    size_t events;
+    size_t places;
+    size_t frame;
+    size_t entry; /* bytes of an entry */
+    const grelpicado_event *event;
+};
+
+/* What a call may change. */
+struct state {
+    uint8_t *records;
+    int32_t *debounce;
+    uint8_t *memory;
+    grelpicado_board board;
+};
+
+/* What every call is lent, and the same as it is handed on. */
+#define LENT(writes)                                        \
+    const int32_t *config, size_t config_length,            \
+    writes uint8_t *records, size_t records_length,         \
+    writes int32_t *debounce, size_t debounce_length,       \
+    writes uint8_t *memory, size_t memory_length,           \
+    grelpicado_board board
+#define LENGTHS config, config_length, records_length, debounce_length, memory_length
+#define BLOCKS records, debounce, memory
+
+/* ---- the configuration */
+
+static bool in(int32_t number, int32_t least, int32_t greatest)
+{
+    return least <= number && number <= greatest;
+}
+
+static bool debounce_allowed(const grelpicado_event *row)
+{
+    bool bounds = in(row->p, -30000, -1) && in(row->q, 1, 30000);
+    bool no_steps = row->up == 0 && row->down == 0 && row->jumps == 0;
+    switch (row->debounce_kind) {
+    case GRELPICADO_KIND_INTERNAL:
+        return row->p == 0 && row->q == 0 && no_steps;
+    case GRELPICADO_KIND_COUNTER:
+        return bounds && in(row->up, 1, 30000) && in(row->down, 1, 30000) && in(row->jumps, 0, 3);
+    case GRELPICADO_KIND_TIME:
+        return bounds && no_steps;
+    default:
+        return false;
+    }
+}
+
+static bool row_allowed(const grelpicado_event *row)
+{
+    return in(row->trouble_code, 1, GRELPICADO_MAX_TROUBLE_CODE)
+        && in(row->priority, 1, 255)
+        && in(row->cycle, 0, GRELPICADO_CYCLES - 1)
+        && debounce_allowed(row)
+        && in(row->confirm, 1, 255)
+        && in(row->heal, 1, 255)
+        && in(row->age, 1, 255)
+        && in(row->indicator, 0, 1);
+}
+
+static bool read_table(struct table *table, const int32_t *config, size_t length)
+{
+    if (length < 3 || !in(config[0], 1, GRELPICADO_MAX_EVENTS) || !in(config[1], 1, GRELPICADO_MAX_PLACES)
+        || !in(config[2], 0, GRELPICADO_MAX_FRAME)) {
+        return false;
+    }
+    table->events = (size_t)config[0];
+    table->places = (size_t)config[1];
+    table->frame = (size_t)config[2];
+    table->entry = HEAD + table->frame;
+    table->event = (const grelpicado_event *)(const void *)(config + 3);
+    if (length != GRELPICADO_CONFIG_NUMBERS(table->events)) {
+        return false;
+    }
+    int32_t before = 0;
+    for (size_t e = 0; e < table->events; e++) {
+        const grelpicado_event *row = &table->event[e];
+        if (!row_allowed(row) || row->trouble_code <= before) {
+            return false;
+        }
+        before = row->trouble_code;
+    }
+    return true;
+}
+
+/* For fresh and restore, 3 judges the lengths alone. */
+static uint8_t judge_lengths(
+    struct table *table, const int32_t *config, size_t config_length,
+    size_t records_length, size_t debounce_length, size_t memory_length)
+{
+    if (!read_table(table, config, config_length)) {
+        return GRELPICADO_BAD_CONFIGURATION;
+    }
+    bool fit = records_length == GRELPICADO_RECORDS_BYTES(table->events)
+        && debounce_length == GRELPICADO_DEBOUNCE_NUMBERS(table->events)
+        && memory_length == GRELPICADO_MEMORY_BYTES(table->places, table->frame);
+    return fit ? GRELPICADO_DONE : GRELPICADO_BAD_STATE;
+}
+
+/* ---- well-formed states */
+
+static bool record_fits(const grelpicado_event *row, const uint8_t *record)
+{
+    uint8_t status = record[STATUS];
+    if ((status & UNTESTED) && status != FRESH) {
+        return false;
+    }
+    if ((status & (FAILED | PENDING | CONFIRMED)) && !(status & FAILED_SINCE_CLEAR)) {
+        return false;
+    }
+    if ((status & FAILED_THIS_CYCLE) && (status & (PENDING | UNTESTED_THIS_CYCLE)) != PENDING) {
+        return false;
+    }
+    if ((status & WARNING) && !((status & CONFIRMED) && row->indicator == 1)) {
+        return false;
+    }
+    if ((record[K] >= 1) != ((status & PENDING) != 0)) {
+        return false;
+    }
+    if (record[H] >= row->heal || (record[H] != 0 && !(status & WARNING))) {
+        return false;
+    }
+    return record[G] < row->age && (record[G] == 0 || (status & CONFIRMED));
+}
+
+/* The least and the greatest D of an event whose cycle runs. Kind 0 has P = Q = 0. */
+static int32_t bottom(const grelpicado_event *row)
+{
+    return row->debounce_kind == GRELPICADO_KIND_TIME ? row->p - 1 : row->p;
+}
+
+static int32_t top(const grelpicado_event *row)
+{
+    return row->debounce_kind == GRELPICADO_KIND_TIME ? row->q + 1 : row->q;
+}
+
+static bool number_fits(const grelpicado_event *row, int32_t d, const grelpicado_board *board)
+{
+    return board->running[row->cycle] ? in(d, bottom(row), top(row)) : d == 0;
+}
+
+static size_t event_in(const uint8_t *entry)
+{
+    return (size_t)(entry[EVENT_HIGH] << 8 | entry[EVENT_LOW]);
+}
+
+/* The entries behind a memory's first byte, which is at most M. */
+static bool entries_fit(const struct table *table, const uint8_t *memory, const uint8_t *records)
+{
+    bool seen[GRELPICADO_MAX_EVENTS] = {false};
+    const uint8_t *entry = memory + 1;
+    for (size_t i = 0; i < memory[0]; i++, entry += table->entry) {
+        size_t e = event_in(entry);
+        if (e >= table->events || seen[e] || entry[OCCURRENCE] == 0) {
+            return false;
+        }
+        if (!(records[RECORD * e + STATUS] & FAILED_SINCE_CLEAR)) {
+            return false;
+        }
+        seen[e] = true;
+    }
+    return true;
+}
+
+static bool all_zero(const uint8_t *bytes, const uint8_t *end)
+{
+    while (bytes < end) {
+        if (*bytes++ != 0) {
+            return false;
+        }
+    }
+    return true;
+}
+
+static bool memory_fits(const struct table *table, const uint8_t *memory, const uint8_t *records)
+{
+    return memory[0] <= table->places
+        && entries_fit(table, memory, records)
+        && all_zero(memory + 1 + memory[0] * table->entry, memory + 1 + table->places * table->entry);
+}
+
+/* Every call begins 2, 3. */
+static uint8_t judge(
+    struct table *table, const int32_t *config, size_t config_length,
+    size_t records_length, size_t debounce_length, size_t memory_length,
+    const uint8_t *records, const int32_t *debounce, const uint8_t *memory, const grelpicado_board *board)
+{
+    uint8_t number = judge_lengths(table, LENGTHS);
+    if (number != GRELPICADO_DONE) {
+        return number;
+    }
+    for (size_t e = 0; e < table->events; e++) {
+        const grelpicado_event *row = &table->event[e];
+        if (!record_fits(row, records + RECORD * e) || !number_fits(row, debounce[e], board)) {
+            return GRELPICADO_BAD_STATE;
+        }
+    }
+    return memory_fits(table, memory, records) ? GRELPICADO_DONE : GRELPICADO_BAD_STATE;
+}
+
+/* ---- memory */
+
+static uint8_t *entry_at(const struct table *table, uint8_t *memory, size_t place)
+{
+    return memory + 1 + place * table->entry;
+}
+
+static int place_of(const struct table *table, const uint8_t *memory, size_t event)
+{
+    const uint8_t *entry = memory + 1;
+    for (int i = 0; i < memory[0]; i++, entry += table->entry) {
+        if (event_in(entry) == event) {
+            return i;
+        }
+    }
+    return NO_PLACE;
+}
+
+/* Closes the gap and keeps the order. */
+static void take_out(const struct table *table, uint8_t *memory, size_t place)
+{
+    uint8_t *gap = entry_at(table, memory, place);
+    uint8_t *last = entry_at(table, memory, memory[0] - 1u);
+    memmove(gap, gap + table->entry, (size_t)(last - gap));
+    memset(last, 0, table->entry);
+    memory[0]--;
+}
+
+static void leave(const struct table *table, uint8_t *memory, size_t event)
+{
+    int place = place_of(table, memory, event);
+    if (place != NO_PLACE) {
+        take_out(table, memory, (size_t)place);
+    }
+}
+
+/* The entry that gives way to an event in a full memory. */
+static int victim_for(const struct table *table, const struct state *state, size_t event)
+{
+    int32_t own = table->event[event].priority;
+    int32_t greatest = own;
+    int less_important = NO_PLACE;
+    int equal_and_passed = NO_PLACE;
+    const uint8_t *entry = state->memory + 1;
+    for (int i = 0; i < state->memory[0]; i++, entry += table->entry) {
+        size_t other = event_in(entry);
+        int32_t priority = table->event[other].priority;
+        if (priority > greatest) {
+            greatest = priority;
+            less_important = i;
+        } else if (priority == own && equal_and_passed == NO_PLACE
+            && !(state->records[RECORD * other + STATUS] & FAILED)) {
+            equal_and_passed = i;
+        }
+    }
+    return less_important != NO_PLACE ? less_important : equal_and_passed;
+}
+
+/* A fresh failure, told to memory. */
+static void store(const struct table *table, struct state *state, size_t event, const uint8_t *frame)
+{
+    uint8_t *memory = state->memory;
+    uint8_t occurrence = 1;
+    int place = place_of(table, memory, event);
+    if (place != NO_PLACE) {
+        uint8_t before = entry_at(table, memory, (size_t)place)[OCCURRENCE];
+        occurrence = before < 255 ? (uint8_t)(before + 1) : 255;
+    } else if (memory[0] == table->places) {
+        place = victim_for(table, state, event);
+        if (place == NO_PLACE) {
+            state->board.overflow = 1;
+            return;
+        }
+    }
+    if (place != NO_PLACE) {
+        take_out(table, memory, (size_t)place);
+    }
+    uint8_t *entry = entry_at(table, memory, memory[0]++);
+    entry[EVENT_HIGH] = (uint8_t)(event >> 8);
+    entry[EVENT_LOW] = (uint8_t)event;
+    entry[OCCURRENCE] = occurrence;
+    memcpy(entry + HEAD, frame, table->frame);
+}
+
+/* ---- one event */
+
+static void make_fresh(uint8_t *record)
+{
+    record[STATUS] = FRESH;
+    record[K] = record[H] = record[G] = 0;
+}
+
+static void fail(const struct table *table, struct state *state, size_t event, const uint8_t *frame)
+{
+    const grelpicado_event *row = &table->event[event];
+    uint8_t *record = state->records + RECORD * event;
+    uint8_t before = record[STATUS];
+    if (!(before & FAILED_THIS_CYCLE) && record[K] < 255) {
+        record[K]++;
+    }
+    int status = before | FAILED | FAILED_THIS_CYCLE | PENDING | FAILED_SINCE_CLEAR;
+    status &= ~(UNTESTED | UNTESTED_THIS_CYCLE);
+    if (record[K] >= row->confirm) {
+        status |= row->indicator ? CONFIRMED | WARNING : CONFIRMED;
+    }
+    record[STATUS] = (uint8_t)status;
+    record[H] = record[G] = 0;
+    if (!(before & FAILED)) {
+        store(table, state, event, frame);
+    }
+}
+
+/* Keeps the new D, and does what follows of it. Answers the verdict. */
+static uint8_t qualify(
+    const struct table *table, struct state *state, size_t event, int32_t d, const uint8_t *frame)
+{
+    const grelpicado_event *row = &table->event[event];
+    state->debounce[event] = d;
+    if (d == top(row)) {
+        fail(table, state, event, frame);
+        return GRELPICADO_VERDICT_FAILED;
+    }
+    if (d == bottom(row)) {
+        state->records[RECORD * event + STATUS] &= (uint8_t)~(FAILED | UNTESTED | UNTESTED_THIS_CYCLE);
+        return GRELPICADO_VERDICT_PASSED;
+    }
+    return GRELPICADO_VERDICT_NONE;
+}
+
+static int32_t smaller(int32_t a, int32_t b)
+{
+    return a < b ? a : b;
+}
+
+static int32_t larger(int32_t a, int32_t b)
+{
+    return a > b ? a : b;
+}
+
+/* The D that a report leaves, of kinds 1 and 2. */
+static int32_t debounced(const grelpicado_event *row, int32_t d, uint32_t code)
+{
+    bool counter = row->debounce_kind == GRELPICADO_KIND_COUNTER;
+    switch (code) {
+    case GRELPICADO_FAILED:
+        return top(row);
+    case GRELPICADO_PASSED:
+        return bottom(row);
+    case GRELPICADO_PRE_FAILED:
+        if (!counter) {
+            return larger(d, 1);
+        }
+        return smaller(((row->jumps & GRELPICADO_JUMP_UP) && d < 0 ? 0 : d) + row->up, row->q);
+    default:
+        if (!counter) {
+            return smaller(d, -1);
+        }
+        return larger(((row->jumps & GRELPICADO_JUMP_DOWN) && d > 0 ? 0 : d) - row->down, row->p);
+    }
+}
+
+/* A stop's parts (a) and (b). Says whether the event aged. */
+static bool heal_and_age(const grelpicado_event *row, uint8_t *record)
+{
+    int status = record[STATUS];
+    if (status & FAILED_THIS_CYCLE) {
+        return false;
+    }
+    if (!(status & UNTESTED_THIS_CYCLE)) {
+        status &= ~PENDING;
+        record[K] = 0;
+        if ((status & WARNING) && ++record[H] == row->heal) {
+            status &= ~WARNING;
+            record[H] = 0;
+        }
+    }
+    bool aged = (status & CONFIRMED) && ++record[G] == row->age;
+    if (aged) {
+        status &= ~(CONFIRMED | WARNING);
+        record[H] = record[G] = 0;
+    }
+    record[STATUS] = (uint8_t)status;
+    return aged;
+}
+
+/* ---- the board */
+
+static uint8_t flag(uint8_t byte)
+{
+    return byte != 0;
+}
+
+/* The board of a done call, of 0 and 1. */
+static grelpicado_board tidy(grelpicado_board board)
+{
+    const uint8_t *running = board.running;
+    return (grelpicado_board){
+        {flag(running[0]), flag(running[1]), flag(running[2]), flag(running[3])}, flag(board.overflow)};
+}
+
+/* ---- the calls */
+
+grelpicado_answer plain_fresh(LENT())
+{
+    struct table table;
+    uint8_t number = judge_lengths(&table, LENGTHS);
+    if (number != GRELPICADO_DONE) {
+        return (grelpicado_answer){number, board};
+    }
+    for (size_t e = 0; e < table.events; e++) {
+        make_fresh(records + RECORD * e);
+    }
+    memset(debounce, 0, debounce_length * sizeof *debounce);
+    memset(memory, 0, memory_length);
+    return (grelpicado_answer){GRELPICADO_DONE, {{0, 0, 0, 0}, 0}};
+}
+
+/* The first refusal of a report that applies after 2 and 3. */
+static uint8_t judge_report(
+    const struct table *table, const grelpicado_board *board, size_t event, uint32_t code, size_t frame_length)
+{
+    if (event >= table->events) {
+        return GRELPICADO_NO_SUCH;
+    }
+    const grelpicado_event *row = &table->event[event];
+    if (code > GRELPICADO_PRE_FAILED) {
+        return GRELPICADO_BAD_ARGUMENT;
+    }
+    if (row->debounce_kind == GRELPICADO_KIND_INTERNAL && code >= GRELPICADO_PRE_PASSED) {
+        return GRELPICADO_NO_PRE_RESULT;
+    }
+    if (frame_length != table->frame) {
+        return GRELPICADO_WRONG_FRAME;
+    }
+    return board->running[row->cycle] ? GRELPICADO_DONE : GRELPICADO_WRONG_CYCLE_STATE;
+}
+
+/* Of kind 0 the result is the verdict, and D stays 0. */
+static uint8_t take_result(
+    const struct table *table, struct state *state, size_t event, uint32_t code, const uint8_t *frame)
+{
+    const grelpicado_event *row = &table->event[event];
+    if (row->debounce_kind != GRELPICADO_KIND_INTERNAL) {
+        return qualify(table, state, event, debounced(row, state->debounce[event], code), frame);
+    }
+    if (code == GRELPICADO_FAILED) {
+        fail(table, state, event, frame);
+        return GRELPICADO_VERDICT_FAILED;
+    }
+    state->records[RECORD * event + STATUS] &= (uint8_t)~(FAILED | UNTESTED | UNTESTED_THIS_CYCLE);
+    return GRELPICADO_VERDICT_PASSED;
+}
+
+grelpicado_report_answer plain_report(
+    LENT(), size_t event, uint32_t code, const uint8_t *frame, size_t frame_length)
+{
+    struct table table;
+    uint8_t number = judge(&table, LENGTHS, BLOCKS, &board);
+    if (number == GRELPICADO_DONE) {
+        number = judge_report(&table, &board, event, code, frame_length);
+    }
+    if (number != GRELPICADO_DONE) {
+        return (grelpicado_report_answer){number, GRELPICADO_VERDICT_NONE, board};
+    }
+    struct state state = {BLOCKS, tidy(board)};
+    uint8_t verdict = take_result(&table, &state, event, code, frame);
+    return (grelpicado_report_answer){GRELPICADO_DONE, verdict, state.board};
+}
+
+static void pass_time(const struct table *table, struct state *state, int32_t ms, const uint8_t *frame)
+{
+    for (size_t e = 0; e < table->events; e++) {
+        const grelpicado_event *row = &table->event[e];
+        int32_t d = state->debounce[e];
+        if (row->debounce_kind != GRELPICADO_KIND_TIME || !state->board.running[row->cycle]) {
+            continue;
+        }
+        if (0 < d && d < top(row)) {
+            qualify(table, state, e, smaller(d + ms, top(row)), frame);
+        } else if (bottom(row) < d && d < 0) {
+            qualify(table, state, e, larger(d - ms, bottom(row)), frame);
+        }
+    }
+}
+
+grelpicado_answer plain_tick(LENT(), uint32_t ms, const uint8_t *frame, size_t frame_length)
+{
+    struct table table;
+    uint8_t number = judge(&table, LENGTHS, BLOCKS, &board);
+    if (number == GRELPICADO_DONE && ms > GRELPICADO_MAX_TICK) {
+        number = GRELPICADO_BAD_ARGUMENT;
+    }
+    if (number == GRELPICADO_DONE && frame_length != table.frame) {
+        number = GRELPICADO_WRONG_FRAME;
+    }
+    if (number != GRELPICADO_DONE) {
+        return (grelpicado_answer){number, board};
+    }
+    struct state state = {BLOCKS, tidy(board)};
+    pass_time(&table, &state, (int32_t)ms, frame);
+    return (grelpicado_answer){GRELPICADO_DONE, state.board};
+}
+
+/* The first refusal of a start or stop that applies after 2 and 3. */
+static uint8_t judge_cycle(const grelpicado_board *board, uint32_t cycle, bool must_run)
+{
+    if (cycle >= GRELPICADO_CYCLES) {
+        return GRELPICADO_NO_SUCH;
+    }
+    return (board->running[cycle] != 0) == must_run ? GRELPICADO_DONE : GRELPICADO_WRONG_CYCLE_STATE;
+}
+
+/* The header's start writes the records alone. */
+grelpicado_answer plain_start(
+    const int32_t *config, size_t config_length,
+    uint8_t *records, size_t records_length,
+    const int32_t *debounce, size_t debounce_length,
+    const uint8_t *memory, size_t memory_length,
+    grelpicado_board board, uint32_t cycle)
+{
+    struct table table;
+    uint8_t number = judge(&table, LENGTHS, BLOCKS, &board);
+    if (number == GRELPICADO_DONE) {
+        number = judge_cycle(&board, cycle, false);
+    }
+    if (number != GRELPICADO_DONE) {
+        return (grelpicado_answer){number, board};
+    }
+    for (size_t e = 0; e < table.events; e++) {
+        uint8_t *status = &records[RECORD * e + STATUS];
+        if (table.event[e].cycle == (int32_t)cycle) {
+            *status = (uint8_t)((*status & ~FAILED_THIS_CYCLE) | UNTESTED_THIS_CYCLE);
+        }
+    }
+    board.running[cycle] = 1;
+    return (grelpicado_answer){GRELPICADO_DONE, tidy(board)};
+}
+
+grelpicado_answer plain_stop(LENT(), uint32_t cycle)
+{
+    struct table table;
+    uint8_t number = judge(&table, LENGTHS, BLOCKS, &board);
+    if (number == GRELPICADO_DONE) {
+        number = judge_cycle(&board, cycle, true);
+    }
+    if (number != GRELPICADO_DONE) {
+        return (grelpicado_answer){number, board};
+    }
+    for (size_t e = 0; e < table.events; e++) {
+        if (table.event[e].cycle == (int32_t)cycle) {
+            if (heal_and_age(&table.event[e], records + RECORD * e)) {
+                leave(&table, memory, e);
+            }
+            debounce[e] = 0;
+        }
+    }
+    board.running[cycle] = 0;
+    return (grelpicado_answer){GRELPICADO_DONE, tidy(board)};
+}
+
+/* The event of a trouble code, or n where there is none. */
+static size_t event_of(const struct table *table, uint32_t code)
+{
+    size_t low = 0;
+    size_t high = table->events;
+    while (low < high) {
+        size_t middle = (low + high) / 2;
+        uint32_t found = (uint32_t)table->event[middle].trouble_code;
+        if (found == code) {
+            return middle;
+        }
+        if (found < code) {
+            low = middle + 1;
+        } else {
+            high = middle;
+        }
+    }
+    return table->events;
+}
+
+static void clear_all(const struct table *table, struct state *state)
+{
+    for (size_t e = 0; e < table->events; e++) {
+        make_fresh(state->records + RECORD * e);
+    }
+    memset(state->debounce, 0, table->events * sizeof *state->debounce);
+    memset(state->memory, 0, GRELPICADO_MEMORY_BYTES(table->places, table->frame));
+    state->board.overflow = 0;
+}
+
+/* Clears one code or all. False, and nothing done, for an unknown code. */
+static bool clear_code(const struct table *table, struct state *state, uint32_t code)
+{
+    if (code == GRELPICADO_ALL_CODES) {
+        clear_all(table, state);
+        return true;
+    }
+    size_t event = event_of(table, code);
+    if (event == table->events) {
+        return false;
+    }
+    make_fresh(state->records + RECORD * event);
+    state->debounce[event] = 0;
+    leave(table, state->memory, event);
+    return true;
+}
+
+grelpicado_answer plain_clear(LENT(), uint32_t code)
+{
+    struct table table;
+    uint8_t number = judge(&table, LENGTHS, BLOCKS, &board);
+    if (number != GRELPICADO_DONE) {
+        return (grelpicado_answer){number, board};
+    }
+    struct state state = {BLOCKS, tidy(board)};
+    if (!clear_code(&table, &state, code)) {
+        return (grelpicado_answer){GRELPICADO_NO_SUCH, board};
+    }
+    return (grelpicado_answer){GRELPICADO_DONE, state.board};
+}
+
+grelpicado_status_answer plain_read_status(LENT(const), size_t event)
+{
+    struct table table;
+    uint8_t number = judge(&table, LENGTHS, BLOCKS, &board);
+    if (number != GRELPICADO_DONE) {
+        return (grelpicado_status_answer){number, 0};
+    }
+    if (event >= table.events) {
+        return (grelpicado_status_answer){GRELPICADO_NO_SUCH, 0};
+    }
+    return (grelpicado_status_answer){GRELPICADO_DONE, records[RECORD * event + STATUS]};
+}
+
+grelpicado_frame_answer plain_read_frame(LENT(const), size_t event)
+{
+    struct table table;
+    uint8_t number = judge(&table, LENGTHS, BLOCKS, &board);
+    if (number != GRELPICADO_DONE) {
+        return (grelpicado_frame_answer){number, 0, 0};
+    }
+    if (event >= table.events) {
+        return (grelpicado_frame_answer){GRELPICADO_NO_SUCH, 0, 0};
+    }
+    int place = place_of(&table, memory, event);
+    if (place == NO_PLACE) {
+        return (grelpicado_frame_answer){GRELPICADO_NO_ENTRY, 0, 0};
+    }
+    return (grelpicado_frame_answer){GRELPICADO_DONE, 1 + (size_t)place * table.entry + HEAD, table.frame};
+}
+
+/* ---- the image */
+
+static void put_two(uint8_t *at, size_t number)
+{
+    at[0] = (uint8_t)(number >> 8);
+    at[1] = (uint8_t)number;
+}
+
+/* The image's bytes before its bodies. Answers the image's length. */
+static size_t image_head(const struct table *table, size_t entries, uint8_t head[IMAGE_HEAD])
+{
+    const size_t lengths[3] = {RECORD * table->events, 1 + entries * table->entry, 1};
+    size_t offset = IMAGE_HEAD;
+    head[0] = 3;
+    head[1] = 1;
+    for (size_t body = 0; body < 3; body++) {
+        uint8_t *row = head + 2 + 6 * body;
+        row[0] = (uint8_t)(body + 1);
+        row[1] = 0;
+        put_two(row + 2, offset);
+        put_two(row + 4, lengths[body]);
+        offset += lengths[body];
+    }
+    return offset;
+}
+
+grelpicado_length_answer plain_save(LENT(const), uint8_t *room, size_t room_length)
+{
+    struct table table;
+    uint8_t number = judge(&table, LENGTHS, BLOCKS, &board);
+    if (number != GRELPICADO_DONE) {
+        return (grelpicado_length_answer){number, 0};
+    }
+    const uint8_t *running = board.running;
+    if (running[0] || running[1] || running[2] || running[3]) {
+        return (grelpicado_length_answer){GRELPICADO_WRONG_CYCLE_STATE, 0};
+    }
+    uint8_t head[IMAGE_HEAD];
+    size_t length = image_head(&table, memory[0], head);
+    if (room_length < length) {
+        return (grelpicado_length_answer){GRELPICADO_ROOM_TOO_SMALL, 0};
+    }
+    memcpy(room, head, IMAGE_HEAD);
+    memcpy(room + IMAGE_HEAD, records, records_length);
+    memcpy(room + IMAGE_HEAD + records_length, memory, 1 + memory[0] * table.entry);
+    room[length - 1] = flag(board.overflow);
+    return (grelpicado_length_answer){GRELPICADO_DONE, length};
+}
+
+/* Whether it is the image of a well-formed state with all cycles stopped. */
+static bool image_fits(const struct table *table, const uint8_t *image, size_t length)
+{
+    if (length <= IMAGE_HEAD + RECORD * table->events) {
+        return false;
+    }
+    const uint8_t *records = image + IMAGE_HEAD;
+    const uint8_t *memory = records + RECORD * table->events;
+    uint8_t head[IMAGE_HEAD];
+    if (memory[0] > table->places || image_head(table, memory[0], head) != length
+        || memcmp(head, image, IMAGE_HEAD) != 0 || image[length - 1] > 1) {
+        return false;
+    }
+    for (size_t e = 0; e < table->events; e++) {
+        if (!record_fits(&table->event[e], records + RECORD * e)) {
+            return false;
+        }
+    }
+    return entries_fit(table, memory, records);
+}
+
+grelpicado_answer plain_restore(LENT(), const uint8_t *image, size_t image_length)
+{
+    struct table table;
+    uint8_t number = judge_lengths(&table, LENGTHS);
+    if (number == GRELPICADO_DONE && !image_fits(&table, image, image_length)) {
+        number = GRELPICADO_BAD_IMAGE;
+    }
+    if (number != GRELPICADO_DONE) {
+        return (grelpicado_answer){number, board};
+    }
+    const uint8_t *saved = image + IMAGE_HEAD + records_length;
+    size_t used = 1 + saved[0] * table.entry;
+    memcpy(records, image + IMAGE_HEAD, records_length);
+    memset(debounce, 0, debounce_length * sizeof *debounce);
+    memcpy(memory, saved, used);
+    memset(memory + used, 0, memory_length - used);
+    return (grelpicado_answer){GRELPICADO_DONE, {{0, 0, 0, 0}, image[image_length - 1]}};
+}
+
+/* ---- diagnostic requests */
+
+enum {
+    READ_INFORMATION = 0x19, CLEAR_INFORMATION = 0x14, POSITIVE = 0x40, NEGATIVE = 0x7F,
+    COUNT_BY_MASK = 0x01, LIST_BY_MASK = 0x02, LIST_ALL = 0x0A, SUPPRESS = 0x80
+};
+
+/* The codes of negative replies; 0 where the request is good. */
+enum {
+    GOOD = 0, NO_SERVICE = 0x11, NO_SUB_FUNCTION = 0x12, WRONG_LENGTH = 0x13, REPLY_TOO_LONG = 0x14,
+    OUT_OF_RANGE = 0x31
+};
+
+/* A request of service 19. */
+struct question {
+    uint8_t sub_function;
+    bool all; /* every event matches, even with status 0, which no mask meets */
+    uint8_t mask;
+};
+
+static bool matches(const struct question *question, uint8_t status)
+{
+    return question->all || (status & question->mask) != 0;
+}
+
+static uint8_t judge_question(struct question *question, const uint8_t *request, size_t length)
+{
+    if (length == 1) {
+        return WRONG_LENGTH;
+    }
+    question->sub_function = request[1] & 0x7F;
+    question->all = question->sub_function == LIST_ALL;
+    if (!question->all && question->sub_function != COUNT_BY_MASK && question->sub_function != LIST_BY_MASK) {
+        return NO_SUB_FUNCTION;
+    }
+    if (length != (question->all ? 2 : 3)) {
+        return WRONG_LENGTH;
+    }
+    question->mask = question->all ? 0 : request[2];
+    return GOOD;
+}
+
+static void list(const struct table *table, const uint8_t *records, const struct question *question, uint8_t *at)
+{
+    for (size_t e = 0; e < table->events; e++) {
+        uint8_t status = records[RECORD * e + STATUS];
+        if (matches(question, status)) {
+            int32_t code = table->event[e].trouble_code;
+            at[0] = (uint8_t)(code >> 16);
+            at[1] = (uint8_t)(code >> 8);
+            at[2] = (uint8_t)code;
+            at[3] = status;
+            at += 4;
+        }
+    }
+}
+
+static size_t count_matching(const struct table *table, const uint8_t *records, const struct question *question)
+{
+    size_t count = 0;
+    for (size_t e = 0; e < table->events; e++) {
+        count += matches(question, records[RECORD * e + STATUS]);
+    }
+    return count;
+}
+
+/* Service 19. Answers the code of a negative reply, or 0 and the reply's length. */
+static uint8_t read_information(
+    const struct table *table, const uint8_t *records, const uint8_t *request, size_t request_length,
+    uint8_t *room, size_t room_length, size_t *length)
+{
+    struct question question;
+    uint8_t code = judge_question(&question, request, request_length);
+    if (code != GOOD) {
+        return code;
+    }
+    if (request[1] & SUPPRESS) {
+        *length = 0;
+        return GOOD;
+    }
+    size_t matching = question.all ? table->events : count_matching(table, records, &question);
+    bool counts = question.sub_function == COUNT_BY_MASK;
+    *length = counts ? 6 : 3 + 4 * matching;
+    if (*length > room_length) {
+        return REPLY_TOO_LONG;
+    }
+    room[0] = READ_INFORMATION + POSITIVE;
+    room[1] = question.sub_function;
+    room[2] = 0xFF;
+    if (counts) {
+        room[3] = 0x01;
+        put_two(room + 4, matching);
+    } else {
+        list(table, records, &question, room + 3);
+    }
+    return GOOD;
+}
+
+/* Service 14, likewise. */
+static uint8_t clear_information(
+    const struct table *table, struct state *state, const uint8_t *request, size_t request_length,
+    uint8_t *room, size_t *length)
+{
+    if (request_length != 4) {
+        return WRONG_LENGTH;
+    }
+    uint32_t code = (uint32_t)request[1] << 16 | (uint32_t)request[2] << 8 | request[3];
+    if (!clear_code(table, state, code)) {
+        return OUT_OF_RANGE;
+    }
+    room[0] = CLEAR_INFORMATION + POSITIVE;
+    *length = 1;
+    return GOOD;
+}
+
+static size_t reply(
+    const struct table *table, struct state *state, const uint8_t *request, size_t request_length,
+    uint8_t *room, size_t room_length)
+{
+    uint8_t code = NO_SERVICE;
+    size_t length = 0;
+    if (request[0] == READ_INFORMATION) {
+        code = read_information(table, state->records, request, request_length, room, room_length, &length);
+    } else if (request[0] == CLEAR_INFORMATION) {
+        code = clear_information(table, state, request, request_length, room, &length);
+    }
+    if (code == GOOD) {
+        return length;
+    }
+    room[0] = NEGATIVE;
+    room[1] = request[0];
+    room[2] = code;
+    return 3;
+}
+
+grelpicado_request_answer plain_request(
+    LENT(), const uint8_t *request, size_t request_length, uint8_t *room, size_t room_length)
+{
+    struct table table;
+    uint8_t number = judge(&table, LENGTHS, BLOCKS, &board);
+    if (number == GRELPICADO_DONE && room_length < 3) {
+        number = GRELPICADO_ROOM_TOO_SMALL;
+    }
+    if (number == GRELPICADO_DONE && request_length == 0) {
+        number = GRELPICADO_BAD_ARGUMENT;
+    }
+    if (number != GRELPICADO_DONE) {
+        return (grelpicado_request_answer){number, 0, board};
+    }
+    struct state state = {BLOCKS, tidy(board)};
+    size_t length = reply(&table, &state, request, request_length, room, room_length);
+    return (grelpicado_request_answer){GRELPICADO_DONE, length, state.board};
+}
