@@ -373,5 +373,6 @@ int main(void)
         play_all(sizes[i], 1);
         play_all(sizes[i], 64);
     }
+    play_all(512, 32); /* between the two M, to see how the cost grows */
     return EXIT_SUCCESS;
 }
