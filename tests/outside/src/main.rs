@@ -110,7 +110,7 @@ fn all(settings: &Settings) -> bool {
 }
 
 /// Of the calls that are made at random, plain C is given one in so many.
-const PLAIN_SHARE: u64 = 5;
+const PLAIN_SHARE: u64 = 10;
 
 /// The plain C beside which the archive's instructions are counted: it must judge and do the same.
 fn plain_c(settings: &Settings) -> bool {
