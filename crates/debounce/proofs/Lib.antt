@@ -1,3 +1,4 @@
 pub mod SmallNumbersLaws
 pub mod RowsLaws
+pub mod RowOfPart
 pub mod NumberStaysInRange

@@ -1,5 +1,4 @@
 pub mod RunsLaws
-pub mod RowOfPart
 pub mod WellFormedLaws
 pub mod BeginLaws
 pub mod JudgedLaws

@@ -288,7 +288,7 @@ pub fn ticks(
         ≡ ticking (now (cfg .entry)) (now (frame .entry)) (event .0) ms
         (lent (now (records .entry)) (now (debounce .entry)) (now (memory .entry)) board) ⌝ }
 {
-    let row = debounce::row_of(cfg, event);
+    let row = debounce::row_of(config::part_of(cfg, event), EventNumber(0));
     let d = debounce::tick_step(row, ms, status::read_number(debounce, event));
     applies(cfg, records, debounce, memory, board, event, frame, d)
 }

@@ -1,19 +1,26 @@
 -- What an accepted tick finds, at its start and at each event.
-use mathlib.Core.Path.{_≡_, refl}
+use mathlib.Core.Path.{_≡_, refl, sym, ap, _∙_}
+use mathlib.Core.Logic.{_≢_}
+use mathlib.Core.Bool.{Bool, false}
 use mathlib.Core.List.{List}
 use Prim.Native.Nat.{ℕ, _<_}
-use borrow.Author.Tests.{eqb-true, ltb-false, not-false}
-use Rattle.manual.specs.Words.{forBelow}
-use Rattle.manual.specs.Configuration.{Configuration, events}
-use Rattle.manual.specs.State.{State}
+use native.Mathlib.Omega.{arith}
+use borrow.Author.Tests.{eqb-true, eq-eqb, ne-eqb, ltb-false, not-false}
+use Rattle.manual.specs.declared.Board.{Board}
+use Rattle.manual.specs.Words.{natOf, forBelow}
+use Rattle.manual.specs.Configuration.{Configuration, events, kindOf}
+use Rattle.manual.specs.State.{State, runs, withBoard}
 use Rattle.manual.specs.Answers.{firstThatApplies}
-use Rattle.manual.specs.Calls.{tickRules, timeRuns, ticks}
+use Rattle.manual.specs.Calls.{cycleRuns, tickRules, timeRuns, ticks}
 use Rattle.manual.proofs.AnswersLaws.{none-applies}
 use Rattle.manual.proofs.ConfigurationLaws.{config-tells}
+use Rattle.manual.proofs.OneEventLaws.{applied-running}
 use Rattle.manual.proofs.StaysWellFormed.{ticks-keep}
+use Rattle.config.specs.Rows.{partOf}
+use Rattle.config.proofs.PartLaws.{column-is}
 use Rattle.one_event.specs.Ready.{Ready}
 use Rattle.one_event.proofs.TurnsLaws.{turn, ready-at-turn}
-use Rattle.reporting.specs.Accepted.{MayTick}
+use Rattle.reporting.specs.Accepted.{MayTick, flagged}
 
 module _ (cfg : Configuration) (s : State) (ms : ℕ) (frame : List ℕ) where
   pub may-tick : firstThatApplies (tickRules cfg ms frame s) ≡ 0 → MayTick cfg s ms frame
@@ -33,3 +40,25 @@ module _ (cfg : Configuration) (s : State) (ms : ℕ) (frame : List ℕ) where
   turn-ready m i h p =
       ready-at-turn (timeRuns cfg (s .board)) (ticks cfg ms frame) cfg s
       (ticks-keep cfg (config-tells cfg (m .configured)) ms frame (m .frame-fits) s) (m .configured) (m .formed) i h p
+
+  -- what an event's part of the tick leaves, with the cycles that ran before it: none was started or stopped
+  pub flagged-left : (e : ℕ) {t : State} → t ≡ ticks cfg ms frame e s
+      → withBoard (flagged (s .board) (t .board .overflow)) t ≡ ticks cfg ms frame e s
+  flagged-left e {t} p =
+      let same : t .board .running ≡ s .board .running =
+      ap (λ (u : State). u .board .running) p ∙ applied-running cfg frame e _ s in
+      (λ i. withBoard (record { running = sym same i; overflow = t .board .overflow }) t) ∙ p
+
+-- "only kind 2 with its cycle running", by the event's part
+module _ (cfg : Configuration) (board : Board) (e : ℕ) {part : Configuration} (p : part ≡ partOf cfg e) {kind : ℕ}
+    (k : kind ≡ kindOf part 0) where
+  kind-is : kind ≡ kindOf cfg e
+  kind-is = k ∙ (λ i. kindOf (p i) 0) ∙ ap natOf (column-is cfg e 4 (omega arith))
+
+  pub of-no-time : kind ≢ 2 → false ≡ timeRuns cfg board e
+  of-no-time n = rw (← kind-is, ne-eqb kind 2 n)
+
+  pub by-its-cycle : kind ≡ 2 → {r : Bool} → r ≡ cycleRuns part board 0 → r ≡ timeRuns cfg board e
+  by-its-cycle t q =
+      rw (← kind-is, eq-eqb kind 2 t)
+      (q ∙ (λ i. cycleRuns (p i) board 0) ∙ ap (λ z. runs board (natOf z)) (column-is cfg e 3 (omega arith)))

@@ -20,9 +20,10 @@ ghost use Rattle.manual.specs.Answers.{alone, refused, firstThatApplies, number
 ghost use Rattle.manual.specs.OneEvent.{forThose};
 ghost use Rattle.manual.specs.Calls.{wrongFrame, cycleRuns, reportRules, reportDone};
 ghost use Rattle.manual.specs.Calls.{report, tickRules, timeRuns, ticks, tick};
+ghost use Rattle.config.specs.Rows.{RowWithin};
 ghost use Rattle.judgement.specs.Checks.{checkNumber};
 ghost use Rattle.one_event.specs.Ready.{Ready};
-ghost use Rattle.reporting.specs.Accepted.{MayTick};
+ghost use Rattle.reporting.specs.Accepted.{MayTick, flagged};
 ghost use Rattle.reporting.specs.Tests.{rowTests, reportTests, tickTests};
 
 // "Tick of d ms (0 to 60,000)"
@@ -211,40 +212,46 @@ fn judge_tick(
     }
 }
 
-// "only kind 2 with its cycle running"
+// "only kind 2 with its cycle running": the kind is asked first, since most events of a panel are not of kind 2.
 fn time_runs(cfg: &[i32], board: Board, event: EventNumber) -> bool
-    requires { ⌜ event .0 < mostEvents ⌝ }
+    requires { ⌜ RowWithin (now cfg) (event .0) ⌝ }
     ensures { λ r. ⌜ r ≡ timeRuns (now (cfg .entry)) board (event .0) ⌝ }
 {
-    (config::kind_of(cfg, event) == config::TIME) & cycle_runs(cfg, board, event)
+    let part = config::part_of(cfg, event);
+    if config::kind_of(part, EventNumber(0)) != config::TIME {
+        return false;
+    }
+    cycle_runs(part, board, EventNumber(0))
 }
 
-// The event's part of a tick: which cycles run is read off the board at the tick's start.
+// The event's part of a tick: which cycles run is read off the board at the tick's start. Takes the overflow flag so
+// far, and gives it back.
 fn tick_event(
     cfg: &[i32],
     records: &mut [u8],
     debounce: &mut [i32],
     memory: &mut [u8],
     board: Board,
-    at_start: Board,
+    overflow: bool,
     event: EventNumber,
     ms: u32,
     frame: &[u8],
-) -> Board
-    requires { ⌜ (Ready (now cfg) (lent (now records) (now debounce) (now memory) board) (event .0)) ×
+) -> bool
+    requires { ⌜ (Ready (now cfg) (lent (now records) (now debounce) (now memory) (flagged board overflow)) (event .0)) ×
         ((length (now frame) ≡ frameBytes (now cfg)) × (ms ≤ 60000)) ⌝ }
-    ensures { λ r. ⌜ lent (now (records .exit)) (now (debounce .exit)) (now (memory .exit)) r
-        ≡ cond (timeRuns (now (cfg .entry)) «at_start» (event .0))
+    ensures { λ r. ⌜ lent (now (records .exit)) (now (debounce .exit)) (now (memory .exit)) (flagged board r)
+        ≡ cond (timeRuns (now (cfg .entry)) board (event .0))
         (ticks (now (cfg .entry)) ms (now (frame .entry)) (event .0)
-        (lent (now (records .entry)) (now (debounce .entry)) (now (memory .entry)) board))
-        (lent (now (records .entry)) (now (debounce .entry)) (now (memory .entry)) board) ⌝ }
+        (lent (now (records .entry)) (now (debounce .entry)) (now (memory .entry)) (flagged board overflow)))
+        (lent (now (records .entry)) (now (debounce .entry)) (now (memory .entry)) (flagged board overflow)) ⌝ }
 {
-    if time_runs(cfg, at_start, event) {
-        let part = one_event::ticks(cfg, records, debounce, memory, board, event, ms, frame);
-        part.board
-    } else {
-        board
+    if !time_runs(cfg, board, event) {
+        return overflow;
     }
+    let running = board.running;
+    let so_far = Board { running, overflow };
+    let part = one_event::ticks(cfg, records, debounce, memory, so_far, event, ms, frame);
+    part.board.overflow
 }
 
 // "events in rising number"
@@ -264,21 +271,22 @@ fn tick_events(
         (lent (now (records .entry)) (now (debounce .entry)) (now (memory .entry)) board) ⌝ }
 {
     let n = config::events(cfg);
-    let mut after = board;
+    let running = board.running;
+    let mut overflow = board.overflow;
     for event in 0..n {
-        after = tick_event(
+        overflow = tick_event(
             cfg,
             records,
             debounce,
             memory,
-            after,
             board,
+            overflow,
             EventNumber(event),
             ms,
             frame,
         );
     }
-    after
+    Board { running, overflow }
 }
 
 // "A refusal changes nothing lent and hands back the board it was given"

@@ -16,7 +16,7 @@ use Rattle.config.proofs.PartLaws.{column-is, row-within}
 use Rattle.debounce.specs.Rows.{RowOf}
 use Rattle.debounce.proofs.SmallNumbersLaws.{held}
 use Rattle.debounce.proofs.RowsLaws.{small-row, top-is, bottom-is}
-use Rattle.judgement.proofs.RowOfPart.{row-is}
+use Rattle.debounce.proofs.RowOfPart.{row-is}
 use Rattle.judgement.proofs.number_ok.Statement.{statement}
 use Rattle.judgement.proofs.number_ok.Tie as tie
 

@@ -1,25 +1,39 @@
 -- `tick_event` meets its contract.
 use mathlib.Core.Path.{ap, _∙_}
-use Rattle.manual.specs.State.{State}
+use borrow.Author.Tests.{not-true, not-false}
+use denote.Ref.{now}
+use Rattle.manual.specs.State.{State, lent}
+use Rattle.config.proofs.PartLaws.{row-within}
 use Rattle.one_event.specs.Steps.{Stepped}
 use borrow.Author.Needs.{needs}
+use Rattle.reporting.specs.Accepted.{flagged}
+use Rattle.reporting.proofs.TickLaws.{flagged-left}
 use Rattle.reporting.proofs.tick_event.Statement.{statement}
 use Rattle.reporting.proofs.tick_event.Tie as tie
 
+time-runs-requires : tie.Need-time-runs-requires
+time-runs-requires c κs =
+    let ready = c .before .before .before .pre .0 in
+    row-within _ _ (ready .event .configured) (ready .event .blocks .below)
+
 returns : tie.Need-returns
-returns c =
-    let c8 = c .before .before .before .before .before .before .before .before in
-    let time-runs = c8 .before .before .before .time-runs in
-    ap (λ (x : Stepped State). x .left) (c .before .before .before .before .before .before .ticks .ensures)
-    ∙ rw (← time-runs .ensures, c8 .before .before .if1 .taken)
+returns c = rw (← c .before .time-runs .ensures, not-true (c .before .time-runs .result) (c .if1 .taken))
 
 returns-2 : tie.Need-returns-2
-returns-2 c = rw (← c .before .time-runs .ensures, c .if1 .left)
+returns-2 c =
+    let c8 = c .before .before .before .before .before .before .before .before in
+    let time-runs = c8 .before .before .before .time-runs in
+    let a = c8 .before .before .before .before .before .before .before .args in
+    let s = lent (now (a .records)) (now (a .debounce)) (now (a .memory)) (flagged (a .board) (a .overflow)) in
+    let left = ap (λ (x : Stepped State). x .left) (c .before .before .before .before .before .ticks .ensures) in
+    rw (← time-runs .ensures, not-false (time-runs .result) (c8 .before .before .if1 .left))
+    (flagged-left _ s _ _ _ left)
 
 pub tick-event-spec : {M : Type 1} → statement M
 tick-event-spec =
     tie.close
     (tie.spec
-    (λ c κs. search needs) (λ c κs. search needs) (λ c. search needs) (λ c. search needs) (λ c. search needs)
+    time-runs-requires
     returns
+    (λ c κs. search needs) (λ c. search needs) (λ c. search needs) (λ c. search needs)
     returns-2)

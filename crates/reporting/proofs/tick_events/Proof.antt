@@ -8,22 +8,25 @@ use Rattle.manual.specs.Configuration.{events}
 use Rattle.manual.specs.State.{lent}
 use Rattle.manual.specs.Calls.{timeRuns, ticks}
 use Rattle.one_event.proofs.TurnsLaws.{no-turn, next-turn, last-turn}
+use Rattle.reporting.specs.Accepted.{flagged}
 use Rattle.reporting.proofs.TickLaws.{tickedBelow, turn-ready}
 use borrow.Author.Needs.{needs}
 use Rattle.reporting.proofs.tick_events.Statement.{statement}
 use Rattle.reporting.proofs.tick_events.Tie as tie
 
 abbrev Inv-loop : tie.InvT-loop
-Inv-loop cfg records₀ debounce₀ memory₀ board ms frame n after₀ event₀ records debounce memory after event =
+Inv-loop cfg records₀ debounce₀ memory₀ board ms frame n running overflow₀ event₀ records debounce memory overflow event =
     (event ≤ n) ×
-    (lent records debounce memory after ≡ tickedBelow cfg (lent records₀ debounce₀ memory₀ board) ms frame event)
+    (lent records debounce memory (flagged board overflow)
+    ≡ tickedBelow cfg (lent records₀ debounce₀ memory₀ board) ms frame event)
     × (length records ≡ length records₀) × (length debounce ≡ length debounce₀) × (length memory ≡ length memory₀)
 
 abbrev μ-loop : tie.MeasureT-loop
-μ-loop cfg records₀ debounce₀ memory₀ board ms frame n after₀ event₀ records debounce memory after event = n - event
+μ-loop cfg records₀ debounce₀ memory₀ board ms frame n running overflow₀ event₀ records debounce memory overflow event =
+    n - event
 
 loop-holds : tie.Need-loop-holds Inv-loop μ-loop
-loop-holds c = let a = c .before .before .before .before .args in (
+loop-holds c = let a = c .before .before .before .before .before .args in (
   omega arith,
   no-turn (timeRuns (now (a .cfg)) (a .board)) (ticks (now (a .cfg)) (a .ms) (now (a .frame))) _,
   refl,
@@ -34,14 +37,14 @@ loop-holds c = let a = c .before .before .before .before .args in (
 tick-event-requires : tie.Need-tick-event-requires Inv-loop μ-loop
 tick-event-requires c κs =
     let c8 = c .before .before .before .before .before .before .before .before in
-    let m = c8 .before .pre in
+    let m = c8 .before .before .pre in
     let loop = c .before .before .before .before .loop in
-    let cfg = c8 .before .args .cfg in
+    let cfg = c8 .before .before .args .cfg in
     let below : loop .event < events (now cfg) =
     omega (
       arith,
       c .before .before .before .loop-test .taken,
-      c .before .before .before .before .before .events .ensures,
+      c .before .before .before .before .before .before .events .ensures,
     ) in
     (turn-ready _ _ _ _ m (loop .event) below (loop .inv .1), (m .frame-fits, m .short))
 
@@ -50,7 +53,7 @@ loop-again c =
     let c8 = c .before .before .before .before .before .before .before .before in
     let loop = c8 .before .before .loop in
     let inv = loop .inv in
-    let a = c8 .before .before .before .before .before .before .before .args in
+    let a = c8 .before .before .before .before .before .before .before .before .args in
     let tick-event = c .before .before .before .before .before .tick-event in (
       omega arith,
       next-turn (timeRuns (now (a .cfg)) (a .board)) (ticks (now (a .cfg)) (a .ms) (now (a .frame))) (loop .event) _
@@ -62,8 +65,9 @@ loop-again c =
 
 returns : tie.Need-returns Inv-loop μ-loop
 returns c =
-    let a = c .before .before .before .before .before .before .args in
-    let all : c .before .loop .event ≡ events (now (a .cfg)) = omega (arith, c .before .before .events .ensures) in
+    let a = c .before .before .before .before .before .before .before .args in
+    let all : c .before .loop .event ≡ events (now (a .cfg)) =
+    omega (arith, c .before .before .before .events .ensures) in
     last-turn (timeRuns (now (a .cfg)) (a .board)) (ticks (now (a .cfg)) (a .ms) (now (a .frame))) (now (a .cfg))
     (c .before .loop .event) _ all (c .before .loop .inv .1)
 
