@@ -1,2 +1,3 @@
 pub mod ClearingLaws
+pub mod ClearAllLaws
 pub mod OneOutcomeOnly

@@ -9,15 +9,18 @@ use manual::Returned;
 ghost use mathlib.Core.Path.{_≡_};
 ghost use mathlib.Core.Bool.{true};
 ghost use mathlib.Core.List.{List, [], _∷_};
-ghost use Prim.Native.Nat.{ℕ, _<_};
+ghost use Prim.Native.Nat.{ℕ, _*_, _<_};
 ghost use lib.IntN.{ℤ};
-ghost use Rattle.manual.specs.Configuration.{Configuration, mostEvents, configOk};
-ghost use Rattle.manual.specs.State.{lent};
+ghost use lib.ListN.{length};
+ghost use Rattle.manual.specs.Words.{forBelow};
+ghost use Rattle.manual.specs.Configuration.{Configuration, mostEvents, events, configOk};
+ghost use Rattle.manual.specs.State.{recordWidth, lent};
 ghost use Rattle.manual.specs.WellFormed.{wellFormed};
 ghost use Rattle.manual.specs.Answers.{alone, _if_, firstThatApplies, ofAnswer, leaves};
 ghost use Rattle.manual.specs.Calls.{covers, unknownCode, overflowCleared, cleared, clearRules, clearCode};
 ghost use Rattle.judgement.specs.Checks.{checkNumber};
 ghost use Rattle.one_event.specs.Ready.{EventFits};
+ghost use Rattle.one_event.specs.Steps.{resetting};
 ghost use Rattle.clearing.specs.Covered.{clearsCovered};
 
 // "FFFFFFh for all"
@@ -81,8 +84,8 @@ fn overflow_cleared(board: Board, code: u32) -> Board
     }
 }
 
-// The work of a clear, once nothing refuses it; a diagnostic request does the same.
-pub fn clear_covered(
+// Event by event, each that the code covers.
+fn clear_each(
     cfg: &[i32],
     records: &mut [u8],
     debounce: &mut [i32],
@@ -100,6 +103,60 @@ pub fn clear_covered(
         clear_if_covered(cfg, records, debounce, memory, code, EventNumber(event));
     }
     overflow_cleared(board, code)
+}
+
+// "status 50h, K = h = g = D = 0", for every event.
+fn reset_all(cfg: &[i32], records: &mut [u8], debounce: &mut [i32])
+    requires { ⌜ (length (now records) ≡ recordWidth * events (now cfg)) × (length (now debounce) ≡ events (now cfg)) ⌝ }
+    ensures { λ _. ⌜ ((m : List ℕ) (b : Board)
+        → lent (now (records .exit)) (now (debounce .exit)) m b
+        ≡ forBelow (events (now (cfg .entry))) (resetting (now (cfg .entry)))
+        (lent (now (records .entry)) (now (debounce .entry)) m b)) ⌝ }
+{
+    let n = config::events(cfg);
+    for event in 0..n {
+        one_event::resets(records, debounce, EventNumber(event));
+    }
+}
+
+// "FFFFFFh for all": every entry is that of an event, so memory is empty after it. No entry is searched, no gap closed.
+fn clear_all(
+    cfg: &[i32],
+    records: &mut [u8],
+    debounce: &mut [i32],
+    memory: &mut [u8],
+    board: Board,
+) -> Board
+    requires { ⌜ (configOk (now cfg) ≡ true) ×
+        (wellFormed (now cfg) (lent (now records) (now debounce) (now memory) board) ≡ true) ⌝ }
+    ensures { λ r. ⌜ lent (now (records .exit)) (now (debounce .exit)) (now (memory .exit)) r
+        ≡ cleared (now (cfg .entry)) 0xFFFFFF
+        (lent (now (records .entry)) (now (debounce .entry)) (now (memory .entry)) board) ⌝ }
+{
+    fresh_state::zero_from(memory, 0);
+    reset_all(cfg, records, debounce);
+    overflow_cleared(board, FOR_ALL)
+}
+
+// The work of a clear, once nothing refuses it; a diagnostic request does the same.
+pub fn clear_covered(
+    cfg: &[i32],
+    records: &mut [u8],
+    debounce: &mut [i32],
+    memory: &mut [u8],
+    board: Board,
+    code: u32,
+) -> Board
+    requires { ⌜ (configOk (now cfg) ≡ true) ×
+        (wellFormed (now cfg) (lent (now records) (now debounce) (now memory) board) ≡ true) ⌝ }
+    ensures { λ r. ⌜ lent (now (records .exit)) (now (debounce .exit)) (now (memory .exit)) r
+        ≡ cleared (now (cfg .entry)) code
+        (lent (now (records .entry)) (now (debounce .entry)) (now (memory .entry)) board) ⌝ }
+{
+    if code == FOR_ALL {
+        return clear_all(cfg, records, debounce, memory, board);
+    }
+    clear_each(cfg, records, debounce, memory, board, code)
 }
 
 // ---- the call

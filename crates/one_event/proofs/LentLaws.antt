@@ -14,7 +14,8 @@ use Rattle.manual.specs.declared.StoreAnswer.{StoreAnswer}
 use Rattle.manual.specs.declared.StoreAnswer.the-variants.{Untold}
 use Rattle.manual.specs.declared.Verdict.{Verdict}
 use Rattle.manual.specs.Configuration.{Configuration, places, entryFrames, priorityOf, limitsOf}
-use Rattle.manual.specs.State.{State, recordWidth, Stored, opened, stored, storedAt, withStored, D, withD, lent}
+use Rattle.manual.specs.State.{State, recordWidth, Stored, opened, stored, storedAt, withStored, D, withD}
+use Rattle.manual.specs.State.{withMemory, lent}
 use Rattle.manual.specs.Memory.{entriesOf, memoryOf, without, isLost}
 use Rattle.manual.specs.OneEvent.{happens, entryLeaves, keeps, storedFor, memoryTold, fails, failsDid, stops, clears}
 use Rattle.manual.specs.Debouncing.{Debounced, reported}
@@ -32,7 +33,7 @@ use Rattle.status.specs.Records.{storedIs, recordIs, limits, FailedIs, RoomToRi
 use Rattle.status.proofs.RecordsLaws.{step-written, has-room}
 use Rattle.memory.specs.Store.{quietIn, Left, leftWith, stores}
 use Rattle.one_event.specs.Ready.{accepts, BlocksFit, EventFits, Ready}
-use Rattle.one_event.specs.Steps.{Stepped, stepped, tellsMemory, failing, qualifying}
+use Rattle.one_event.specs.Steps.{resetting, Stepped, stepped, tellsMemory, failing, qualifying}
 use Rattle.one_event.specs.Steps.{applying, reporting, ticking}
 
 -- ---- what the functions of the crates below ask
@@ -99,11 +100,20 @@ module _ (cfg : Configuration) (e : ℕ) (records : List ℕ) (debounce : List �
       ap (λ (x : List ℤ). lent records′ x memory′ b) d
       ∙ ap (withD e (pos 0)) (m records′ debounce b ∙ (λ i. cond (aged i) (entryLeaves cfg e (after i)) (after i)))
 
-  pub clears-is : (r : Record) → storedIs r ≡ stored freshRecord → records′ ≡ withStored e (storedIs r) records
+module _ (cfg : Configuration) (e : ℕ) (records : List ℕ) (debounce : List ℤ) {records′ : List ℕ} {debounce′ : List ℤ} where
+  pub resets-is : (r : Record) → storedIs r ≡ stored freshRecord → records′ ≡ withStored e (storedIs r) records
+      → debounce′ ≡ set debounce e (pos 0)
+      → (m : List ℕ) (b : Board) → lent records′ debounce′ m b ≡ resetting cfg e (lent records debounce m b)
+  unfolding happens
+  resets-is r p w d m b = λ i. lent ((w ∙ ap (λ (x : Stored). withStored e x records) p) i) (d i) m b
+
+  pub clears-is : (memory : List ℕ) {memory′ : List ℕ}
+      → ((m : List ℕ) (b : Board) → lent records′ debounce′ m b ≡ resetting cfg e (lent records debounce m b))
       → memory′ ≡ forgotten cfg e memory
       → (b : Board) → lent records′ debounce′ memory′ b ≡ clears cfg e (lent records debounce memory b)
   unfolding clears happens entryLeaves
-  clears-is r p w m b = λ i. lent ((w ∙ ap (λ (x : Stored). withStored e x records) p) i) (d i) (m i) b
+  clears-is memory r m b =
+      ap (λ (l : List ℕ). lent records′ debounce′ l b) m ∙ ap (withMemory (forgotten cfg e memory)) (r memory b)
 
 -- ---- a failed result
 

@@ -1,13 +1,15 @@
 -- What each step of "Status byte" and "Memory" on one event leaves, and what memory did at it. Assumes nothing.
 use mathlib.Core.List.{List}
 use Prim.Native.Nat.{ℕ}
+use lib.IntN.{pos}
+use Rattle.history.specs.History.{clear}
 use Rattle.manual.specs.declared.StoreAnswer.{StoreAnswer}
 use Rattle.manual.specs.declared.Verdict.{Verdict}
 use Rattle.manual.specs.Configuration.{Configuration}
-use Rattle.manual.specs.State.{State}
+use Rattle.manual.specs.State.{State, withD}
 use Rattle.manual.specs.Answers.{Outcome, alone}
 use Rattle.manual.specs.Debouncing.{Debounced}
-use Rattle.manual.specs.OneEvent.{storedFor, memoryTold, fails, failsDid, qualifies, qualifiesDid}
+use Rattle.manual.specs.OneEvent.{happens, storedFor, memoryTold, fails, failsDid, qualifies, qualifiesDid}
 use Rattle.manual.specs.Calls.{applied, appliedDid, reportDone, reportDid, ticks, ticksDid}
 
 -- what a step on one event leaves (a state, or a report's outcome), and what memory did at it
@@ -17,6 +19,10 @@ pub record Stepped (A : Type 0) : Type 0 where
 
 abbrev pub stepped : {A : Type 0} → A → StoreAnswer → Stepped A
 stepped x did = record { left = x; did = did }
+
+-- "status 50h, K = h = g = D = 0": what a clear does to event e beside memory
+abbrev pub resetting : Configuration → ℕ → State → State
+resetting cfg e s = withD e (pos 0) (happens cfg clear e s)
 
 module _ (cfg : Configuration) (frame : List ℕ) (e : ℕ) where
   -- "Fresh failure of e with the lent frame"

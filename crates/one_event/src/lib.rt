@@ -18,7 +18,8 @@ ghost use Rattle.debounce.specs.Rows.{answered};
 ghost use Rattle.memory.specs.InOrder.{InOrder};
 ghost use Rattle.memory.specs.Store.{MayStore};
 ghost use Rattle.one_event.specs.Ready.{accepts, BlocksFit, EventFits, Ready};
-ghost use Rattle.one_event.specs.Steps.{stepped, tellsMemory, failing, qualifying, applying, reporting, ticking};
+ghost use Rattle.one_event.specs.Steps.{resetting, stepped, tellsMemory, failing, qualifying};
+ghost use Rattle.one_event.specs.Steps.{applying, reporting, ticking};
 
 // "Start of a stopped cycle: for its events clears 1, sets 6."
 pub fn starts(records: &mut [u8], event: EventNumber)
@@ -83,6 +84,17 @@ pub fn stops(
     reset_number(debounce, event);
 }
 
+// "status 50h, K = h = g = D = 0": what a clear does to the event beside memory.
+pub fn resets(records: &mut [u8], debounce: &mut [i32], event: EventNumber)
+    requires { ⌜ (recordWidth * event .0 + recordWidth ≤ length (now records)) × (event .0 < length (now debounce)) ⌝ }
+    ensures { λ _. ⌜ ((cfg : Configuration) (m : List ℕ) (b : Board)
+        → lent (now (records .exit)) (now (debounce .exit)) m b
+        ≡ resetting cfg (event .0) (lent (now (records .entry)) (now (debounce .entry)) m b)) ⌝ }
+{
+    status::write_record(records, event, status::fresh_record());
+    reset_number(debounce, event);
+}
+
 // "each covered event gets status 50h, K = h = g = D = 0, its entry leaves"
 pub fn clears(
     cfg: &[i32],
@@ -97,9 +109,8 @@ pub fn clears(
         ≡ clears (now (cfg .entry)) (event .0)
         (lent (now (records .entry)) (now (debounce .entry)) (now (memory .entry)) b)) ⌝ }
 {
-    status::write_record(records, event, status::fresh_record());
+    resets(records, debounce, event);
     memory::forget(cfg, memory, event);
-    reset_number(debounce, event);
 }
 
 // Whether a fresh failure was "not stored".
@@ -231,6 +242,37 @@ pub fn applies(
     qualifies(cfg, records, memory, board, event, frame, verdict)
 }
 
+// The same, and no call of it where there is no verdict, as for most events of a tick.
+fn moves(
+    cfg: &[i32],
+    records: &mut [u8],
+    debounce: &mut [i32],
+    memory: &mut [u8],
+    board: Board,
+    event: EventNumber,
+    frame: &[u8],
+    d: debounce::Debounced,
+) -> Part
+    requires { ⌜ (EventFits (now cfg) (now records) (now debounce) (now memory) (event .0)) ×
+        (length (now frame) ≡ frameBytes (now cfg)) ⌝ }
+    ensures { λ r. ⌜ stepped (lent (now (records .exit)) (now (debounce .exit)) (now (memory .exit)) (r .board))
+        (r .did)
+        ≡ applying (now (cfg .entry)) (now (frame .entry)) (event .0) (answered d)
+        (lent (now (records .entry)) (now (debounce .entry)) (now (memory .entry)) board) ⌝ }
+{
+    let verdict = d.verdict;
+    match verdict {
+        Verdict::None => {
+            status::write_number(debounce, event, d.number);
+            Part {
+                board,
+                did: StoreAnswer::Untold,
+            }
+        }
+        _ => applies(cfg, records, debounce, memory, board, event, frame, d),
+    }
+}
+
 // The same of a report, with its verdict.
 pub struct Reported {
     pub verdict: Verdict,
@@ -290,5 +332,5 @@ pub fn ticks(
 {
     let row = debounce::row_of(config::part_of(cfg, event), EventNumber(0));
     let d = debounce::tick_step(row, ms, status::read_number(debounce, event));
-    applies(cfg, records, debounce, memory, board, event, frame, d)
+    moves(cfg, records, debounce, memory, board, event, frame, d)
 }

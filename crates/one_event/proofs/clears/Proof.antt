@@ -7,18 +7,14 @@ use Rattle.one_event.proofs.clears.Tie as tie
 
 returns : tie.Need-returns
 returns c =
-    let c8 = c .before .before .before .before .before .before .before .before in
-    let a = c8 .before .before .before .before .before .before .args in
-    let fresh-record = c8 .before .before .fresh-record in
+    let c7 = c .before .before .before .before .before .before .before in
+    let a = c7 .before .before .before .before .before .args in
     clears-is (now (a .cfg)) (a .event .0) (now (a .records)) (now (a .debounce)) (now (a .memory))
-    (c .before .reset-number .ensures)
-    (fresh-record .result) (fresh-record .ensures) (c8 .before .write-record .ensures)
-    (c .before .before .before .before .before .forget .ensures)
+    (c7 .resets .ensures (now (a .cfg))) (c .before .before .forget .ensures)
 
 pub clears-spec : {M : Type 1} → statement M
 clears-spec =
     tie.close
     (tie.spec
-    (λ c κs. search needs) (λ c κs. search needs) (λ c κs. search needs) (λ c κs. search needs) (λ c. search needs)
-    (λ c. search needs) (λ c. search needs)
+    (λ c κs. search needs) (λ c κs. search needs) (λ c. search needs) (λ c. search needs) (λ c. search needs)
     returns)

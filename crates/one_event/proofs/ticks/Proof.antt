@@ -43,7 +43,7 @@ returns c =
     ticks-is (now (a .cfg)) (a .event .0) (lent (now (a .records)) (now (a .debounce)) (now (a .memory)) (a .board))
     (now (a .frame)) (c12 .row-of .result)
     (row c12) (held (read-number .ensures) (read-number .ok)) (answered (tick-step .result))
-    (c .before .before .before .before .before .applies .ensures) (a .ms) (tick-step .ensures)
+    (c .before .before .before .before .before .moves .ensures) (a .ms) (tick-step .ensures)
 
 pub ticks-spec : {M : Type 1} → statement M
 ticks-spec =
