@@ -120,6 +120,10 @@ module _ (cfg : Configuration) (s : State) (formed : wellFormed cfg s ≡ true) 
   pub blocks-fit : (length (s .records) ≡ recordWidth * events cfg) × (length (s .debounce) ≡ events cfg)
   blocks-fit = (good .sized .records, good .sized .debounce)
 
+  -- there is a byte for the number of entries
+  pub counted : 1 ≤ length (s .memory)
+  counted = omega (arith, state-tells cfg s formed .lengths .memory)
+
   pub all-cleared : {r : List ℕ} {d : List ℤ} {m : List ℕ} {t : State} → m ≡ filledFrom 0 0 (s .memory)
       →
       ((m : List ℕ) (b : Board)

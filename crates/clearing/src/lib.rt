@@ -107,7 +107,8 @@ fn clear_each(
 
 // "status 50h, K = h = g = D = 0", for every event.
 fn reset_all(cfg: &[i32], records: &mut [u8], debounce: &mut [i32])
-    requires { ⌜ (length (now records) ≡ recordWidth * events (now cfg)) × (length (now debounce) ≡ events (now cfg)) ⌝ }
+    requires { ⌜ (length (now records) ≡ recordWidth * events (now cfg)) ×
+        (length (now debounce) ≡ events (now cfg)) ⌝ }
     ensures { λ _. ⌜ ((m : List ℕ) (b : Board)
         → lent (now (records .exit)) (now (debounce .exit)) m b
         ≡ forBelow (events (now (cfg .entry))) (resetting (now (cfg .entry)))

@@ -100,7 +100,8 @@ module _ (cfg : Configuration) (e : ℕ) (records : List ℕ) (debounce : List �
       ap (λ (x : List ℤ). lent records′ x memory′ b) d
       ∙ ap (withD e (pos 0)) (m records′ debounce b ∙ (λ i. cond (aged i) (entryLeaves cfg e (after i)) (after i)))
 
-module _ (cfg : Configuration) (e : ℕ) (records : List ℕ) (debounce : List ℤ) {records′ : List ℕ} {debounce′ : List ℤ} where
+module _ (cfg : Configuration) (e : ℕ) (records : List ℕ) (debounce : List ℤ) {records′ : List ℕ}
+    {debounce′ : List ℤ} where
   pub resets-is : (r : Record) → storedIs r ≡ stored freshRecord → records′ ≡ withStored e (storedIs r) records
       → debounce′ ≡ set debounce e (pos 0)
       → (m : List ℕ) (b : Board) → lent records′ debounce′ m b ≡ resetting cfg e (lent records debounce m b)

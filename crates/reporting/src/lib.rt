@@ -237,7 +237,8 @@ fn tick_event(
     ms: u32,
     frame: &[u8],
 ) -> bool
-    requires { ⌜ (Ready (now cfg) (lent (now records) (now debounce) (now memory) (flagged board overflow)) (event .0)) ×
+    requires { ⌜ (Ready (now cfg) (lent (now records) (now debounce) (now memory) (flagged board overflow))
+        (event .0)) ×
         ((length (now frame) ≡ frameBytes (now cfg)) × (ms ≤ 60000)) ⌝ }
     ensures { λ r. ⌜ lent (now (records .exit)) (now (debounce .exit)) (now (memory .exit)) (flagged board r)
         ≡ cond (timeRuns (now (cfg .entry)) board (event .0))

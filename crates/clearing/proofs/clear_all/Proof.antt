@@ -1,9 +1,20 @@
+use native.Mathlib.Omega.{arith}
 use denote.Ref.{now}
 use Rattle.manual.specs.State.{lent}
-use Rattle.clearing.proofs.ClearAllLaws.{blocks-fit, all-cleared}
+use Rattle.clearing.proofs.ClearAllLaws.{blocks-fit, counted, all-cleared}
 use borrow.Author.Needs.{needs}
 use Rattle.clearing.proofs.clear_all.Statement.{statement}
 use Rattle.clearing.proofs.clear_all.Tie as tie
+
+-- by a block of one byte at least, so that an edit of the place fails at what it leaves
+zero-from-requires : tie.Need-zero-from-requires
+zero-from-requires c κs =
+    let a = c .before .before .before .args in
+    omega (
+      arith,
+      counted (now (a .cfg)) (lent (now (a .records)) (now (a .debounce)) (now (a .memory)) (a .board))
+          (c .before .before .before .pre .1),
+    )
 
 reset-all-requires : tie.Need-reset-all-requires
 reset-all-requires c κs =
@@ -24,7 +35,7 @@ pub clear-all-spec : {M : Type 1} → statement M
 clear-all-spec =
     tie.close
     (tie.spec
-    (λ c κs. search needs)
+    zero-from-requires
     reset-all-requires
     (λ c κs. search needs) (λ c. search needs) (λ c. search needs) (λ c. search needs)
     returns)

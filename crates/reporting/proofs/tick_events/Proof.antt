@@ -15,14 +15,14 @@ use Rattle.reporting.proofs.tick_events.Statement.{statement}
 use Rattle.reporting.proofs.tick_events.Tie as tie
 
 abbrev Inv-loop : tie.InvT-loop
-Inv-loop cfg records₀ debounce₀ memory₀ board ms frame n running overflow₀ event₀ records debounce memory overflow event =
+Inv-loop cfg records₀ debounce₀ memory₀ board ms frame n running flag₀ event₀ records debounce memory flag event =
     (event ≤ n) ×
-    (lent records debounce memory (flagged board overflow)
+    (lent records debounce memory (flagged board flag)
     ≡ tickedBelow cfg (lent records₀ debounce₀ memory₀ board) ms frame event)
     × (length records ≡ length records₀) × (length debounce ≡ length debounce₀) × (length memory ≡ length memory₀)
 
 abbrev μ-loop : tie.MeasureT-loop
-μ-loop cfg records₀ debounce₀ memory₀ board ms frame n running overflow₀ event₀ records debounce memory overflow event =
+μ-loop cfg records₀ debounce₀ memory₀ board ms frame n running flag₀ event₀ records debounce memory flag event =
     n - event
 
 loop-holds : tie.Need-loop-holds Inv-loop μ-loop
