@@ -15,12 +15,13 @@ use Rattle.manual.specs.declared.StoreAnswer.the-variants.{Untold}
 use Rattle.manual.specs.declared.Verdict.{Verdict}
 use Rattle.manual.specs.Configuration.{Configuration, places, entryFrames, priorityOf, limitsOf}
 use Rattle.manual.specs.State.{State, recordWidth, Stored, opened, stored, storedAt, withStored, D, withD}
-use Rattle.manual.specs.State.{withMemory, lent}
+use Rattle.manual.specs.State.{withMemory, withBoard, lent}
 use Rattle.manual.specs.Memory.{entriesOf, memoryOf, without, isLost}
 use Rattle.manual.specs.OneEvent.{happens, entryLeaves, keeps, storedFor, memoryTold, fails, failsDid, stops, clears}
 use Rattle.manual.specs.Debouncing.{Debounced, reported}
 use Rattle.manual.specs.Calls.{applied, appliedDid}
 use Rattle.manual.proofs.ConfigurationLaws.{config-tells}
+use Rattle.manual.proofs.OneEventLaws.{applied-running}
 use Rattle.config.specs.declared.Limits.{Limits}
 use Rattle.config.specs.Rows.{limitsIs}
 use Rattle.debounce.specs.declared.Row.{Row}
@@ -32,7 +33,7 @@ use Rattle.status.specs.declared.AfterStop.{AfterStop}
 use Rattle.status.specs.Records.{storedIs, recordIs, limits, FailedIs, RoomToRise, StoppedIs}
 use Rattle.status.proofs.RecordsLaws.{step-written, has-room}
 use Rattle.memory.specs.Store.{quietIn, Left, leftWith, stores}
-use Rattle.one_event.specs.Ready.{accepts, BlocksFit, EventFits, Ready}
+use Rattle.one_event.specs.Ready.{flagged, accepts, BlocksFit, EventFits, Ready}
 use Rattle.one_event.specs.Steps.{resetting, Stepped, stepped, tellsMemory, failing, qualifying}
 use Rattle.one_event.specs.Steps.{applying, reporting, ticking}
 
@@ -190,6 +191,15 @@ module _ (cfg : Configuration) (e : ℕ) (frame records memory : List ℕ) (boar
     unfolding applied appliedDid
     applied-is debounce {debounce′} x p q =
         q debounce′ ∙ ap (λ (l : List ℤ). qualifying cfg frame e (x .verdict) (lent records l memory board)) p
+
+-- no verdict starts or stops a cycle
+pub flagged-left : (cfg : Configuration) (e : ℕ) (frame : List ℕ) (x : Debounced) (s : State) {t : State}
+    {did : StoreAnswer} → stepped t did ≡ applying cfg frame e x s
+    → stepped (withBoard (flagged (s .board) (t .board .overflow)) t) did ≡ applying cfg frame e x s
+flagged-left cfg e frame x s {t} {did} p =
+    let same : t .board .running ≡ s .board .running =
+    ap (λ (y : Stepped State). y .left .board .running) p ∙ applied-running cfg frame e x s in
+    (λ i. stepped (withBoard (record { running = sym same i; overflow = t .board .overflow }) t) did) ∙ p
 
 module _ (cfg : Configuration) (e : ℕ) (s : State) where
   module _ (f : Ready cfg s e) (row : Row) (o : RowOf cfg e row) {n : ℤ} (p : n ≡ D s e) where

@@ -1,16 +1,21 @@
 -- What a step on one event may count on, and what an accepted report leaves. Assumes nothing.
 use mathlib.Core.Path.{_≡_}
-use mathlib.Core.Bool.{true}
+use mathlib.Core.Bool.{Bool, true}
 use mathlib.Core.List.{List, []}
 use Prim.Native.Nat.{ℕ, _*_, _<_}
 use lib.IntN.{ℤ}
 use lib.ListN.{length}
+use Rattle.manual.specs.declared.Board.{Board}
 use Rattle.manual.specs.declared.Verdict.{Verdict}
 use Rattle.manual.specs.Configuration.{Configuration, events, places, entryFrames, configOk}
 use Rattle.manual.specs.State.{State, recordWidth, opened, storedAt, D}
 use Rattle.manual.specs.WellFormed.{recordOk, DOk}
 use Rattle.manual.specs.Answers.{Outcome, alone}
 use Rattle.memory.specs.InOrder.{InOrder}
+
+-- the board on the way through the events: the cycles that ran at the call's start, the overflow flag so far
+abbrev pub flagged : Board → Bool → Board
+flagged b overflow = record { running = b .running; overflow = overflow }
 
 -- an accepted report's verdict, and the state that it leaves, as the manual has them
 abbrev pub accepts : Verdict → State → Outcome

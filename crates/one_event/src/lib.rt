@@ -17,7 +17,7 @@ ghost use Rattle.manual.specs.OneEvent.{happens, entryLeaves, stops, clears};
 ghost use Rattle.debounce.specs.Rows.{answered};
 ghost use Rattle.memory.specs.InOrder.{InOrder};
 ghost use Rattle.memory.specs.Store.{MayStore};
-ghost use Rattle.one_event.specs.Ready.{accepts, BlocksFit, EventFits, Ready};
+ghost use Rattle.one_event.specs.Ready.{flagged, accepts, BlocksFit, EventFits, Ready};
 ghost use Rattle.one_event.specs.Steps.{resetting, stepped, tellsMemory, failing, qualifying};
 ghost use Rattle.one_event.specs.Steps.{applying, reporting, ticking};
 
@@ -242,37 +242,6 @@ pub fn applies(
     qualifies(cfg, records, memory, board, event, frame, verdict)
 }
 
-// The same, and no call of it where there is no verdict, as for most events of a tick.
-fn moves(
-    cfg: &[i32],
-    records: &mut [u8],
-    debounce: &mut [i32],
-    memory: &mut [u8],
-    board: Board,
-    event: EventNumber,
-    frame: &[u8],
-    d: debounce::Debounced,
-) -> Part
-    requires { ⌜ (EventFits (now cfg) (now records) (now debounce) (now memory) (event .0)) ×
-        (length (now frame) ≡ frameBytes (now cfg)) ⌝ }
-    ensures { λ r. ⌜ stepped (lent (now (records .exit)) (now (debounce .exit)) (now (memory .exit)) (r .board))
-        (r .did)
-        ≡ applying (now (cfg .entry)) (now (frame .entry)) (event .0) (answered d)
-        (lent (now (records .entry)) (now (debounce .entry)) (now (memory .entry)) board) ⌝ }
-{
-    let verdict = d.verdict;
-    match verdict {
-        Verdict::None => {
-            status::write_number(debounce, event, d.number);
-            Part {
-                board,
-                did: StoreAnswer::Untold,
-            }
-        }
-        _ => applies(cfg, records, debounce, memory, board, event, frame, d),
-    }
-}
-
 // The same of a report, with its verdict.
 pub struct Reported {
     pub verdict: Verdict,
@@ -312,6 +281,55 @@ pub fn reports(
     }
 }
 
+// What an event's part of a tick leaves beside the lent blocks: the overflow flag, and what memory did.
+pub struct TickPart {
+    pub overflow: bool,
+    pub did: StoreAnswer,
+}
+
+// As `applies`, on the cycles that run and the overflow flag so far. Most events of a tick have no verdict: for them no
+// board is made.
+fn moves(
+    cfg: &[i32],
+    records: &mut [u8],
+    debounce: &mut [i32],
+    memory: &mut [u8],
+    board: Board,
+    overflow: bool,
+    event: EventNumber,
+    frame: &[u8],
+    d: debounce::Debounced,
+) -> TickPart
+    requires { ⌜ (EventFits (now cfg) (now records) (now debounce) (now memory) (event .0)) ×
+        (length (now frame) ≡ frameBytes (now cfg)) ⌝ }
+    ensures { λ r. ⌜ stepped
+        (lent (now (records .exit)) (now (debounce .exit)) (now (memory .exit)) (flagged board (r .overflow)))
+        (r .did)
+        ≡ applying (now (cfg .entry)) (now (frame .entry)) (event .0) (answered d)
+        (lent (now (records .entry)) (now (debounce .entry)) (now (memory .entry)) (flagged board overflow)) ⌝ }
+{
+    let verdict = d.verdict;
+    match verdict {
+        Verdict::None => {
+            status::write_number(debounce, event, d.number);
+            TickPart {
+                overflow,
+                did: StoreAnswer::Untold,
+            }
+        }
+        _ => {
+            let running = board.running;
+            let so_far = Board { running, overflow };
+            let part = applies(cfg, records, debounce, memory, so_far, event, frame, d);
+            let did = part.did;
+            TickPart {
+                overflow: part.board.overflow,
+                did,
+            }
+        }
+    }
+}
+
 // "Tick of d ms", for an event of kind 2 whose cycle runs: "Every event so qualified takes the lent frame."
 pub fn ticks(
     cfg: &[i32],
@@ -319,18 +337,31 @@ pub fn ticks(
     debounce: &mut [i32],
     memory: &mut [u8],
     board: Board,
+    overflow: bool,
     event: EventNumber,
     ms: u32,
     frame: &[u8],
-) -> Part
-    requires { ⌜ (Ready (now cfg) (lent (now records) (now debounce) (now memory) board) (event .0)) ×
+) -> TickPart
+    requires { ⌜ (Ready (now cfg) (lent (now records) (now debounce) (now memory) (flagged board overflow))
+        (event .0)) ×
         ((length (now frame) ≡ frameBytes (now cfg)) × (ms ≤ 60000)) ⌝ }
-    ensures { λ r. ⌜ stepped (lent (now (records .exit)) (now (debounce .exit)) (now (memory .exit)) (r .board))
+    ensures { λ r. ⌜ stepped
+        (lent (now (records .exit)) (now (debounce .exit)) (now (memory .exit)) (flagged board (r .overflow)))
         (r .did)
         ≡ ticking (now (cfg .entry)) (now (frame .entry)) (event .0) ms
-        (lent (now (records .entry)) (now (debounce .entry)) (now (memory .entry)) board) ⌝ }
+        (lent (now (records .entry)) (now (debounce .entry)) (now (memory .entry)) (flagged board overflow)) ⌝ }
 {
     let row = debounce::row_of(config::part_of(cfg, event), EventNumber(0));
     let d = debounce::tick_step(row, ms, status::read_number(debounce, event));
-    moves(cfg, records, debounce, memory, board, event, frame, d)
+    moves(
+        cfg,
+        records,
+        debounce,
+        memory,
+        board,
+        overflow,
+        event,
+        frame,
+        d,
+    )
 }

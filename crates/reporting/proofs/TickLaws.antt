@@ -1,5 +1,5 @@
 -- What an accepted tick finds, at its start and at each event.
-use mathlib.Core.Path.{_≡_, refl, sym, ap, _∙_}
+use mathlib.Core.Path.{_≡_, refl, ap, _∙_}
 use mathlib.Core.Logic.{_≢_}
 use mathlib.Core.Bool.{Bool, false}
 use mathlib.Core.List.{List}
@@ -9,18 +9,17 @@ use borrow.Author.Tests.{eqb-true, eq-eqb, ne-eqb, ltb-false, not-false}
 use Rattle.manual.specs.declared.Board.{Board}
 use Rattle.manual.specs.Words.{natOf, forBelow}
 use Rattle.manual.specs.Configuration.{Configuration, events, kindOf}
-use Rattle.manual.specs.State.{State, runs, withBoard}
+use Rattle.manual.specs.State.{State, runs}
 use Rattle.manual.specs.Answers.{firstThatApplies}
 use Rattle.manual.specs.Calls.{cycleRuns, tickRules, timeRuns, ticks}
 use Rattle.manual.proofs.AnswersLaws.{none-applies}
 use Rattle.manual.proofs.ConfigurationLaws.{config-tells}
-use Rattle.manual.proofs.OneEventLaws.{applied-running}
 use Rattle.manual.proofs.StaysWellFormed.{ticks-keep}
 use Rattle.config.specs.Rows.{partOf}
 use Rattle.config.proofs.PartLaws.{column-is}
 use Rattle.one_event.specs.Ready.{Ready}
 use Rattle.one_event.proofs.TurnsLaws.{turn, ready-at-turn}
-use Rattle.reporting.specs.Accepted.{MayTick, flagged}
+use Rattle.reporting.specs.Accepted.{MayTick}
 
 module _ (cfg : Configuration) (s : State) (ms : ℕ) (frame : List ℕ) where
   pub may-tick : firstThatApplies (tickRules cfg ms frame s) ≡ 0 → MayTick cfg s ms frame
@@ -40,14 +39,6 @@ module _ (cfg : Configuration) (s : State) (ms : ℕ) (frame : List ℕ) where
   turn-ready m i h p =
       ready-at-turn (timeRuns cfg (s .board)) (ticks cfg ms frame) cfg s
       (ticks-keep cfg (config-tells cfg (m .configured)) ms frame (m .frame-fits) s) (m .configured) (m .formed) i h p
-
-  -- what an event's part of the tick leaves, with the cycles that ran before it: none was started or stopped
-  pub flagged-left : (e : ℕ) {t : State} → t ≡ ticks cfg ms frame e s
-      → withBoard (flagged (s .board) (t .board .overflow)) t ≡ ticks cfg ms frame e s
-  flagged-left e {t} p =
-      let same : t .board .running ≡ s .board .running =
-      ap (λ (u : State). u .board .running) p ∙ applied-running cfg frame e _ s in
-      (λ i. withBoard (record { running = sym same i; overflow = t .board .overflow }) t) ∙ p
 
 -- "only kind 2 with its cycle running", by the event's part
 module _ (cfg : Configuration) (board : Board) (e : ℕ) {part : Configuration} (p : part ≡ partOf cfg e) {kind : ℕ}

@@ -1,10 +1,9 @@
--- What an accepted tick may count on, and the board on its way through the events. Assumes nothing.
+-- What an accepted tick may count on. Assumes nothing.
 use mathlib.Core.Path.{_≡_}
-use mathlib.Core.Bool.{Bool, true}
+use mathlib.Core.Bool.{true}
 use mathlib.Core.List.{List}
 use Prim.Native.Nat.{ℕ, _≤_}
 use lib.ListN.{length}
-use Rattle.manual.specs.declared.Board.{Board}
 use Rattle.manual.specs.Configuration.{Configuration, frameBytes, configOk}
 use Rattle.manual.specs.State.{State}
 use Rattle.manual.specs.WellFormed.{wellFormed}
@@ -15,7 +14,3 @@ pub record MayTick (cfg : Configuration) (s : State) (ms : ℕ) (frame : List �
   pub formed : wellFormed cfg s ≡ true
   pub short : ms ≤ 60000
   pub frame-fits : length frame ≡ frameBytes cfg
-
--- the board on the way through the events: the cycles that ran at the tick's start, the overflow flag so far
-abbrev pub flagged : Board → Bool → Board
-flagged b overflow = record { running = b .running; overflow = overflow }

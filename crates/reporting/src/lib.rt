@@ -22,8 +22,8 @@ ghost use Rattle.manual.specs.Calls.{wrongFrame, cycleRuns, reportRules, report
 ghost use Rattle.manual.specs.Calls.{report, tickRules, timeRuns, ticks, tick};
 ghost use Rattle.config.specs.Rows.{RowWithin};
 ghost use Rattle.judgement.specs.Checks.{checkNumber};
-ghost use Rattle.one_event.specs.Ready.{Ready};
-ghost use Rattle.reporting.specs.Accepted.{MayTick, flagged};
+ghost use Rattle.one_event.specs.Ready.{flagged, Ready};
+ghost use Rattle.reporting.specs.Accepted.{MayTick};
 ghost use Rattle.reporting.specs.Tests.{rowTests, reportTests, tickTests};
 
 // "Tick of d ms (0 to 60,000)"
@@ -212,7 +212,7 @@ fn judge_tick(
     }
 }
 
-// "only kind 2 with its cycle running": the kind is asked first, since most events of a panel are not of kind 2.
+// "only kind 2 with its cycle running": the cycle is read for kind 2 alone.
 fn time_runs(cfg: &[i32], board: Board, event: EventNumber) -> bool
     requires { ⌜ RowWithin (now cfg) (event .0) ⌝ }
     ensures { λ r. ⌜ r ≡ timeRuns (now (cfg .entry)) board (event .0) ⌝ }
@@ -249,10 +249,18 @@ fn tick_event(
     if !time_runs(cfg, board, event) {
         return overflow;
     }
-    let running = board.running;
-    let so_far = Board { running, overflow };
-    let part = one_event::ticks(cfg, records, debounce, memory, so_far, event, ms, frame);
-    part.board.overflow
+    let part = one_event::ticks(
+        cfg,
+        records,
+        debounce,
+        memory,
+        board,
+        overflow,
+        event,
+        ms,
+        frame,
+    );
+    part.overflow
 }
 
 // "events in rising number"

@@ -6,6 +6,7 @@ use Rattle.debounce.specs.Rows.{RowOf, answered}
 use Rattle.debounce.proofs.SmallNumbersLaws.{held}
 use Rattle.debounce.proofs.RowOfPart.{row-is}
 use Rattle.manual.specs.State.{lent}
+use Rattle.one_event.specs.Ready.{flagged}
 use Rattle.one_event.proofs.LentLaws.{may-tick, ticks-is}
 use borrow.Author.Needs.{needs}
 use Rattle.one_event.proofs.ticks.Statement.{statement}
@@ -29,7 +30,8 @@ tick-step-requires c κs =
     let c7 = c .before .before .before .before .before .before .before in
     let a = c7 .args in
     let read-number = c .read-number in
-    may-tick (now (a .cfg)) (a .event .0) (lent (now (a .records)) (now (a .debounce)) (now (a .memory)) (a .board))
+    may-tick (now (a .cfg)) (a .event .0)
+    (lent (now (a .records)) (now (a .debounce)) (now (a .memory)) (flagged (a .board) (a .overflow)))
     (c7 .pre .0) (c .before .before .row-of .result)
     (row (c .before .before)) (held (read-number .ensures) (read-number .ok)) (a .ms) (c7 .pre .1 .1)
 
@@ -40,7 +42,8 @@ returns c =
     let a = c12 .before .before .before .before .before .args in
     let read-number = c8 .before .before .read-number in
     let tick-step = c8 .before .tick-step in
-    ticks-is (now (a .cfg)) (a .event .0) (lent (now (a .records)) (now (a .debounce)) (now (a .memory)) (a .board))
+    ticks-is (now (a .cfg)) (a .event .0)
+    (lent (now (a .records)) (now (a .debounce)) (now (a .memory)) (flagged (a .board) (a .overflow)))
     (now (a .frame)) (c12 .row-of .result)
     (row c12) (held (read-number .ensures) (read-number .ok)) (answered (tick-step .result))
     (c .before .before .before .before .before .moves .ensures) (a .ms) (tick-step .ensures)

@@ -1,13 +1,10 @@
 -- `tick_event` meets its contract.
-use mathlib.Core.Path.{ap, _∙_}
+use mathlib.Core.Path.{ap}
 use borrow.Author.Tests.{not-true, not-false}
-use denote.Ref.{now}
-use Rattle.manual.specs.State.{State, lent}
+use Rattle.manual.specs.State.{State}
 use Rattle.config.proofs.PartLaws.{row-within}
 use Rattle.one_event.specs.Steps.{Stepped}
 use borrow.Author.Needs.{needs}
-use Rattle.reporting.specs.Accepted.{flagged}
-use Rattle.reporting.proofs.TickLaws.{flagged-left}
 use Rattle.reporting.proofs.tick_event.Statement.{statement}
 use Rattle.reporting.proofs.tick_event.Tie as tie
 
@@ -22,12 +19,9 @@ returns c = rw (← c .before .time-runs .ensures, not-true (c .before .time-run
 returns-2 : tie.Need-returns-2
 returns-2 c =
     let c8 = c .before .before .before .before .before .before .before .before in
-    let time-runs = c8 .before .before .before .time-runs in
-    let a = c8 .before .before .before .before .before .before .before .args in
-    let s = lent (now (a .records)) (now (a .debounce)) (now (a .memory)) (flagged (a .board) (a .overflow)) in
+    let time-runs = c8 .before .before .time-runs in
     let left = ap (λ (x : Stepped State). x .left) (c .before .before .before .before .before .ticks .ensures) in
-    rw (← time-runs .ensures, not-false (time-runs .result) (c8 .before .before .if1 .left))
-    (flagged-left _ s _ _ _ left)
+    rw (← time-runs .ensures, not-false (time-runs .result) (c8 .before .if1 .left)) left
 
 pub tick-event-spec : {M : Type 1} → statement M
 tick-event-spec =

@@ -7,8 +7,8 @@ use lib.ListN.{length}
 use Rattle.manual.specs.Configuration.{events}
 use Rattle.manual.specs.State.{lent}
 use Rattle.manual.specs.Calls.{timeRuns, ticks}
+use Rattle.one_event.specs.Ready.{flagged}
 use Rattle.one_event.proofs.TurnsLaws.{no-turn, next-turn, last-turn}
-use Rattle.reporting.specs.Accepted.{flagged}
 use Rattle.reporting.proofs.TickLaws.{tickedBelow, turn-ready}
 use borrow.Author.Needs.{needs}
 use Rattle.reporting.proofs.tick_events.Statement.{statement}
