@@ -9,7 +9,7 @@ use lib.IntN.{ℤ, pos, _+ℤ_, _-ℤ_}
 use lib.Signed.{leZ, ltZ}
 use borrow.Author.Tests.{eqb-true}
 use Rattle.manual.specs.declared.Board.{Board}
-use Rattle.manual.specs.Words.{between, smaller, larger}
+use Rattle.manual.specs.Words.{between, smaller, larger, eqZ}
 use Rattle.manual.specs.Configuration.{Configuration, cycleOf, kindOf, isInternal}
 use Rattle.manual.specs.Configuration.{isTime, lowOf, highOf, upOf, downOf}
 use Rattle.manual.specs.State.{runs}
@@ -126,6 +126,17 @@ module _ (cfg : Configuration) where
   pub DOk-by-running : (b b′ : Board) (e : ℕ) (d : ℤ) → runs b (cycleOf cfg e) ≡ runs b′ (cycleOf cfg e)
       → DOk cfg b e d ≡ true → DOk cfg b′ e d ≡ true
   DOk-by-running b b′ e d r h = subst (λ (x : Bool). DFits cfg x e d ≡ true) r h
+
+-- of kinds 1 and 2, D lies between its ends, also while the cycle is stopped
+pub between-ends : (cfg : Configuration) (b : Board) (e : ℕ) → Range cfg e → isInternal cfg e ≡ false → (d : ℤ)
+    → DOk cfg b e d ≡ true → between (bottom cfg e) (top cfg e) d ≡ true
+unfolding DFits
+between-ends cfg b e l k d h = go (runs b (cycleOf cfg e)) (rw k at h)
+  where
+    go : (running : Bool) → cond (not running || false) (eqZ d (pos 0)) (between (bottom cfg e) (top cfg e) d) ≡ true
+        → between (bottom cfg e) (top cfg e) d ≡ true
+    go true h = h
+    go false h = rw (eqZ-true d (pos 0) h) (between-of-in (bottom cfg e) (top cfg e) (pos 0) (zero-in cfg e l))
 
 module _ (cfg : Configuration) (b : Board) (e : ℕ) where
   -- a step of an event whose cycle runs

@@ -4,12 +4,14 @@ pub mod AnswersLaws
 pub mod ConfigurationLaws
 pub mod SignedLaws
 pub mod DebouncingLaws
+pub mod CounterLaws
 pub mod StateLaws
 pub mod MemoryLaws
 pub mod OneEventLaws
 pub mod MemoryStaysGood
 pub mod FreshLaws
 pub mod WellFormedLaws
+pub mod CounterOfAState
 pub mod ImageLaws
 pub mod SequencesLaws
 pub mod RecordsFollowHistories

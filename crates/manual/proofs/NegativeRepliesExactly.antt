@@ -12,7 +12,7 @@ use Rattle.manual.specs.State.{State}
 use Rattle.manual.specs.Answers.{Beside, Outcome}
 use Rattle.manual.specs.Diagnostics.{requestReply}
 use Rattle.manual.specs.Replies.{Asks, Negative, Replies, refusedWith, number-by-mask, list-by-mask}
-use Rattle.manual.specs.Replies.{list-all, negative, suppressed, positive, clears}
+use Rattle.manual.specs.Replies.{list-all, list-near, negative, suppressed, positive, clears}
 use Rattle.manual.proofs.RepliesFollowTheSentences.{reply-said, reply-is}
 
 module _ (cfg : Configuration) (request : List ℕ) (b : Beside) (s : State) where
@@ -34,6 +34,7 @@ module _ (cfg : Configuration) (request : List ℕ) (b : Beside) (s : State) whe
   begins-59 (number-by-mask e) rest = refl
   begins-59 (list-by-mask e) rest = refl
   begins-59 (list-all e) rest = refl
+  begins-59 (list-near e) rest = refl
 
   begins-7F : (o : Outcome) → Replies cfg request s b o → o .value ≢ 0 → firstByte o ≡ 0x7F
       → (code : ℕ) × Given code × (o ≡ negativeReply code)

@@ -61,7 +61,7 @@ module _ (cfg : Configuration) (request : List ℕ) (s : State) where
     negative-again : (code : ℕ) → Negative cfg request s b code → Negative cfg request s b′ code
     negative-again _ (other-service a b) = other-service a b
     negative-again _ (alone a l) = alone a l
-    negative-again _ (no-sub-function a m p q r) = no-sub-function a m p q r
+    negative-again _ (no-sub-function a m p q r t) = no-sub-function a m p q r t
     negative-again _ (other-length size bytes n l) = other-length size bytes n l
     negative-again _ (too-long bytes n p l) = absurd (fits (too-long bytes n p l))
     negative-again _ (not-four a l) = not-four a l

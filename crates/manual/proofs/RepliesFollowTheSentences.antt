@@ -16,10 +16,11 @@ use Rattle.manual.specs.State.{State}
 use Rattle.manual.specs.Answers.{Beside, Outcome}
 use Rattle.manual.specs.Calls.{unknownCode, cleared}
 use Rattle.manual.specs.Diagnostics.{Reply, Served, served, SubFunction, subFunction, fitted, lines, numberByMask}
-use Rattle.manual.specs.Diagnostics.{listByMask, listAll, subFunctionOf, subFunctionReply, service19}
+use Rattle.manual.specs.Diagnostics.{listByMask, listAll, listNear, isNear, counterByte}
+use Rattle.manual.specs.Diagnostics.{subFunctionOf, subFunctionReply, service19}
 use Rattle.manual.specs.Diagnostics.{service14, servedBy, sent, replied, requestReply}
 use Rattle.manual.specs.Replies as Replies
-use Rattle.manual.specs.Replies.{rising, number-by-mask, list-by-mask, list-all, other-service, alone}
+use Rattle.manual.specs.Replies.{rising, number-by-mask, list-by-mask, list-all, list-near, other-service, alone}
 use Rattle.manual.specs.Replies.{no-sub-function, other-length, too-long, not-four, unknown, negative, suppressed}
 use Rattle.manual.specs.Replies.{positive, clears}
 use Rattle.manual.proofs.WordsLaws.{by}
@@ -40,6 +41,12 @@ module _ (cfg : Configuration) (request : List ℕ) (b : Beside) (s : State) whe
 
   abbrev lineOf : ℕ → List ℕ
   lineOf = Replies.lineOf cfg request s
+
+  abbrev nearing : List ℕ
+  nearing = Replies.nearing cfg request s
+
+  abbrev counterLine : ℕ → List ℕ
+  counterLine = Replies.counterLine cfg request s
 
   abbrev troubleCode : ℕ
   troubleCode = Replies.troubleCode cfg request s
@@ -82,6 +89,10 @@ module _ (cfg : Configuration) (request : List ℕ) (b : Beside) (s : State) whe
       ap (λ (l : List ℕ). Reply.positive (0x59 ∷ 0x0A ∷ 0xFF ∷ l))
       (join-is (λ e. true) lineOf (events cfg) ∙ ap (flatMap lineOf) (those-every (rising (events cfg))))
 
+  near-is : listNear cfg request s ≡ Reply.positive (0x59 ∷ 0x14 ∷ flatMap counterLine nearing)
+  unfolding listNear lines isNear counterByte
+  near-is = ap (λ (l : List ℕ). Reply.positive (0x59 ∷ 0x14 ∷ l)) (join-is _ counterLine (events cfg))
+
   -- ---- the definitions follow the sentences
 
   -- what this leaves is said
@@ -115,9 +126,9 @@ module _ (cfg : Configuration) (request : List ℕ) (b : Beside) (s : State) whe
     abbrev SaidSub : Option SubFunction → Type 0
     SaidSub f = Said19 (subFunctionReply cfg f request (length (b .room)) s)
 
-    none-said : number ≢ 0x01 → number ≢ 0x02 → number ≢ 0x0A → SaidSub none
+    none-said : number ≢ 0x01 → number ≢ 0x02 → number ≢ 0x0A → number ≢ 0x14 → SaidSub none
     unfolding subFunctionReply sent
-    none-said a b c = negative 0x12 (no-sub-function is19 more a b c)
+    none-said a b c d = negative 0x12 (no-sub-function is19 more a b c d)
 
     subs-said : SaidSub (subFunctionOf cfg request)
     unfolding firstOf
@@ -125,7 +136,8 @@ module _ (cfg : Configuration) (request : List ℕ) (b : Beside) (s : State) whe
         by (eqb 0x01 number) SaidSub (λ t. sub-said 0x01 3 _ _ number-is (named (number-by-mask (this t))))
         (λ not-01. by (eqb 0x02 number) SaidSub (λ t. sub-said 0x02 3 _ _ list-is (named (list-by-mask (this t))))
         (λ not-02. by (eqb 0x0A number) SaidSub (λ t. sub-said 0x0A 2 _ _ all-is (named (list-all (this t))))
-        (λ not-0A. none-said (other not-01) (other not-02) (other not-0A))))
+        (λ not-0A. by (eqb 0x14 number) SaidSub (λ t. sub-said 0x14 2 _ _ near-is (named (list-near (this t))))
+        (λ not-14. none-said (other not-01) (other not-02) (other not-0A) (other not-14)))))
       where
         this : {k : ℕ} → eqb k number ≡ true → number ≡ k
         this t = sym (eqb-true _ _ t)
@@ -167,6 +179,7 @@ module _ (cfg : Configuration) (request : List ℕ) (b : Beside) (s : State) whe
   found (number-by-mask e) = record { its-number = 0x01; its-reply = numberByMask cfg; there = rw e; gives = number-is }
   found (list-by-mask e) = record { its-number = 0x02; its-reply = listByMask cfg; there = rw e; gives = list-is }
   found (list-all e) = record { its-number = 0x0A; its-reply = listAll cfg; there = rw e; gives = all-is }
+  found (list-near e) = record { its-number = 0x14; its-reply = listNear cfg; there = rw e; gives = near-is }
 
   named-served : {size : ℕ} {bytes : List ℕ} → Names size bytes
       → here ≡ served (cond (not (eqb (length request) size)) (Reply.negative 0x13) (fitting bytes)) s
@@ -183,7 +196,7 @@ module _ (cfg : Configuration) (request : List ℕ) (b : Beside) (s : State) whe
   unfolding servedBy service19 subFunctionReply service14 firstOf fitted
   negative-served _ (other-service a b) = rw (ne-eqb _ _ a, ne-eqb _ _ b)
   negative-served _ (alone a l) = rw (a, l)
-  negative-served _ (no-sub-function a m p q r) = rw (a, ne-eqb _ _ m, other p, other q, other r)
+  negative-served _ (no-sub-function a m p q r t) = rw (a, ne-eqb _ _ m, other p, other q, other r, other t)
   negative-served _ (other-length size bytes n l) = named-served n ∙ rw (ne-eqb _ _ l)
   negative-served _ (too-long bytes n p l) = due-served n ∙ rw (lt-leb _ _ p, lt-ltb _ _ l)
   negative-served _ (not-four a l) = rw (a, ne-eqb _ _ l)

@@ -15,13 +15,15 @@ use Rattle.manual.specs.Configuration.{Configuration}
 use Rattle.manual.specs.State.{State, D, withCycle}
 use Rattle.manual.specs.Answers.{Beside, Outcome, refused, Rule, firstThatApplies, judged}
 use Rattle.manual.specs.OneEvent.{happens, stops, forThose}
+use Rattle.manual.specs.Counter.{readCounter}
 use Rattle.manual.specs.Calls.{fresh, reportRules, applied, debouncedBy, report, tickRules, timeRuns, ticks}
 use Rattle.manual.specs.Calls.{tick, ofCycle, startRules, startCycle, stopRules, stopCycle, covers, unknownCode}
 use Rattle.manual.specs.Calls.{cleared, clearRules, clearCode, readStatus, readFrame}
 use Rattle.manual.specs.Image.{save, restore}
 use Rattle.manual.specs.Diagnostics.{positive, negative, Served, served, service14}
 use Rattle.manual.specs.Diagnostics.{servedBy, sent, requestRules, requestReply}
-use Rattle.manual.specs.Sequences.{Query, ReadStatus, ReadFrame, Save, Call, Fresh, Report, Tick, Start, Stop}
+use Rattle.manual.specs.Sequences.{Query, ReadStatus, ReadFrame, ReadCounter, Save}
+use Rattle.manual.specs.Sequences.{Call, Fresh, Report, Tick, Start, Stop}
 use Rattle.manual.specs.Sequences.{Clear, Read, Restore, Request, answerTo, onlyIf, outcome, asksClear, gives}
 use Rattle.manual.specs.Sequences.{tokens, tokensAt, goesOn}
 use Rattle.manual.proofs.WordsLaws.{clash, by}
@@ -149,9 +151,10 @@ module _ (cfg : Configuration) where
 
   -- a call that only reads leaves the state as it was, accepted or refused
   pub query-leaves : (q : Query) (b : Beside) (s : State) → answerTo cfg q b s .state ≡ s
-  unfolding readStatus readFrame save
+  unfolding readStatus readFrame readCounter save
   query-leaves (ReadStatus k) b s = judged-leaves _ b s _ refl
   query-leaves (ReadFrame k) b s = judged-leaves _ b s _ refl
+  query-leaves (ReadCounter k) b s = judged-leaves _ b s _ refl
   query-leaves Save b s = judged-leaves _ b s _ refl
 
   query-does : (q : Query) (b : Beside) (s : State) → Either (Does s (Read q)) s (answerTo cfg q b s)

@@ -11,7 +11,7 @@ use Rattle.manual.specs.State.{State}
 use Rattle.manual.specs.Answers.{Beside, Outcome}
 use Rattle.manual.specs.Diagnostics.{requestReply}
 use Rattle.manual.specs.Replies.{Asks, Suppressed, sends, Replies, number-by-mask, list-by-mask}
-use Rattle.manual.specs.Replies.{list-all, negative, suppressed, positive, clears}
+use Rattle.manual.specs.Replies.{list-all, list-near, negative, suppressed, positive, clears}
 use Rattle.manual.proofs.RepliesFollowTheSentences.{reply-said, reply-is}
 
 module _ (cfg : Configuration) (request : List ℕ) (b : Beside) (s : State) where
@@ -19,10 +19,11 @@ module _ (cfg : Configuration) (request : List ℕ) (b : Beside) (s : State) whe
   outcome = requestReply cfg request b s
 
   -- no positive reply is empty
-  not-empty : {size : ℕ} {bytes : List ℕ} → Asks cfg request s size bytes → 3 ≤ length bytes
+  not-empty : {size : ℕ} {bytes : List ℕ} → Asks cfg request s size bytes → 2 ≤ length bytes
   not-empty (number-by-mask e) = omega arith
   not-empty (list-by-mask e) = omega arith
   not-empty (list-all e) = omega arith
+  not-empty (list-near e) = omega arith
 
   silent-is : (o : Outcome) → Replies cfg request s b o → o .value ≡ 0 → Suppressed cfg request s
   silent-is _ (negative code n) z = absurd (let w : ⊥ = omega arith in w)

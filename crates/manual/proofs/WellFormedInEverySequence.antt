@@ -14,11 +14,12 @@ use Rattle.manual.specs.State.{State, stored, storedAt}
 use Rattle.manual.specs.Answers.{Beside, Outcome, Rule, _if_, firstThatApplies}
 use Rattle.manual.specs.Memory.{noTwice}
 use Rattle.manual.specs.WellFormed.{entries, wellFormed}
+use Rattle.manual.specs.Counter.{readCounterRules}
 use Rattle.manual.specs.Calls.{freshRules, fresh, freshState, reportRules, tickRules, startRules}
 use Rattle.manual.specs.Calls.{stopRules, clearRules, readStatusRules, readFrameRules}
 use Rattle.manual.specs.Image.{saveRules, restoreRules}
 use Rattle.manual.specs.Diagnostics.{requestRules}
-use Rattle.manual.specs.Sequences.{Query, ReadStatus, ReadFrame, Save, Call, Fresh, Report, Tick}
+use Rattle.manual.specs.Sequences.{Query, ReadStatus, ReadFrame, ReadCounter, Save, Call, Fresh, Report, Tick}
 use Rattle.manual.specs.Sequences.{Start, Stop, Clear, Read, Restore, Request, outcome, queryRules}
 use Rattle.manual.specs.Sequences.{rulesOf, tokensAt, goesOn, Reached, begun, called, restored}
 use Rattle.manual.proofs.AnswersLaws.{none-applies, accepted, lacks, never-given}
@@ -44,9 +45,10 @@ past-both a b rules p q l m =
 module _ (cfg : Configuration) where
   query-not-2-or-3 : (q : Query) (b : Beside) (s : State) → configOk cfg ≡ true → wellFormed cfg s ≡ true
       → Unrefused (queryRules cfg q b s)
-  unfolding readStatusRules readFrameRules saveRules
+  unfolding readStatusRules readFrameRules readCounterRules saveRules
   query-not-2-or-3 (ReadStatus e) b s k w = past-both _ _ _ k w refl refl
   query-not-2-or-3 (ReadFrame e) b s k w = past-both _ _ _ k w refl refl
+  query-not-2-or-3 (ReadCounter e) b s k w = past-both _ _ _ k w refl refl
   query-not-2-or-3 Save b s k w = past-both _ _ _ k w refl refl
 
   not-2-or-3 : (c : Call) (b : Beside) (s : State) → configOk cfg ≡ true → wellFormed cfg s ≡ true

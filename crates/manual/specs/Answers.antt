@@ -4,6 +4,7 @@ use mathlib.Core.Bool.{Bool, true, false, cond}
 use mathlib.Core.List.{List, [], _∷_, _++_}
 use Prim.Native.Nat.{ℕ}
 use lib.Dec.{eqb}
+use lib.IntN.{ℤ, pos}
 use Rattle.history.specs.Words.{anyOf}
 use Rattle.manual.specs.declared.Verdict.{Verdict}
 use Rattle.manual.specs.declared.Verdict.the-variants.{None}
@@ -17,6 +18,8 @@ use Rattle.manual.specs.declared.ReportAnswer.{ReportAnswer}
 use Rattle.manual.specs.declared.ReportAnswer.the-variants.{Accepted}
 use Rattle.manual.specs.declared.StatusAnswer.{StatusAnswer}
 use Rattle.manual.specs.declared.StatusAnswer.the-variants.{Status}
+use Rattle.manual.specs.declared.CounterAnswer.{CounterAnswer}
+use Rattle.manual.specs.declared.CounterAnswer.the-variants.{Counter}
 use Rattle.manual.specs.declared.FrameAnswer.{FrameAnswer}
 use Rattle.manual.specs.declared.FrameAnswer.the-variants.{At}
 use Rattle.manual.specs.declared.LengthAnswer.{LengthAnswer}
@@ -118,6 +121,15 @@ ofReport (ReportAnswer.Refused r) = answered (numberOf r) None 0
 abbrev pub ofStatus : StatusAnswer → Answered
 ofStatus (Status byte) = answered 0 None byte
 ofStatus (StatusAnswer.Refused r) = answered (numberOf r) None 0
+
+-- the counter, which has a sign, is said beside it
+abbrev pub ofCounter : CounterAnswer → Answered
+ofCounter (Counter z) = answered 0 None 0
+ofCounter (CounterAnswer.Refused r) = answered (numberOf r) None 0
+
+abbrev pub counterAnswered : CounterAnswer → ℤ
+counterAnswered (Counter z) = z
+counterAnswered (CounterAnswer.Refused r) = pos 0
 
 -- the part is said of the caller's block beside it
 abbrev pub ofFrame : FrameAnswer → Answered

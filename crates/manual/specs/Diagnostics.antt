@@ -1,4 +1,4 @@
--- Document 01, "Diagnostic requests". Assumes nothing.
+-- Document 01, "Diagnostic requests", with the sub-function of document 02, W1. Assumes nothing.
 use mathlib.Core.Bool.{Bool, true, not, cond}
 use mathlib.Core.List.{List, [], _∷_, _++_}
 use mathlib.Core.Option.{Option, none, some}
@@ -6,12 +6,24 @@ use Prim.Native.Nat.{ℕ, _%_}
 use lib.ListN.{length, getD, drop}
 use lib.Dec.{eqb, leb, ltb}
 use lib.Bits.{bitAnd}
+use lib.IntN.{pos}
 use Rattle.manual.specs.declared.Verdict.the-variants.{None}
-use Rattle.manual.specs.Words.{countBelow, joinBelow, firstOf, two, three, threeAt}
+use Rattle.manual.specs.Words.{countBelow, joinBelow, firstOf, two, three, threeAt, between, twosComplement}
 use Rattle.manual.specs.Configuration.{Configuration, events, codeOf}
 use Rattle.manual.specs.State.{State, statusByte}
 use Rattle.manual.specs.Answers.{Beside, withRoom, Outcome, Rule, _if_, judged}
 use Rattle.manual.specs.Calls.{begins, unknownCode, cleared}
+use Rattle.manual.specs.Counter.{counterIn}
+
+-- three things are called 14: the service that clears, document 02's sub-function of service 19, the negative code
+abbrev pub serviceFourteen : ℕ
+serviceFourteen = 0x14
+
+abbrev pub subFunctionFourteen : ℕ
+subFunctionFourteen = 0x14
+
+abbrev pub codeFourteen : ℕ
+codeFourteen = 0x14
 
 -- a reply, and its bytes: "Negative reply: 7F, request's first byte, code"
 pub data Reply : Type 0 where
@@ -43,7 +55,7 @@ subFunction number size reply = record { number = number; size = size; reply = r
 -- code 14."
 unfoldable pub fitted : Bool → ℕ → Reply → Reply
 fitted suppressed room (positive bytes) =
-    cond suppressed (positive []) (cond (ltb room (length bytes)) (negative 0x14) (positive bytes))
+    cond suppressed (positive []) (cond (ltb room (length bytes)) (negative codeFourteen) (positive bytes))
 fitted suppressed room (negative code) = negative code
 
 module _ (cfg : Configuration) where
@@ -51,13 +63,13 @@ module _ (cfg : Configuration) where
   abbrev pub matches : ℕ → State → ℕ → Bool
   matches mask s e = not (eqb (bitAnd (statusByte s e) mask) 0)
 
-  -- "trouble code (3 bytes high first) and status"
-  abbrev pub line : State → ℕ → List ℕ
-  line s e = three (codeOf cfg e) ++ (statusByte s e ∷ [])
+  -- "trouble code (3 bytes high first) and status": the byte that a line shows of an event stands behind its code
+  abbrev pub line : (ℕ → ℕ) → ℕ → List ℕ
+  line shown e = three (codeOf cfg e) ++ (shown e ∷ [])
 
   -- the lines of the events that pass, "rising"
-  unfoldable pub lines : (ℕ → Bool) → State → List ℕ
-  lines p s = joinBelow (events cfg) (λ e. cond (p e) (line s e) [])
+  unfoldable pub lines : (ℕ → Bool) → (ℕ → ℕ) → List ℕ
+  lines p shown = joinBelow (events cfg) (λ e. cond (p e) (line shown e) [])
 
   abbrev pub maskOf : List ℕ → ℕ
   maskOf request = getD request 2 0
@@ -69,15 +81,30 @@ module _ (cfg : Configuration) where
 
   -- "02 mask: `59 02 FF`, then per matching event trouble code (3 bytes high first) and status, rising."
   unfoldable pub listByMask : List ℕ → State → Reply
-  listByMask request s = positive (0x59 ∷ 0x02 ∷ 0xFF ∷ lines (matches (maskOf request) s) s)
+  listByMask request s = positive (0x59 ∷ 0x02 ∷ 0xFF ∷ lines (matches (maskOf request) s) (statusByte s))
 
   -- "0A: `59 0A FF`, then all events likewise."
   unfoldable pub listAll : List ℕ → State → Reply
-  listAll request s = positive (0x59 ∷ 0x0A ∷ 0xFF ∷ lines (λ e. true) s)
+  listAll request s = positive (0x59 ∷ 0x0A ∷ 0xFF ∷ lines (λ e. true) (statusByte s))
 
-  -- "not 01, 02, 0A: code 12. Length must be 3, 3, 2"
+  -- "each event whose counter is 1 to 126"
+  unfoldable pub isNear : State → ℕ → Bool
+  isNear s e = between (pos 1) (pos 126) (counterIn cfg s e)
+
+  -- "counter byte (two's complement)"
+  unfoldable pub counterByte : State → ℕ → ℕ
+  counterByte s e = twosComplement (counterIn cfg s e)
+
+  -- "request `19 14` of length 2: `59 14`, then trouble code and counter byte (two's complement) for each event whose
+  -- counter is 1 to 126, rising"
+  unfoldable pub listNear : List ℕ → State → Reply
+  listNear request s = positive (0x59 ∷ subFunctionFourteen ∷ lines (isNear s) (counterByte s))
+
+  -- "not 01, 02, 0A: code 12. Length must be 3, 3, 2"; "Document 01's list of sub-functions grows by this one"
   abbrev pub subFunctions : List SubFunction
-  subFunctions = subFunction 0x01 3 numberByMask ∷ subFunction 0x02 3 listByMask ∷ subFunction 0x0A 2 listAll ∷ []
+  subFunctions =
+      subFunction 0x01 3 numberByMask ∷ subFunction 0x02 3 listByMask ∷ subFunction 0x0A 2 listAll
+      ∷ subFunction subFunctionFourteen 2 listNear ∷ []
 
   -- "The second byte less its top bit is the sub-function"
   abbrev pub subFunctionOf : List ℕ → Option SubFunction
@@ -92,7 +119,7 @@ module _ (cfg : Configuration) where
       cond (not (eqb (length request) (f .size))) (negative 0x13)
       (fitted (suppresses request) room (f .reply request s))
 
-  -- "19: length 1: code 13. … not 01, 02, 0A: code 12. Length must be 3, 3, 2: else 13."
+  -- "19: length 1: code 13. … not 01, 02, 0A: code 12. Length must be 3, 3, 2: else 13.", and 14, of length 2
   unfoldable pub service19 : List ℕ → ℕ → State → Reply
   service19 request room s =
       cond (eqb (length request) 1) (negative 0x13) (subFunctionReply (subFunctionOf request) request room s)
@@ -108,7 +135,7 @@ module _ (cfg : Configuration) where
   unfoldable pub servedBy : List ℕ → ℕ → State → Served
   servedBy request room s =
       cond (eqb (getD request 0 0) 0x19) (served (service19 request room s) s)
-      (cond (eqb (getD request 0 0) 0x14) (service14 request s)
+      (cond (eqb (getD request 0 0) serviceFourteen) (service14 request s)
       (served (negative 0x11) s))
 
   -- "Bytes past the reply stay." "the answer is 0"

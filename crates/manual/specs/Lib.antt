@@ -8,6 +8,7 @@ pub mod OneEvent
 pub mod Memory
 pub mod Displacement
 pub mod Calls
+pub mod Counter
 pub mod Diagnostics
 pub mod Replies
 pub mod Image

@@ -1,4 +1,5 @@
--- Document 01, "Diagnostic requests", a case for each sentence: what an accepted request is sent, and what it leaves.
+-- Document 01, "Diagnostic requests", with document 02's W1, a case for each sentence: what an accepted request is
+-- sent, and what it leaves.
 -- The definitions of Diagnostics.antt compute; this is the same as a relation, to be laid beside the document. Assumes
 -- nothing.
 use mathlib.Core.Path.{_≡_}
@@ -9,13 +10,15 @@ use Prim.Native.Nat.{ℕ, zero, suc, _+_, _*_, _/_, _%_, _≤_, _<_}
 use lib.ListN.{length, getD, take, drop}
 use lib.Dec.{eqb}
 use lib.Bits.{bitAnd}
+use lib.IntN.{pos}
 use Rattle.manual.specs.declared.Verdict.the-variants.{None}
-use Rattle.manual.specs.Words.{All, those, two, three, threeAt}
+use Rattle.manual.specs.Words.{All, those, two, three, threeAt, between, twosComplement}
 use Rattle.manual.specs.Configuration.{Configuration, events, codeOf, configOk}
 use Rattle.manual.specs.State.{State, statusByte}
 use Rattle.manual.specs.WellFormed.{wellFormed}
 use Rattle.manual.specs.Answers.{Beside, withRoom, Outcome}
 use Rattle.manual.specs.Calls.{unknownCode, cleared}
+use Rattle.manual.specs.Counter.{counterIn}
 
 -- ---- the sentences
 
@@ -54,6 +57,13 @@ module _ (cfg : Configuration) (request : List ℕ) (s : State) where
   abbrev pub lineOf : ℕ → List ℕ
   lineOf e = three (codeOf cfg e) ++ (statusByte s e ∷ [])
 
+  -- document 02, W1: "each event whose counter is 1 to 126", and "trouble code and counter byte (two's complement)"
+  abbrev pub nearing : List ℕ
+  nearing = those (λ e. between (pos 1) (pos 126) (counterIn cfg s e)) (rising (events cfg))
+
+  abbrev pub counterLine : ℕ → List ℕ
+  counterLine e = three (codeOf cfg e) ++ (twosComplement (counterIn cfg s e) ∷ [])
+
   -- a sub-function: "Length must be 3, 3, 2", and its positive reply
   pub data Asks : ℕ → List ℕ → Type 0 where
     -- "01 mask: `59 01 FF 01` and the number of matching events, 2 bytes high first."
@@ -62,6 +72,9 @@ module _ (cfg : Configuration) (request : List ℕ) (s : State) where
     list-by-mask : number ≡ 0x02 → Asks 3 (0x59 ∷ 0x02 ∷ 0xFF ∷ flatMap lineOf matching)
     -- "0A: `59 0A FF`, then all events likewise."
     list-all : number ≡ 0x0A → Asks 2 (0x59 ∷ 0x0A ∷ 0xFF ∷ flatMap lineOf (rising (events cfg)))
+    -- document 02, W1: "request `19 14` of length 2: `59 14`, then trouble code and counter byte (two's complement) for
+    -- each event whose counter is 1 to 126, rising"
+    list-near : number ≡ 0x14 → Asks 2 (0x59 ∷ 0x14 ∷ flatMap counterLine nearing)
 
   -- a request of service 19 that names a sub-function
   pub record Names (size : ℕ) (bytes : List ℕ) : Type 0 where
@@ -92,10 +105,10 @@ module _ (cfg : Configuration) (request : List ℕ) (s : State) where
       other-service : service ≢ 0x19 → service ≢ 0x14 → Negative 0x11
       -- "19: length 1: code 13."
       alone : service ≡ 0x19 → length request ≡ 1 → Negative 0x13
-      -- "not 01, 02, 0A: code 12."
+      -- "not 01, 02, 0A: code 12.", and not 14
       no-sub-function : service ≡ 0x19 → length request ≢ 1 → number ≢ 0x01 → number ≢ 0x02 → number ≢ 0x0A
-          → Negative 0x12
-      -- "Length must be 3, 3, 2: else 13."
+          → number ≢ 0x14 → Negative 0x12
+      -- "Length must be 3, 3, 2: else 13.", and 2 for 14
       other-length : (size : ℕ) (bytes : List ℕ) → Names size bytes → length request ≢ size → Negative 0x13
       -- "Otherwise one longer than the room: code 14."
       too-long : (bytes : List ℕ) → Due bytes → secondByte < 128 → length (b .room) < length bytes → Negative 0x14
@@ -124,7 +137,7 @@ module _ (cfg : Configuration) (request : List ℕ) (s : State) where
       negative : (code : ℕ) → Negative code → Replies (refusedWith code)
       -- "With the top bit set a positive reply has length 0 and the room stays untouched."
       suppressed : Suppressed → Replies (sends [] s)
-      -- "01 mask: …", "02 mask: …", "0A: …"
+      -- "01 mask: …", "02 mask: …", "0A: …", "`59 14`, then …"
       positive : (bytes : List ℕ) → Due bytes → secondByte < 128 → length bytes ≤ length (b .room)
           → Replies (sends bytes s)
       -- "else clear and `54`"

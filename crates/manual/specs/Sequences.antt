@@ -18,15 +18,16 @@ use Rattle.manual.specs.Debouncing.{reported, ticked}
 use Rattle.manual.specs.Calls.{freshRules, reportRules, tickRules, startRules, stopRules, clearRules}
 use Rattle.manual.specs.Calls.{readStatusRules, readFrameRules, fresh, report, tick, startCycle, stopCycle}
 use Rattle.manual.specs.Calls.{clearCode, readStatus, readFrame, timeRuns, ofCycle, covers, unknownCode}
+use Rattle.manual.specs.Counter.{readCounterRules, readCounter}
 use Rattle.manual.specs.Image.{saveRules, restoreRules, save, restore}
 use Rattle.manual.specs.Diagnostics.{requestRules, requestReply}
 
 -- the calls that only read the blocks and the board, with any arguments whatever
 pub data Query : Type 0 where
-  ReadStatus ReadFrame : ℕ → Query
+  ReadStatus ReadFrame ReadCounter : ℕ → Query
   Save : Query
 
--- all eleven calls, with any arguments whatever
+-- all twelve calls, with any arguments whatever
 pub data Call : Type 0 where
   Fresh : Call
   Report : ℕ → ℕ → List ℕ → Call
@@ -64,6 +65,7 @@ module _ (cfg : Configuration) where
   abbrev pub answerTo : Query → Beside → State → Outcome
   answerTo (ReadStatus k) b s = readStatus cfg k b s
   answerTo (ReadFrame k) b s = readFrame cfg k b s
+  answerTo (ReadCounter k) b s = readCounter cfg k b s
   answerTo Save b s = save cfg b s
 
   abbrev pub outcome : Call → Beside → State → Outcome
@@ -81,6 +83,7 @@ module _ (cfg : Configuration) where
   abbrev pub queryRules : Query → Beside → State → List Rule
   queryRules (ReadStatus k) b s = readStatusRules cfg k s
   queryRules (ReadFrame k) b s = readFrameRules cfg k s
+  queryRules (ReadCounter k) b s = readCounterRules cfg k s
   queryRules Save b s = saveRules cfg b s
 
   abbrev pub rulesOf : Call → Beside → State → List Rule

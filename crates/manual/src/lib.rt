@@ -86,6 +86,12 @@ pub enum StatusAnswer {
     Refused(Refusal),
 }
 
+// The answer of read counter: the fault detection counter.
+pub enum CounterAnswer {
+    Counter(i8),
+    Refused(Refusal),
+}
+
 // A stored frame, as a part of the caller's own memory block: where it starts, and its length.
 pub struct FramePart {
     pub start: usize,
