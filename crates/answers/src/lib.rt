@@ -1,5 +1,7 @@
-// Document 01, "Numbers a call answers with": the number of each answer, and the verdict, status or length beside it.
+// Document 01, "Numbers a call answers with": the number of each answer, and the verdict, status, counter or length
+// beside it.
 use manual::Answer;
+use manual::CounterAnswer;
 use manual::FrameAnswer;
 use manual::LengthAnswer;
 use manual::Refusal;
@@ -7,7 +9,8 @@ use manual::ReportAnswer;
 use manual::StatusAnswer;
 use manual::Verdict;
 ghost use mathlib.Core.Path.{_≡_};
-ghost use Rattle.manual.specs.Answers.{numberOf, ofAnswer, ofReport, ofStatus, ofFrame, ofLength};
+ghost use Rattle.manual.specs.Answers.{numberOf, ofAnswer, ofReport, ofStatus, ofCounter, counterAnswered, ofFrame};
+ghost use Rattle.manual.specs.Answers.{ofLength};
 
 pub fn refusal_number(r: Refusal) -> u8
     ensures { λ n. ⌜ n ≡ numberOf r ⌝ }
@@ -74,6 +77,26 @@ pub fn status_byte(a: StatusAnswer) -> u8
     match a {
         StatusAnswer::Status(byte) => byte,
         StatusAnswer::Refused(_) => 0,
+    }
+}
+
+// ---- read counter
+
+pub fn counter_number(a: CounterAnswer) -> u8
+    ensures { λ n. ⌜ n ≡ ofCounter a .number ⌝ }
+{
+    match a {
+        CounterAnswer::Counter(_) => 0,
+        CounterAnswer::Refused(r) => refusal_number(r),
+    }
+}
+
+pub fn counter(a: CounterAnswer) -> i8
+    ensures { λ z. ⌜ z ≡ counterAnswered a ⌝ }
+{
+    match a {
+        CounterAnswer::Counter(counter) => counter,
+        CounterAnswer::Refused(_) => 0,
     }
 }
 

@@ -1,3 +1,4 @@
 pub mod OneOutcomeOnly
+pub mod NearLaws
 pub mod RepliesLaws
 pub mod RequestLaws

@@ -8,7 +8,7 @@ use Prim.Native.Nat.{ℕ, _+_, _*_, _%_, _≤_}
 use native.Mathlib.Nat.{zero-add}
 use native.Mathlib.Omega.{arith}
 use lib.Dec.{eqb, ltb}
-use lib.ListN.{length, getD, drop}
+use lib.ListN.{length, getD, drop, length-append}
 use lib.Seq.{sets, sets-eq}
 use borrow.Author.Tests.{eq-eqb, ne-eqb}
 use Rattle.manual.specs.Words.{countBelow, firstOf, two}
@@ -16,16 +16,18 @@ use Rattle.manual.specs.Configuration.{Configuration, events, configOk}
 use Rattle.manual.specs.State.{State}
 use Rattle.manual.specs.Answers.{lentRoom, Outcome}
 use Rattle.manual.specs.Diagnostics.{Reply, positive, negative, replyBytes, SubFunction, subFunction}
+use Rattle.manual.specs.Counter.{counterIn}
 use Rattle.manual.specs.Diagnostics.{fitted, line, lines, maskOf, numberByMask, listByMask, listAll}
+use Rattle.manual.specs.Diagnostics.{isNear, counterByte, listNear}
 use Rattle.manual.specs.Diagnostics.{subFunctions, suppresses, subFunctionReply, service19, sent}
 use Rattle.manual.proofs.ConfigurationLaws.{config-tells}
 use Rattle.manual.proofs.BelowLaws.{count-most, join-length}
 use Rattle.writing.specs.Writing.{written, append}
 use Rattle.diagnostics.specs.declared.Asked.{Asked}
-use Rattle.diagnostics.specs.declared.Asked.the-variants.{All, Matching}
+use Rattle.diagnostics.specs.declared.Asked.the-variants.{All, Matching, Near}
 use Rattle.diagnostics.specs.declared.Turn.{Turn}
 use Rattle.diagnostics.specs.declared.Turn.the-variants.{Write, Suppressed}
-use Rattle.diagnostics.specs.Replies.{holding, sentIs, asks, linesAsked, listing, Tests, turnIs, TurnBy}
+use Rattle.diagnostics.specs.Replies.{holding, sentIs, asks, shows, linesAsked, listing, Tests, turnIs, TurnBy}
 
 -- ---- bytes written from the front of the room are sent
 
@@ -115,11 +117,17 @@ module _ (cfg : Configuration) (room : List ℕ) (s : State) where
     unfolding service19
     of-number n e p = rw (ne-eqb _ _ n, ← e) p
 
-    pub no-such-number : {k : ℕ} → k ≢ 0x01 → k ≢ 0x02 → k ≢ 0x0A → Sends o (negative 0x12)
+    pub no-such-number : {k : ℕ} → k ≢ 0x01 → k ≢ 0x02 → k ≢ 0x0A → k ≢ 0x14 → Sends o (negative 0x12)
         → Sends o (subFunctionReply cfg (firstOf (λ f. eqb (f .number) k) (subFunctions cfg)) request (length room) s)
     unfolding firstOf subFunctionReply
-    no-such-number {k} a b c p =
-        rw (ne-eqb 0x01 k (λ e. a (sym e)), ne-eqb 0x02 k (λ e. b (sym e)), ne-eqb 0x0A k (λ e. c (sym e))) p
+    no-such-number {k} a b c d p =
+        rw (
+          ne-eqb 0x01 k (λ e. a (sym e)),
+          ne-eqb 0x02 k (λ e. b (sym e)),
+          ne-eqb 0x0A k (λ e. c (sym e)),
+          ne-eqb 0x14 k (λ e. d (sym e)),
+        )
+        p
 
 -- ---- the events that are asked for
 
@@ -127,7 +135,7 @@ module _ (cfg : Configuration) where
   pub lines-length : (asked : Asked) (s : State)
       → length (linesAsked cfg asked s) ≡ 4 * countBelow (events cfg) (asks cfg asked s)
   unfolding lines
-  lines-length asked s = join-length (line cfg s) (asks cfg asked s) 4 (λ e. refl) (events cfg)
+  lines-length asked s = join-length (line cfg (shows cfg asked s)) (asks cfg asked s) 4 (λ e. refl) (events cfg)
 
   pub number-most : configOk cfg ≡ true → (f : ℕ → Bool) {number : ℕ} → number ≡ countBelow (events cfg) f
       → number ≤ 512
@@ -140,13 +148,16 @@ module _ (cfg : Configuration) where
 
     pub number-in : (asked : Asked)
         → countBelow (events cfg) (asks cfg asked s) ≡ countBelow (events cfg) (asks cfg asked read)
+    unfolding isNear counterIn
     number-in All = refl
     number-in (Matching mask) = refl
+    number-in Near = refl
 
     pub lines-in : (asked : Asked) → linesAsked cfg asked s ≡ linesAsked cfg asked read
-    unfolding lines
+    unfolding lines isNear counterByte counterIn
     lines-in All = refl
     lines-in (Matching mask) = refl
+    lines-in Near = refl
 
     number-reply : (request : List ℕ) {mask number : ℕ} → mask ≡ maskOf cfg request
         → number ≡ countBelow (events cfg) (asks cfg (Matching mask) read)
@@ -157,9 +168,12 @@ module _ (cfg : Configuration) where
         (number-in (Matching (maskOf cfg request))
         ∙ sym (e ∙ ap (λ k. countBelow (events cfg) (asks cfg (Matching k) read)) m))
 
-    pub list-length : (sub : ℕ) (asked : Asked) {number : ℕ} → number ≡ countBelow (events cfg) (asks cfg asked read)
-        → length (0x59 ∷ sub ∷ 0xFF ∷ linesAsked cfg asked s) ≡ 3 + 4 * number
-    list-length sub asked e = let l = lines-length asked s ∙ ap (λ k. 4 * k) (number-in asked ∙ sym e) in omega arith
+    pub list-length : (head : List ℕ) (asked : Asked) {number : ℕ}
+        → number ≡ countBelow (events cfg) (asks cfg asked read)
+        → length (head ++ linesAsked cfg asked s) ≡ length head + 4 * number
+    list-length head asked e =
+        let l = lines-length asked s ∙ ap (λ k. 4 * k) (number-in asked ∙ sym e) in
+        omega (arith, length-append head (linesAsked cfg asked s))
 
     -- the tests of 01, and of a sub-function that lists
     module _ (request : List ℕ) (room : ℕ) {suppressed : Bool} (p : suppressed ≡ suppresses cfg request) where
@@ -170,26 +184,32 @@ module _ (cfg : Configuration) where
       number-tests m e =
           record { length-is = refl; suppressed-is = p; bytes-are = number-reply request m e; long-is = refl }
 
-      pub list-tests : (sub size : ℕ) (asked : Asked) {number : ℕ}
+      pub list-tests : (head : List ℕ) (size : ℕ) (asked : Asked) {number : ℕ}
           → number ≡ countBelow (events cfg) (asks cfg asked read)
-          → Tests cfg (listing cfg sub size asked) request room s (0x59 ∷ sub ∷ 0xFF ∷ linesAsked cfg asked s)
-          (not (eqb (length request) size)) suppressed (ltb room (3 + 4 * number))
-      list-tests sub size asked e = record {
+          → Tests cfg (listing cfg head size asked) request room s (head ++ linesAsked cfg asked s)
+          (not (eqb (length request) size)) suppressed (ltb room (length head + 4 * number))
+      list-tests head size asked e = record {
         length-is = refl;
         suppressed-is = p;
         bytes-are = refl;
-        long-is = ap (ltb room) (sym (list-length sub asked e));
+        long-is = ap (ltb room) (sym (list-length head asked e));
       }
 
   -- the sub-functions that list
   pub list-by-mask-is : (request : List ℕ) (s : State) (room : ℕ) {mask : ℕ} → mask ≡ maskOf cfg request
-      → subFunctionReply cfg (some (listing cfg 0x02 3 (Matching mask))) request room s
+      → subFunctionReply cfg (some (listing cfg (0x59 ∷ 0x02 ∷ 0xFF ∷ []) 3 (Matching mask))) request room s
       ≡ subFunctionReply cfg (some (subFunction 0x02 3 (listByMask cfg))) request room s
   unfolding subFunctionReply listByMask
   list-by-mask-is request s room m = rw m
 
   pub list-all-is : (request : List ℕ) (s : State) (room : ℕ)
-      → subFunctionReply cfg (some (listing cfg 0x0A 2 All)) request room s
+      → subFunctionReply cfg (some (listing cfg (0x59 ∷ 0x0A ∷ 0xFF ∷ []) 2 All)) request room s
       ≡ subFunctionReply cfg (some (subFunction 0x0A 2 (listAll cfg))) request room s
   unfolding subFunctionReply listAll
   list-all-is request s room = refl
+
+  pub list-near-is : (request : List ℕ) (s : State) (room : ℕ)
+      → subFunctionReply cfg (some (listing cfg (0x59 ∷ 0x14 ∷ []) 2 Near)) request room s
+      ≡ subFunctionReply cfg (some (subFunction 0x14 2 (listNear cfg))) request room s
+  unfolding subFunctionReply listNear
+  list-near-is request s room = refl

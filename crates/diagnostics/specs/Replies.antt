@@ -2,22 +2,22 @@
 -- nothing.
 use mathlib.Core.Path.{_≡_}
 use mathlib.Core.Bool.{Bool, true, false, not, cond}
-use mathlib.Core.List.{List, [], _∷_}
+use mathlib.Core.List.{List, [], _∷_, _++_}
 use mathlib.Core.Option.{some}
 use Prim.Native.Nat.{ℕ, _+_, _<_, _≤_}
 use lib.IntN.{ℤ}
 use lib.Dec.{eqb, ltb}
-use lib.ListN.{length}
+use lib.ListN.{length, getD}
 use Rattle.manual.specs.declared.Board.{Board}
 use Rattle.manual.specs.declared.Verdict.the-variants.{None}
 use Rattle.manual.specs.Configuration.{Configuration, events, configOk}
-use Rattle.manual.specs.State.{State, lent, allStopped}
+use Rattle.manual.specs.State.{State, lent, allStopped, statusByte}
 use Rattle.manual.specs.Answers.{lentRoom, Outcome}
 use Rattle.manual.specs.Calls.{cleared}
 use Rattle.manual.specs.Diagnostics.{Reply, positive, negative, Served, served, SubFunction, subFunction}
-use Rattle.manual.specs.Diagnostics.{matches, line, lines, suppresses, subFunctionReply, replied}
+use Rattle.manual.specs.Diagnostics.{matches, line, lines, isNear, counterByte, suppresses, subFunctionReply, replied}
 use Rattle.diagnostics.specs.declared.Asked.{Asked}
-use Rattle.diagnostics.specs.declared.Asked.the-variants.{All, Matching}
+use Rattle.diagnostics.specs.declared.Asked.the-variants.{All, Matching, Near}
 use Rattle.diagnostics.specs.declared.Turn.{Turn}
 use Rattle.diagnostics.specs.declared.Turn.the-variants.{Write, Suppressed}
 use Rattle.diagnostics.specs.declared.ClearRequest.{ClearRequest}
@@ -45,12 +45,19 @@ module _ (cfg : Configuration) where
   abbrev pub asks : Asked → State → ℕ → Bool
   asks All s e = true
   asks (Matching mask) s e = matches cfg mask s e
+  asks Near s e = isNear cfg s e
+
+  -- the byte that a line shows of an event
+  abbrev pub shows : Asked → State → ℕ → ℕ
+  shows All s e = statusByte s e
+  shows (Matching mask) s e = statusByte s e
+  shows Near s e = counterByte cfg s e
 
   abbrev pub lineIfAsked : Asked → State → ℕ → List ℕ
-  lineIfAsked asked s e = cond (asks asked s e) (line cfg s e) []
+  lineIfAsked asked s e = cond (asks asked s e) (line cfg (shows asked s) e) []
 
   abbrev pub linesAsked : Asked → State → List ℕ
-  linesAsked asked s = lines cfg (asks asked s) s
+  linesAsked asked s = lines cfg (asks asked s) (shows asked s)
 
   -- ---- what the functions ask of the configuration and the room
 
@@ -77,10 +84,14 @@ module _ (cfg : Configuration) where
   subFunctionOutcome f request room s =
       replied cfg 0x19 (lentRoom room) (served (subFunctionReply cfg (some f) request (length room) s) s)
 
-  -- a sub-function whose reply lists the events that are asked for
-  abbrev pub listing : ℕ → ℕ → Asked → SubFunction
-  listing number size asked =
-      subFunction number size (λ request s. positive (0x59 ∷ number ∷ 0xFF ∷ linesAsked asked s))
+  -- a sub-function whose reply lists the events that are asked for, behind these bytes
+  abbrev pub listing : List ℕ → ℕ → Asked → SubFunction
+  listing head size asked = subFunction (getD head 1 0) size (λ request s. positive (head ++ linesAsked asked s))
+
+  -- what a function that lists asks for: that it was accepted, and a head of at most 3 bytes
+  pub record MayList (head room : List ℕ) : Type 0 where
+    pub accepted : Accepted room
+    pub head-most : length head ≤ 3
 
   -- the tests that a sub-function's reply goes by, where these are the bytes of its positive reply
   pub record Tests (f : SubFunction) (request : List ℕ) (room : ℕ) (s : State) (bytes : List ℕ)

@@ -1,4 +1,4 @@
-// Document 01, "Diagnostic requests".
+// Document 01, "Diagnostic requests", with the sub-function of document 02, W1.
 use judgement::Check;
 use manual::Board;
 use manual::EventNumber;
@@ -6,8 +6,9 @@ use manual::LengthAnswer;
 use manual::Refusal;
 ghost use mathlib.Core.Path.{_≡_};
 ghost use mathlib.Core.Bool.{true, cond};
-ghost use mathlib.Core.List.{[], _∷_};
+ghost use mathlib.Core.List.{List, [], _∷_};
 ghost use Prim.Native.Nat.{_+_, _%_, _<_, _≤_};
+ghost use lib.IntN.{ℤ};
 ghost use lib.ListN.{length, getD};
 ghost use lib.Dec.{eqb, ltb};
 ghost use Rattle.manual.specs.Words.{countBelow, threeAt};
@@ -16,18 +17,31 @@ ghost use Rattle.manual.specs.State.{State, lent};
 ghost use Rattle.manual.specs.WellFormed.{wellFormed};
 ghost use Rattle.manual.specs.Answers.{lentRoom, _if_, firstThatApplies, ofLength, leaves};
 ghost use Rattle.manual.specs.Diagnostics.{negative, replyBytes, served, subFunction, line, maskOf, suppresses};
-ghost use Rattle.manual.specs.Diagnostics.{numberByMask, listByMask, listAll, service19, service14, servedBy, sent};
+ghost use Rattle.manual.specs.Diagnostics.{matches, isNear, counterByte, numberByMask, listByMask, listAll, listNear};
+ghost use Rattle.manual.specs.Diagnostics.{service19, service14, servedBy, sent};
 ghost use Rattle.manual.specs.Diagnostics.{replied, requestRules, requestReply};
 ghost use Rattle.judgement.specs.Checks.{checkNumber};
 ghost use Rattle.writing.specs.Writing.{written, append};
-ghost use Rattle.diagnostics.specs.Replies.{InStatesWith, holding, sentIs, asks, lineIfAsked, linesAsked};
-ghost use Rattle.diagnostics.specs.Replies.{EventFits, BytesFit, Accepted, subFunctionOutcome, listing, TurnBy};
+ghost use Rattle.diagnostics.specs.Replies.{InStatesWith, holding, sentIs, asks, shows, lineIfAsked, linesAsked};
+ghost use Rattle.diagnostics.specs.Replies.{EventFits, BytesFit, Accepted, MayList, subFunctionOutcome, listing};
+ghost use Rattle.diagnostics.specs.Replies.{TurnBy};
 ghost use Rattle.diagnostics.specs.Replies.{clearRequestIs, serviceIs};
 
-// The events that a reply lists or counts: all, or those that match a mask.
+// Three things are called 14: the service that clears,
+const SERVICE_14: u8 = 0x14;
+
+// the sub-function of service 19 that lists the events near a fault,
+const SUB_FUNCTION_14: u8 = 0x14;
+
+// and the negative code of a reply that is longer than the room.
+const CODE_14: u8 = 0x14;
+
+// The events that a reply lists or counts: all, those that match a mask, or those that are near a fault. A line of
+// these shows the counter, any other the status.
 enum Asked {
     All,
     Matching(u8),
+    Near,
 }
 
 // What a sub-function of service 19 does: write its positive reply, write nothing, or reply with this negative code.
@@ -103,14 +117,58 @@ fn code_in(request: &[u8]) -> u32
 // ---- the events that a reply lists or counts
 
 // "An event matches if status and mask share a set bit."
-fn is_asked(records: &[u8], debounce: &[i32], event: EventNumber, asked: Asked) -> bool
-    ensures { λ r. ⌜ ((cfg : Configuration)
-        → r ≡ asks cfg asked (holding (now (records .entry)) (now (debounce .entry))) (event .0)) ⌝ }
+fn matches(records: &[u8], event: EventNumber, mask: u8) -> bool
+    ensures { λ r. ⌜ ((cfg : Configuration) (d : List ℤ)
+        → r ≡ matches cfg mask (holding (now (records .entry)) d) (event .0)) ⌝ }
 {
     let status = status::status_of(records, event);
+    status.0 & mask != 0
+}
+
+// "each event whose counter is 1 to 126"
+fn is_near(cfg: &[i32], records: &[u8], debounce: &[i32], event: EventNumber) -> bool
+    requires { ⌜ event .0 < mostEvents ⌝ }
+    ensures { λ r. ⌜ r
+        ≡ isNear (now (cfg .entry)) (holding (now (records .entry)) (now (debounce .entry))) (event .0) ⌝ }
+{
+    let counter = counter::counter_of(cfg, records, debounce, event);
+    (1 <= counter) & (counter <= 126)
+}
+
+// Whether a reply lists or counts the event.
+fn is_asked(cfg: &[i32], records: &[u8], debounce: &[i32], event: EventNumber, asked: Asked) -> bool
+    requires { ⌜ event .0 < mostEvents ⌝ }
+    ensures { λ r. ⌜ r
+        ≡ asks (now (cfg .entry)) asked (holding (now (records .entry)) (now (debounce .entry))) (event .0) ⌝ }
+{
     match asked {
         Asked::All => true,
-        Asked::Matching(mask) => status.0 & mask != 0,
+        Asked::Matching(mask) => matches(records, event, mask),
+        Asked::Near => is_near(cfg, records, debounce, event),
+    }
+}
+
+// "counter byte (two's complement)", of an event that is listed by its counter.
+fn counter_byte(cfg: &[i32], records: &[u8], debounce: &[i32], event: EventNumber) -> u8
+    requires { ⌜ (event .0 < mostEvents)
+        × (isNear (now cfg) (holding (now records) (now debounce)) (event .0) ≡ true) ⌝ }
+    ensures { λ r. ⌜ r
+        ≡ counterByte (now (cfg .entry)) (holding (now (records .entry)) (now (debounce .entry))) (event .0) ⌝ }
+{
+    counter::counter_of(cfg, records, debounce, event) as u8
+}
+
+// The byte that a line shows of an event that is asked for.
+fn shown(cfg: &[i32], records: &[u8], debounce: &[i32], event: EventNumber, asked: Asked) -> u8
+    requires { ⌜ (event .0 < mostEvents)
+        × (asks (now cfg) asked (holding (now records) (now debounce)) (event .0) ≡ true) ⌝ }
+    ensures { λ r. ⌜ r
+        ≡ shows (now (cfg .entry)) asked (holding (now (records .entry)) (now (debounce .entry))) (event .0) ⌝ }
+{
+    match asked {
+        Asked::All => status::status_of(records, event).0,
+        Asked::Matching(_) => status::status_of(records, event).0,
+        Asked::Near => counter_byte(cfg, records, debounce, event),
     }
 }
 
@@ -133,7 +191,7 @@ fn number_asked(cfg: &[i32], records: &[u8], debounce: &[i32], asked: Asked) -> 
     let mut number = 0;
     for event in 0..n {
         number = one_more_if(
-            is_asked(records, debounce, EventNumber(event), asked),
+            is_asked(cfg, records, debounce, EventNumber(event), asked),
             number,
         );
     }
@@ -152,29 +210,19 @@ fn negative(service: u8, code: u8, room: &mut [u8]) -> usize
     writing::write(room, 0, &[0x7F, service, code])
 }
 
-// "trouble code (3 bytes high first) and status"
+// "trouble code (3 bytes high first) and status", or the counter byte
 const LINE_WIDTH: usize = 4;
 
-fn write_line(
-    cfg: &[i32],
-    records: &[u8],
-    debounce: &[i32],
-    event: EventNumber,
-    room: &mut [u8],
-    at: usize,
-) -> usize
-    requires { ⌜ EventFits (now cfg) (event .0) at (line (now cfg) (holding (now records) (now debounce)) (event .0))
-        (now room) ⌝ }
+fn write_line(cfg: &[i32], event: EventNumber, byte: u8, room: &mut [u8], at: usize) -> usize
+    requires { ⌜ EventFits (now cfg) (event .0) at (line (now cfg) (λ e. byte) (event .0)) (now room) ⌝ }
     ensures { λ r. ⌜ written r (now (room .exit))
-        ≡ append (line (now (cfg .entry)) (holding (now (records .entry)) (now (debounce .entry))) (event .0))
-        (written at (now (room .entry))) ⌝ }
+        ≡ append (line (now (cfg .entry)) (λ e. byte) (event .0)) (written at (now (room .entry))) ⌝ }
 {
     let code = config::code_of(cfg, event);
     let high = (code / 65536) as u8;
     let middle = (code / 256 % 256) as u8;
     let low = (code % 256) as u8;
-    let status = status::status_of(records, event);
-    writing::write(room, at, &[high, middle, low, status.0])
+    writing::write(room, at, &[high, middle, low, byte])
 }
 
 // The line of an event that is asked for, and nothing of another.
@@ -194,8 +242,9 @@ fn write_line_if_asked(
         (lineIfAsked (now (cfg .entry)) asked (holding (now (records .entry)) (now (debounce .entry))) (event .0))
         (written at (now (room .entry))) ⌝ }
 {
-    if is_asked(records, debounce, event, asked) {
-        return write_line(cfg, records, debounce, event, room, at);
+    if is_asked(cfg, records, debounce, event, asked) {
+        let byte = shown(cfg, records, debounce, event, asked);
+        return write_line(cfg, event, byte, room, at);
     }
     at
 }
@@ -245,7 +294,7 @@ fn turn_of(wrong_length: bool, suppressed: bool, too_long: bool) -> Turn
         return Turn::Suppressed;
     }
     if too_long {
-        return Turn::Negative(0x14);
+        return Turn::Negative(CODE_14);
     }
     Turn::Write
 }
@@ -280,34 +329,35 @@ fn number_by_mask(
     }
 }
 
-// `59`, the sub-function, `FF`, "then per matching event trouble code (3 bytes high first) and status, rising", or "all
-// events likewise".
+// The head of the reply, "then per matching event trouble code (3 bytes high first) and status, rising", or "all events
+// likewise", or those that are near a fault with their counters.
 fn list_asked(
     cfg: &[i32],
     records: &[u8],
     debounce: &[i32],
     memory: &[u8],
     request: &[u8],
-    sub_function: u8,
+    head: &[u8],
     size: usize,
     asked: Asked,
     room: &mut [u8],
 ) -> usize
-    requires { ⌜ Accepted (now cfg) (now room) ⌝ }
+    requires { ⌜ MayList (now cfg) (now head) (now room) ⌝ }
     ensures { λ r.
         ⌜
         InStatesWith (now (records .entry)) (now (debounce .entry)) (now (memory .entry))
         (λ s. sentIs r (now (room .exit)) s
-        ≡ subFunctionOutcome (now (cfg .entry)) (listing (now (cfg .entry)) «sub_function» size asked)
+        ≡ subFunctionOutcome (now (cfg .entry)) (listing (now (cfg .entry)) (now (head .entry)) size asked)
         (now (request .entry)) (now (room .entry)) s)
         ⌝ }
 {
-    let too_long = room.len() < 3 + LINE_WIDTH * number_asked(cfg, records, debounce, asked);
+    let too_long = room.len()
+        < head.len() + LINE_WIDTH * number_asked(cfg, records, debounce, asked);
     match turn_of(request.len() != size, suppresses(request), too_long) {
         Turn::Negative(code) => negative(0x19, code, room),
         Turn::Suppressed => 0,
         Turn::Write => {
-            let at = writing::write(room, 0, &[0x59, sub_function, 0xFF]);
+            let at = writing::write(room, 0, head);
             write_lines(cfg, records, debounce, asked, room, at)
         }
     }
@@ -338,7 +388,7 @@ fn list_by_mask(
         debounce,
         memory,
         request,
-        0x02,
+        &[0x59, 0x02, 0xFF],
         3,
         asked,
         room,
@@ -369,14 +419,47 @@ fn list_all(
         debounce,
         memory,
         request,
-        0x0A,
+        &[0x59, 0x0A, 0xFF],
         2,
         Asked::All,
         room,
     )
 }
 
-// Writes the reply of service 19, and answers its length. "19: length 1: code 13. … not 01, 02, 0A: code 12."
+// Document 02, W1: "`59 14`, then trouble code and counter byte (two's complement) for each event whose counter is 1 to
+// 126, rising".
+fn list_near(
+    cfg: &[i32],
+    records: &[u8],
+    debounce: &[i32],
+    memory: &[u8],
+    request: &[u8],
+    room: &mut [u8],
+) -> usize
+    requires { ⌜ Accepted (now cfg) (now room) ⌝ }
+    ensures { λ r.
+        ⌜
+        InStatesWith (now (records .entry)) (now (debounce .entry)) (now (memory .entry))
+        (λ s. sentIs r (now (room .exit)) s
+        ≡ subFunctionOutcome (now (cfg .entry)) (subFunction 0x14 2 (listNear (now (cfg .entry))))
+        (now (request .entry)) (now (room .entry)) s)
+        ⌝ }
+{
+    list_asked(
+        cfg,
+        records,
+        debounce,
+        memory,
+        request,
+        &[0x59, SUB_FUNCTION_14],
+        2,
+        Asked::Near,
+        room,
+    )
+}
+
+// Writes the reply of service 19, and answers its length. "19: length 1: code 13. … not 01, 02, 0A: code 12.", and not
+// 14.
 fn reply_19(
     cfg: &[i32],
     records: &[u8],
@@ -402,6 +485,7 @@ fn reply_19(
         0x01 => number_by_mask(cfg, records, debounce, memory, request, room),
         0x02 => list_by_mask(cfg, records, debounce, memory, request, room),
         0x0A => list_all(cfg, records, debounce, memory, request, room),
+        SUB_FUNCTION_14 => list_near(cfg, records, debounce, memory, request, room),
         _ => negative(0x19, 0x12, room),
     }
 }
@@ -440,7 +524,7 @@ fn reply_14(cfg: &[i32], request: &[u8], room: &mut [u8]) -> Service
             writing::write(room, 0, &[0x54]);
             Service::Clear(code)
         }
-        ClearRequest::Negative(code) => Service::Replied(negative(0x14, code, room)),
+        ClearRequest::Negative(code) => Service::Replied(negative(SERVICE_14, code, room)),
     }
 }
 
@@ -467,7 +551,7 @@ fn serve(
     let service = byte_of(request, 0);
     match service {
         0x19 => Service::Replied(reply_19(cfg, records, debounce, memory, request, room)),
-        0x14 => reply_14(cfg, request, room),
+        SERVICE_14 => reply_14(cfg, request, room),
         _ => Service::Replied(negative(service, 0x11, room)),
     }
 }

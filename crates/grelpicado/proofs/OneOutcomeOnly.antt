@@ -1,4 +1,4 @@
--- The statement of each of the eleven calls allows one outcome only: one result, and of every block that the call may
+-- The statement of each of the twelve calls allows one outcome only: one result, and of every block that the call may
 -- write one content, to the last byte.
 use mathlib.Core.Path.{_≡_, refl}
 use mathlib.Core.List.{List}
@@ -8,6 +8,7 @@ use Rattle.manual.specs.Configuration.{Configuration}
 use Rattle.manual.specs.State.{State, lent}
 use Rattle.manual.specs.Answers.{lentRoom, alone}
 use Rattle.manual.specs.Calls.{fresh, report, tick, startCycle, stopCycle, clearCode, readStatus}
+use Rattle.manual.specs.Counter.{counterRead}
 use Rattle.manual.specs.Image.{save, restore}
 use Rattle.manual.specs.Diagnostics.{requestReply}
 use Rattle.manual.proofs.OneOutcomeOnly.{one-outcome}
@@ -16,11 +17,13 @@ use Rattle.grelpicado.specs.declared.PanelBoard.{PanelBoard}
 use Rattle.grelpicado.specs.declared.PanelAnswer.{PanelAnswer}
 use Rattle.grelpicado.specs.declared.PanelReport.{PanelReport}
 use Rattle.grelpicado.specs.declared.PanelStatus.{PanelStatus}
+use Rattle.grelpicado.specs.declared.PanelCounter.{PanelCounter}
 use Rattle.grelpicado.specs.declared.PanelFrame.{PanelFrame}
 use Rattle.grelpicado.specs.declared.PanelLength.{PanelLength}
 use Rattle.grelpicado.specs.declared.PanelRequest.{PanelRequest}
-use Rattle.grelpicado.specs.Panel.{boardOf, Crossing, crosses, crossesWithoutBoard, crossesWithFrame, withAnswer}
-use Rattle.grelpicado.specs.Panel.{withReport, withStatus, withFrame, withLength, withRequest}
+use Rattle.grelpicado.specs.Panel.{boardOf, Crossing, CounterCrossing, crosses, crossesWithoutBoard}
+use Rattle.grelpicado.specs.Panel.{crossesWithCounter, crossesWithFrame, withAnswer, withReport, withStatus}
+use Rattle.grelpicado.specs.Panel.{withCounter, withFrame, withLength, withRequest}
 
 -- the blocks that cross
 same-blocks : {o y y′ : Crossing} → y ≡ o → y′ ≡ o
@@ -41,6 +44,9 @@ reportIn x = record { number = x .number; verdict = x .verdict; board = x .board
 
 abbrev statusIn : Crossing → PanelStatus
 statusIn x = record { number = x .number; status = x .value }
+
+abbrev counterIn : CounterCrossing → PanelCounter
+counterIn x = record { number = x .rest .number; counter = x .counter }
 
 abbrev frameIn : Crossing → PanelFrame
 frameIn x = record { number = x .number; start = x .start; length = x .value }
@@ -120,6 +126,12 @@ module _ (cfg : Configuration) (records₀ : List ℕ) (debounce₀ : List ℤ) 
       → withStatus records₀ debounce₀ memory₀ board r′ ≡ crossesWithoutBoard (readStatus cfg event alone given) board
       → r ≡ r′
   one-read-status event r r′ p q = one-outcome statusIn refl refl p q
+
+  pub one-read-counter : (event : ℕ) (r r′ : PanelCounter)
+      → withCounter records₀ debounce₀ memory₀ board r ≡ crossesWithCounter (counterRead cfg event alone given) board
+      → withCounter records₀ debounce₀ memory₀ board r′ ≡ crossesWithCounter (counterRead cfg event alone given) board
+      → r ≡ r′
+  one-read-counter event r r′ p q = one-outcome counterIn refl refl p q
 
   pub one-read-frame : (event : ℕ) (r r′ : PanelFrame)
       → withFrame records₀ debounce₀ memory₀ board r ≡ crossesWithFrame (frameRead cfg event given) board

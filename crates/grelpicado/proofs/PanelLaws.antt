@@ -4,9 +4,12 @@ use mathlib.Core.Bool.{cond}
 use mathlib.Core.List.{List, []}
 use Prim.Native.Nat.{ℕ}
 use lib.Dec.{eqb}
+use lib.IntN.{ℤ}
 use Rattle.manual.specs.declared.Answer.{Answer}
 use Rattle.manual.specs.declared.Answer.the-variants.{Done}
 use Rattle.manual.specs.declared.Board.{Board}
+use Rattle.manual.specs.declared.CounterAnswer.{CounterAnswer}
+use Rattle.manual.specs.declared.CounterAnswer.the-variants.{Counter}
 use Rattle.manual.specs.declared.FrameAnswer.{FrameAnswer}
 use Rattle.manual.specs.declared.FrameAnswer.the-variants.{At}
 use Rattle.manual.specs.declared.LengthAnswer.{LengthAnswer}
@@ -16,11 +19,12 @@ use Rattle.manual.specs.declared.ReportAnswer.the-variants.{Accepted}
 use Rattle.manual.specs.declared.StatusAnswer.{StatusAnswer}
 use Rattle.manual.specs.declared.StatusAnswer.the-variants.{Status}
 use Rattle.manual.specs.State.{State}
-use Rattle.manual.specs.Answers.{lentRoom, Answered, ofAnswer, ofReport, ofStatus, ofFrame, ofLength, leaves}
-use Rattle.queries.specs.Reading.{startIn, lengthIn, says}
+use Rattle.manual.specs.Answers.{lentRoom, Answered, ofAnswer, ofReport, ofStatus, ofCounter, counterAnswered}
+use Rattle.manual.specs.Answers.{ofFrame, ofLength, leaves}
+use Rattle.queries.specs.Reading.{tells, startIn, lengthIn, says}
 use Rattle.grelpicado.specs.declared.PanelBoard.{PanelBoard}
-use Rattle.grelpicado.specs.Panel.{boardOf, bytesOf, verdictNumber, Crossing, crosses}
-use Rattle.grelpicado.specs.Panel.{crossesWithoutBoard, crossesWithFrame, made}
+use Rattle.grelpicado.specs.Panel.{boardOf, bytesOf, verdictNumber, crosses}
+use Rattle.grelpicado.specs.Panel.{crossesWithoutBoard, crossesWithCounter, crossesWithFrame, made}
 
 -- ---- what an answer does not have is 0
 
@@ -39,6 +43,10 @@ report-value (ReportAnswer.Refused r) = refl
 pub status-verdict : (a : StatusAnswer) → 0 ≡ verdictNumber (ofStatus a .verdict)
 status-verdict (Status byte) = refl
 status-verdict (StatusAnswer.Refused r) = refl
+
+pub counter-verdict : (a : CounterAnswer) → 0 ≡ verdictNumber (ofCounter a .verdict)
+counter-verdict (Counter z) = refl
+counter-verdict (CounterAnswer.Refused r) = refl
 
 pub frame-verdict : (a : FrameAnswer) → 0 ≡ verdictNumber (ofFrame a .verdict)
 frame-verdict (At part) = refl
@@ -68,6 +76,17 @@ module _ (x : Answered) (room : List ℕ) (s : State) (found : PanelBoard) {n v 
   crossed-without-board number verdict value =
       λ i. made (number i) (verdict i) (value i) 0 (s .records) (s .debounce) (s .memory) room found
 
+pub crossed-with-counter : (a : CounterAnswer) (s : State) (found : PanelBoard) {n : ℕ} {z : ℤ}
+    → n ≡ ofCounter a .number → z ≡ counterAnswered a
+    → record { rest = made n 0 0 0 (s .records) (s .debounce) (s .memory) [] found; counter = z }
+    ≡ crossesWithCounter (tells a s) found
+unfolding crossesWithCounter
+crossed-with-counter a s found number counter =
+    λ i. record {
+      rest = made (number i) (counter-verdict a i) 0 0 (s .records) (s .debounce) (s .memory) [] found;
+      counter = counter i;
+    }
+
 pub crossed-with-frame : (a : FrameAnswer) (s : State) (found : PanelBoard) {n start size : ℕ} → n ≡ ofFrame a .number
     → start ≡ startIn a → size ≡ lengthIn a
     → made n 0 size start (s .records) (s .debounce) (s .memory) [] found ≡ crossesWithFrame (says a s) found
@@ -77,7 +96,7 @@ crossed-with-frame a s found number start size =
 
 -- ---- a call made on the board that the bytes stand for
 
-pub through : {A : Type 0} (over : A → PanelBoard → Crossing) (call : Board → A) (found : PanelBoard) {x : Crossing}
-    {o : A} {b : Board}
+pub through : {A X : Type 0} (over : A → PanelBoard → X) (call : Board → A) (found : PanelBoard) {x : X} {o : A}
+    {b : Board}
     → x ≡ over o found → o ≡ call b → b ≡ boardOf found → x ≡ over (call (boardOf found)) found
 through over call found crossed made read = crossed ∙ ap (λ o. over o found) (made ∙ ap call read)

@@ -11,11 +11,13 @@ use Rattle.manual.specs.declared.Verdict.{Verdict}
 use Rattle.manual.specs.declared.Verdict.the-variants.{None, Passed, Failed}
 use Rattle.manual.specs.State.{runs}
 use Rattle.manual.specs.Answers.{Outcome}
+use Rattle.manual.specs.Counter.{CounterRead}
 use Rattle.queries.specs.Reading.{FrameRead}
 use Rattle.grelpicado.specs.declared.PanelBoard.{PanelBoard}
 use Rattle.grelpicado.specs.declared.PanelAnswer.{PanelAnswer}
 use Rattle.grelpicado.specs.declared.PanelReport.{PanelReport}
 use Rattle.grelpicado.specs.declared.PanelStatus.{PanelStatus}
+use Rattle.grelpicado.specs.declared.PanelCounter.{PanelCounter}
 use Rattle.grelpicado.specs.declared.PanelFrame.{PanelFrame}
 use Rattle.grelpicado.specs.declared.PanelLength.{PanelLength}
 use Rattle.grelpicado.specs.declared.PanelRequest.{PanelRequest}
@@ -104,6 +106,14 @@ crossesWithoutBoard o found = crossing o (o .value) 0 found
 unfoldable pub crossesWithFrame : FrameRead → PanelBoard → Crossing
 crossesWithFrame f found = crossing (f .outcome) (f .length) (f .start) found
 
+-- the same of read counter: beside all that, the counter, which has a sign
+pub record CounterCrossing : Type 0 where
+  pub rest : Crossing
+  pub counter : ℤ
+
+unfoldable pub crossesWithCounter : CounterRead → PanelBoard → CounterCrossing
+crossesWithCounter c found = record { rest = crossing (c .outcome) 0 0 found; counter = c .counter }
+
 -- ---- a result, with the blocks as they are at the end of the call; what a result does not have is 0, or empty
 
 module _ (records : List ℕ) (debounce : List ℤ) (memory : List ℕ) where
@@ -118,6 +128,11 @@ module _ (records : List ℕ) (debounce : List ℤ) (memory : List ℕ) where
   -- read status: the value is the status, the board the caller's
   abbrev pub withStatus : PanelBoard → PanelStatus → Crossing
   withStatus board r = made (r .number) 0 (r .status) 0 records debounce memory [] board
+
+  -- read counter: the board is the caller's
+  abbrev pub withCounter : PanelBoard → PanelCounter → CounterCrossing
+  withCounter board r =
+      record { rest = made (r .number) 0 0 0 records debounce memory [] board; counter = r .counter }
 
   -- read frame: the value is the length, the board the caller's
   abbrev pub withFrame : PanelBoard → PanelFrame → Crossing

@@ -1,7 +1,8 @@
-// The eleven calls for a caller in C, as grelpicado.h declares them. Each reads the board's bytes, makes the call of
-// document 01, and hands back its numbers and the board.
+// The twelve calls for a caller in C, as grelpicado.h declares them. Each reads the board's bytes, makes the call, and
+// hands back its numbers and the board.
 use diagnostics::RequestReturned;
 use manual::Board;
+use manual::CounterAnswer;
 use manual::EventNumber;
 use manual::FrameAnswer;
 use manual::LengthAnswer;
@@ -18,12 +19,13 @@ ghost use lib.IntN.{ℤ};
 ghost use Rattle.manual.specs.State.{State, lent};
 ghost use Rattle.manual.specs.Answers.{alone, lentRoom, ofAnswer, ofReport, ofStatus, ofLength, leaves};
 ghost use Rattle.manual.specs.Calls.{fresh, report, tick, startCycle, stopCycle, clearCode, readStatus};
+ghost use Rattle.manual.specs.Counter.{counterRead};
 ghost use Rattle.manual.specs.Image.{save, restore};
 ghost use Rattle.manual.specs.Diagnostics.{requestReply};
-ghost use Rattle.queries.specs.Reading.{startIn, lengthIn, says, frameRead};
+ghost use Rattle.queries.specs.Reading.{tells, startIn, lengthIn, says, frameRead};
 ghost use Rattle.grelpicado.specs.Panel.{yes, flagByte, boardOf, bytesOf, verdictNumber, crosses};
-ghost use Rattle.grelpicado.specs.Panel.{crossesWithoutBoard, crossesWithFrame, withAnswer, withReport};
-ghost use Rattle.grelpicado.specs.Panel.{withStatus, withFrame, withLength, withRequest};
+ghost use Rattle.grelpicado.specs.Panel.{crossesWithoutBoard, crossesWithCounter, crossesWithFrame, withAnswer};
+ghost use Rattle.grelpicado.specs.Panel.{withReport, withStatus, withCounter, withFrame, withLength, withRequest};
 
 // ---- what crosses by value
 
@@ -54,6 +56,13 @@ pub struct PanelReport {
 pub struct PanelStatus {
     pub number: u8,
     pub status: u8,
+}
+
+// The answer of read counter.
+#[repr(C)]
+pub struct PanelCounter {
+    pub number: u8,
+    pub counter: i8,
 }
 
 // The answer of read frame: where the frame starts in the caller's own memory block, and its length.
@@ -170,7 +179,7 @@ fn frame_length(answer: FrameAnswer) -> usize
     }
 }
 
-// ---- what a call of document 01 answers, as it crosses
+// ---- what a call answers, as it crosses
 
 // Fresh, tick, start, stop, clear and restore.
 pub(crate) fn answer_of(returned: Returned, found: PanelBoard) -> PanelAnswer
@@ -235,6 +244,17 @@ pub(crate) fn status_of(answer: StatusAnswer) -> PanelStatus
     }
 }
 
+// Read counter hands back no board.
+pub(crate) fn counter_of(answer: CounterAnswer) -> PanelCounter
+    ensures { λ r. ⌜ ((s : State) (found : PanelBoard)
+        → withCounter (s .records) (s .debounce) (s .memory) found r ≡ crossesWithCounter (tells answer s) found) ⌝ }
+{
+    PanelCounter {
+        number: answers::counter_number(answer),
+        counter: answers::counter(answer),
+    }
+}
+
 // Read frame hands back no board.
 pub(crate) fn frame_of(answer: FrameAnswer) -> PanelFrame
     ensures { λ r. ⌜ ((s : State) (found : PanelBoard)
@@ -259,7 +279,7 @@ pub(crate) fn length_of(answer: LengthAnswer) -> PanelLength
     }
 }
 
-// ---- the eleven calls
+// ---- the twelve calls
 
 // "Fresh: status 50h, K = h = g = 0, D = 0, memory empty (all bytes 0), cycles stopped, overflow clear."
 #[no_mangle]
@@ -417,6 +437,27 @@ pub extern "C" fn grelpicado_read_status(
     let given = board_of(board);
     let answer = queries::read_status(cfg, records, debounce, memory, given, EventNumber(event));
     status_of(answer)
+}
+
+// Document 02, W1: the event's fault detection counter.
+#[no_mangle]
+pub extern "C" fn grelpicado_read_counter(
+    cfg: &[i32],
+    records: &[u8],
+    debounce: &[i32],
+    memory: &[u8],
+    board: PanelBoard,
+    event: usize,
+) -> PanelCounter
+    ensures { λ r. ⌜ withCounter (now (records .entry)) (now (debounce .entry)) (now (memory .entry)) board r
+        ≡ crossesWithCounter
+        (counterRead (now (cfg .entry)) event alone
+        (lent (now (records .entry)) (now (debounce .entry)) (now (memory .entry)) (boardOf board)))
+        board ⌝ }
+{
+    let given = board_of(board);
+    let answer = queries::read_counter(cfg, records, debounce, memory, given, EventNumber(event));
+    counter_of(answer)
 }
 
 // "The stored frame is read as a part of the caller's own memory block, no copy."

@@ -1,17 +1,21 @@
--- The statements of `read_status`, `read_frame` and `frame_part` allow one outcome only: one result. The calls are lent
--- nothing to be written; of a frame the result says where it starts and how long it is.
+-- The statements of `read_status`, `read_counter`, `read_frame` and `frame_part` allow one outcome only: one result.
+-- The calls are lent nothing to be written; of a frame the result says where it starts and how long it is.
 use mathlib.Core.Path.{_≡_, refl, sym, _∙_}
 use mathlib.Core.List.{List, []}
 use Prim.Native.Nat.{ℕ}
+use lib.IntN.{pos}
+use Rattle.manual.specs.declared.CounterAnswer.{CounterAnswer}
+use Rattle.manual.specs.declared.CounterAnswer.the-variants.{Counter}
 use Rattle.manual.specs.declared.FrameAnswer.{FrameAnswer}
 use Rattle.manual.specs.declared.FrameAnswer.the-variants.{At}
 use Rattle.manual.specs.declared.StatusAnswer.{StatusAnswer}
 use Rattle.manual.specs.Configuration.{Configuration}
 use Rattle.manual.specs.State.{State}
-use Rattle.manual.specs.Answers.{alone, answered, ofStatus, ofFrame, leaves}
+use Rattle.manual.specs.Answers.{alone, answered, ofStatus, ofCounter, ofFrame, leaves}
 use Rattle.manual.specs.Calls.{readStatus}
+use Rattle.manual.specs.Counter.{CounterRead, counterRead}
 use Rattle.manual.proofs.OneOutcomeOnly.{answerAt, refused-back, one-outcome, same-status}
-use Rattle.queries.specs.Reading.{FrameRead, partOf, says, frameRead}
+use Rattle.queries.specs.Reading.{tells, FrameRead, partOf, says, frameRead}
 
 module _ (cfg : Configuration) (event : ℕ) (s : State) where
   pub one-read-status : (r r′ : StatusAnswer)
@@ -19,6 +23,23 @@ module _ (cfg : Configuration) (event : ℕ) (s : State) where
       → leaves (ofStatus r′) [] alone s ≡ readStatus cfg event alone s
       → r ≡ r′
   one-read-status r r′ p q = same-status r r′ p q
+
+  -- the answer is read off its number and its counter
+  abbrev counterAnswerIn : CounterRead → CounterAnswer
+  counterAnswerIn c =
+      answerAt (λ a. Counter (c .counter)) CounterAnswer.Refused
+      (answered (c .outcome .answer) (c .outcome .verdict) (c .outcome .value))
+
+  counter-back : (r : CounterAnswer) → counterAnswerIn (tells r s) ≡ r
+  counter-back (Counter z) = refl
+  counter-back (CounterAnswer.Refused r) =
+      refused-back (λ a. Counter (pos 0)) CounterAnswer.Refused r (ofCounter (CounterAnswer.Refused r)) refl
+
+  pub one-read-counter : (r r′ : CounterAnswer)
+      → tells r s ≡ counterRead cfg event alone s
+      → tells r′ s ≡ counterRead cfg event alone s
+      → r ≡ r′
+  one-read-counter r r′ p q = one-outcome counterAnswerIn (counter-back r) (counter-back r′) p q
 
   -- the answer is read off its number, its start and its length
   abbrev answerIn : FrameRead → FrameAnswer

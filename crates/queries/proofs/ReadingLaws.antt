@@ -5,25 +5,34 @@ use mathlib.Core.List.{List, [], _∷_}
 use Prim.Native.Nat.{ℕ, _+_, _≤_, _<_}
 use native.Mathlib.Omega.{arith}
 use lib.Dec.{eqb}
+use lib.IntN.{ℤ, pos, negsuc}
 use lib.ListN.{length, take, drop}
-use borrow.Author.Tests.{le-leb, lt-leb, not-false}
+use mir.Syntax.{w8}
+use mir.Val.{SFits}
+use borrow.Author.Tests.{le-leb, lt-leb, leb-true, leb-false, not-false}
 use Rattle.history.specs.Words.{anyOf}
+use Rattle.manual.specs.declared.CounterAnswer.{CounterAnswer}
+use Rattle.manual.specs.declared.CounterAnswer.the-variants.{Counter}
 use Rattle.manual.specs.declared.FrameAnswer.{FrameAnswer}
 use Rattle.manual.specs.declared.FrameAnswer.the-variants.{At}
 use Rattle.manual.specs.declared.Place.{Place}
 use Rattle.manual.specs.declared.Refusal.{Refusal}
 use Rattle.manual.specs.declared.Refusal.the-variants.{NoEntry}
 use Rattle.manual.specs.declared.Verdict.the-variants.{None}
-use Rattle.manual.specs.Configuration.{Configuration, mostPlaces, mostPayload, frameBytes, entryFrames, configOk}
+use Rattle.manual.specs.Configuration.{Configuration, mostEvents, mostPlaces, mostPayload, events, frameBytes}
+use Rattle.manual.specs.Configuration.{entryFrames, configOk}
 use Rattle.manual.specs.State.{State, statusByte}
 use Rattle.manual.specs.Memory.{entriesOf, isOf, entryFor}
 use Rattle.manual.specs.WellFormed.{entries, wellFormed}
 use Rattle.manual.specs.Answers.{alone, Outcome, refused, Rule, _if_, firstThatApplies, numberOf, answered, leaves}
+use Rattle.manual.specs.Words.{between}
+use Rattle.manual.specs.Counter.{counterIn, readCounterRules, readCounter, counted, counterRead}
 use Rattle.manual.specs.Calls.{frameOf, begins, noSuchEvent, readStatusRules, readStatus, readFrameRules, readFrame}
-use Rattle.manual.proofs.WordsLaws.{first-none, first-some}
+use Rattle.manual.proofs.WordsLaws.{first-none, first-some, between-from, between-to}
 use Rattle.manual.proofs.AnswersLaws.{first-of-both, none-applies, goes-through, stops-with}
 use Rattle.manual.proofs.OneOutcomeOnly.{not-done}
 use Rattle.manual.proofs.ConfigurationLaws.{config-tells}
+use Rattle.manual.proofs.CounterOfAState.{in-a-byte}
 use Rattle.manual.proofs.WellFormedLaws.{StateTells, state-tells, used-fits}
 use Rattle.memory.specs.declared.Find.{Find}
 use Rattle.memory.specs.declared.Find.the-variants.{Nothing}
@@ -31,6 +40,7 @@ use Rattle.memory.specs.Places.{frameAt, placeOf}
 use Rattle.memory.specs.Fits.{EntriesFit, PlaceFits}
 use Rattle.memory.proofs.PlacesLaws.{entry-within, entries-are-count, frame-is-at, found, found-nothing}
 use Rattle.queries.specs.Reading.{four, partAt, says, frameStart, entryAnswer, placed, frameRead}
+use Rattle.queries.specs.Reading as Reading
 
 -- ---- a part of a block
 
@@ -101,6 +111,25 @@ module _ (cfg : Configuration) (s : State) (e : ℕ)
   unfolding readStatus readStatusRules
   status-is q = ap (λ (b : ℕ). leaves (answered 0 None b) [] alone s) q ∙ sym (goes-through _ alone s _ z)
 
+  -- the event is one of the configuration's, and its counter fits a byte with a sign
+  pub event-below : e < events cfg
+  event-below = leb-false _ _ (none-applies _ z refl 2)
+
+  pub event-most : e < mostEvents
+  event-most =
+      let most =
+      config-tells cfg (not-false (configOk cfg) (none-applies _ z refl 0)) .n-most in omega (arith, event-below)
+
+  pub counter-small : between (negsuc 127) (pos 127) (counterIn cfg s e) ≡ true
+  counter-small =
+      in-a-byte cfg s (not-false (configOk cfg) (none-applies _ z refl 0))
+      (not-false (wellFormed cfg s) (none-applies _ z refl 1)) e event-below
+
+  pub counter-is : {counter : ℤ} → counter ≡ counterIn cfg s e
+      → Reading.tells (Counter counter) s ≡ counterRead cfg e alone s
+  unfolding counterRead readCounter readCounterRules
+  counter-is q = let o = sym (goes-through _ alone s _ z) in (λ i. counted (o i) (q i))
+
   only-ten : firstThatApplies (readFrameRules cfg e s) ≡ firstThatApplies (ten cfg s e)
   only-ten = then-ten cfg s e ∙ rw z
 
@@ -150,6 +179,20 @@ module _ (cfg : Configuration) (s : State) (e : ℕ) (r : Refusal)
   unfolding readStatus readStatusRules
   status-refused = stops-with _ alone s _ r q
 
+  pub counter-refused : Reading.tells (CounterAnswer.Refused r) s ≡ counterRead cfg e alone s
+  unfolding counterRead readCounter readCounterRules
+  counter-refused =
+      let here : Reading.tells (CounterAnswer.Refused r) s
+      ≡ counted (refused (numberOf r) alone s) (counterIn cfg s e) =
+      rw (not-done r) in
+      here ∙ ap (λ (o : Outcome). counted o (counterIn cfg s e)) (stops-with _ alone s _ r q)
+
   pub frame-refused : says (FrameAnswer.Refused r) s ≡ frameRead cfg e s
   unfolding frameRead readFrame
   frame-refused = refused-is r s _ _ _ (stops-with _ alone s _ r (sym (then-ten cfg s e ∙ rw (← q, not-done r))))
+
+-- a number from −128 to 127 fits a byte with a sign
+pub small-fits : (z : ℤ) → between (negsuc 127) (pos 127) z ≡ true → SFits w8 z
+small-fits (pos n) t = record { sfits = omega (arith, leb-true n 127 (between-to (negsuc 127) (pos 127) (pos n) t)) }
+small-fits (negsuc n) t =
+    record { sfits = omega (arith, leb-true n 127 (between-from (negsuc 127) (pos 127) (negsuc n) t)) }

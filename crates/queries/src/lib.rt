@@ -1,6 +1,8 @@
-// Document 01, "read status 4; read frame 4, 10": the calls that read an event's status byte and its stored frame.
+// Document 01, "read status 4; read frame 4, 10": the calls that read an event's status byte and its stored frame; and
+// document 02, W1: the call that reads its fault detection counter.
 use judgement::Check;
 use manual::Board;
+use manual::CounterAnswer;
 use manual::EventNumber;
 use manual::FrameAnswer;
 use manual::FramePart;
@@ -15,10 +17,11 @@ ghost use Rattle.manual.specs.State.{lent};
 ghost use Rattle.manual.specs.Memory.{entriesOf};
 ghost use Rattle.manual.specs.Answers.{alone, firstThatApplies, ofStatus, leaves};
 ghost use Rattle.manual.specs.Calls.{begins, noSuchEvent, readStatus};
+ghost use Rattle.manual.specs.Counter.{counterRead};
 ghost use Rattle.judgement.specs.Checks.{checkNumber};
 ghost use Rattle.memory.specs.Fits.{EntriesFit};
 ghost use Rattle.memory.specs.Places.{placeOf};
-ghost use Rattle.queries.specs.Reading.{four, partAt, partOf, says, entryAnswer, frameRead};
+ghost use Rattle.queries.specs.Reading.{four, tells, partAt, partOf, says, entryAnswer, frameRead};
 
 // ---- 2, 3, 4
 
@@ -32,7 +35,7 @@ fn four(no_such: bool) -> Check
     Check::Go
 }
 
-// 2, 3, then 4: with these both calls begin.
+// 2, 3, then 4: with these the three calls begin.
 fn judge(
     cfg: &[i32],
     records: &[u8],
@@ -71,6 +74,30 @@ pub fn read_status(
     match judge(cfg, records, debounce, memory, board, event) {
         Check::Go => StatusAnswer::Status(status::status_of(records, event).0),
         Check::Stop(refusal) => StatusAnswer::Refused(refusal),
+    }
+}
+
+// ---- read counter
+
+// The event's fault detection counter, −128 to 127.
+pub fn read_counter(
+    cfg: &[i32],
+    records: &[u8],
+    debounce: &[i32],
+    memory: &[u8],
+    board: Board,
+    event: EventNumber,
+) -> CounterAnswer
+    ensures { λ r. ⌜ tells r (lent (now (records .entry)) (now (debounce .entry)) (now (memory .entry)) board)
+        ≡ counterRead (now (cfg .entry)) (event .0) alone
+        (lent (now (records .entry)) (now (debounce .entry)) (now (memory .entry)) board) ⌝ }
+{
+    match judge(cfg, records, debounce, memory, board, event) {
+        Check::Go => {
+            let counter = counter::counter_of(cfg, records, debounce, event);
+            CounterAnswer::Counter(counter as i8)
+        }
+        Check::Stop(refusal) => CounterAnswer::Refused(refusal),
     }
 }
 

@@ -5,10 +5,10 @@ use Rattle.diagnostics.proofs.list_all.Tie as tie
 
 returns : tie.Need-returns
 returns c b =
-    let a = c .before .before .before .before .before .before .before .before .args in
+    let a = c .before .before .before .before .before .before .before .before .before .args in
     by-reply _ (a .room .now) _ (list-all-is (a .cfg .now) (a .request .now) _ _)
     (c .before .before .list-asked .ensures b)
 
 pub list-all-spec : {M : Type 1} → statement M
 list-all-spec = tie.close
-    (tie.spec (λ c κs. search needs) (λ c. search needs) returns)
+    (tie.spec (λ c. search needs) (λ c κs. search needs) (λ c. search needs) returns)

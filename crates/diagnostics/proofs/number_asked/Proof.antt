@@ -23,7 +23,9 @@ loop-holds : tie.Need-loop-holds Inv-loop μ-loop
 loop-holds c = (omega arith, sym (count-none _))
 
 is-asked-requires : tie.Need-is-asked-requires Inv-loop μ-loop
-is-asked-requires c κs = tt
+is-asked-requires c κs =
+    let t = config-tells _ (c .before .before .before .before .pre) in
+    omega (arith, c .before .before .events .ensures, c .loop-test .taken)
 
 one-more-if-requires : tie.Need-one-more-if-requires Inv-loop μ-loop
 one-more-if-requires c κs =
@@ -42,7 +44,7 @@ loop-again c = (
   omega arith,
   rw (
     count-more,
-    ← c .before .is-asked .ensures (c .before .before .before .before .before .before .args .cfg .now),
+    ← c .before .is-asked .ensures,
     ← c .before .before .before .loop .inv .1,
   )
       (c .one-more-if .ensures),

@@ -34,12 +34,20 @@ returns-4 c b =
     (sym (m .match .keys3) ∙ m .before .sub-function-of .ensures) (c .before .before .list-all .ensures b)
 
 returns-5 : tie.Need-returns-5
+unfolding firstOf
 returns-5 c b =
     let m = c .before .before .before .before in
     let a = m .before .before .before .before .before .before .before .args in
+    of-number _ (a .room .now) _ _ (m .before .before .if1 .left)
+    (sym (m .match .keys4) ∙ m .before .sub-function-of .ensures) (c .before .before .list-near .ensures b)
+
+returns-6 : tie.Need-returns-6
+returns-6 c b =
+    let m = c .before .before .before .before in
+    let a = m .before .before .before .before .before .before .before .args in
     of-number _ (a .room .now) _ _ (m .before .before .if1 .left) (m .before .sub-function-of .ensures)
-    (no-such-number _ _ _ _ (m .match .rest .0 .0 .1) (m .match .rest .0 .1) (m .match .rest .1)
-    (c .before .before .negative2 .ensures _ _))
+    (no-such-number _ _ _ _ (m .match .rest .0 .0 .0 .1) (m .match .rest .0 .0 .1) (m .match .rest .0 .1)
+    (m .match .rest .1) (c .before .before .negative2 .ensures _ _))
 
 pub reply-19-spec : {M : Type 1} → statement M
 reply-19-spec =
@@ -48,11 +56,13 @@ reply-19-spec =
     (λ c κs. search needs) (λ c. search needs)
     returns
     (λ c κs. search needs) (λ c κs. search needs) (λ c κs. search needs) (λ c κs. search needs) (λ c κs. search needs)
-    (λ c. search needs)
+    (λ c κs. search needs) (λ c. search needs)
     returns-2
     (λ c. search needs)
     returns-3
     (λ c. search needs)
     returns-4
     (λ c. search needs)
-    returns-5)
+    returns-5
+    (λ c. search needs)
+    returns-6)

@@ -5,21 +5,16 @@ use Rattle.diagnostics.proofs.write_line.Statement.{statement}
 use Rattle.diagnostics.proofs.write_line.Tie as tie
 
 code-of-requires : tie.Need-code-of-requires
-code-of-requires c κs = let t = config-tells _ (c .before .before .pre .config) in omega arith
+code-of-requires c κs = let t = config-tells _ (c .before .pre .config) in omega arith
 
 cast-high : tie.Need-cast-high
 cast-high c =
     let row =
-    config-tells _ (c .before .before .before .pre .config) .row _ (c .before .before .before .pre .event-below) in
+    config-tells _ (c .before .before .pre .config) .row _ (c .before .before .pre .event-below) in
     omega (arith, c .code-of .ensures)
 
 returns : tie.Need-returns
-returns c =
-    rw (
-      ← c .before .before .before .before .before .before .code-of .ensures,
-      ← c .before .before .before .before .before .status-of .ensures,
-    )
-    (c .before .before .write .ensures)
+returns c = rw (← c .before .before .before .before .before .code-of .ensures) (c .before .before .write .ensures)
 
 pub write-line-spec : {M : Type 1} → statement M
 write-line-spec =
@@ -27,6 +22,5 @@ write-line-spec =
     (tie.spec
     code-of-requires
     cast-high
-    (λ c. search needs) (λ c. search needs) (λ c κs. search needs) (λ c. search needs) (λ c κs. search needs)
-    (λ c. search needs)
+    (λ c. search needs) (λ c. search needs) (λ c. search needs) (λ c κs. search needs) (λ c. search needs)
     returns)
