@@ -3,7 +3,7 @@
  *
  * To start: write a configuration (grelpicado_event), give grelpicado_begin your
  * arrays, and make the calls grelpicado_ctx_... on what it filled. They stand at
- * the end of this file, over the eleven plain calls that do the work.
+ * the end of this file, over the twelve plain calls that do the work.
  *
  * The manager keeps nothing of its own. Everything it works on is lent by the
  * caller for the length of one call:
@@ -44,10 +44,10 @@ extern "C" {
 #endif
 
 /*
- * Of this header: 1000 is 1.0. The thousands rise when a program that includes it must be changed
+ * Of this header: 1001 is 1.1. The thousands rise when a program that includes it must be changed
  * or compiled again, the rest when something is added.
  */
-#define GRELPICADO_HEADER_VERSION 1000
+#define GRELPICADO_HEADER_VERSION 1001
 
 /* A cast and a check in the words of either language, for this file. */
 #ifdef __cplusplus
@@ -243,6 +243,12 @@ typedef struct grelpicado_status_answer {
     uint8_t status;
 } grelpicado_status_answer;
 
+/* The fault detection counter, -128 to 127; 0 beside a refusal. */
+typedef struct grelpicado_counter_answer {
+    uint8_t number;
+    int8_t counter;
+} grelpicado_counter_answer;
+
 /* The frame is memory[start] to memory[start + length - 1], in the caller's own block. */
 typedef struct grelpicado_frame_answer {
     uint8_t number;
@@ -262,7 +268,7 @@ typedef struct grelpicado_request_answer {
     grelpicado_board board;
 } grelpicado_request_answer;
 
-/* ---- the eleven calls */
+/* ---- the twelve calls */
 
 /*
  * The fresh state: every status 50h, no entry, cycles stopped, overflow clear.
@@ -343,6 +349,21 @@ grelpicado_answer grelpicado_clear(
  * Refusals, in order: 2, 3, 4 (event).
  */
 grelpicado_status_answer grelpicado_read_status(
+    const int32_t *config, size_t config_length,
+    const uint8_t *records, size_t records_length,
+    const int32_t *debounce, size_t debounce_length,
+    const uint8_t *memory, size_t memory_length,
+    grelpicado_board board,
+    size_t event);
+
+/*
+ * How near an event is to a fault: the fault detection counter. Of kinds 1 and 2 it is 127 exactly
+ * where the debounce number is at its top, -128 exactly at its bottom, and never falls as it rises; a
+ * stop makes it 0. Of kind 0: 127 while the last result is failed, 0 while there is none since the
+ * last clear, else -128. Writes nothing.
+ * Refusals, in order: 2, 3, 4 (event).
+ */
+grelpicado_counter_answer grelpicado_read_counter(
     const int32_t *config, size_t config_length,
     const uint8_t *records, size_t records_length,
     const int32_t *debounce, size_t debounce_length,
@@ -527,6 +548,12 @@ static inline grelpicado_status_answer grelpicado_ctx_read_status(const grelpica
     return grelpicado_read_status(GRELPICADO_LENT_(manager), event);
 }
 
+/* How near an event is to a fault, -128 to 127. Refusals: 2, 3, 4. */
+static inline grelpicado_counter_answer grelpicado_ctx_read_counter(const grelpicado *manager, size_t event)
+{
+    return grelpicado_read_counter(GRELPICADO_LENT_(manager), event);
+}
+
 /* Where the stored frame of an event lies: at manager->memory + start. Refusals: 2, 3, 4, 10. */
 static inline grelpicado_frame_answer grelpicado_ctx_read_frame(const grelpicado *manager, size_t event)
 {
@@ -584,6 +611,8 @@ GRELPICADO_CHECK_(sizeof(grelpicado_report_answer) == 7 && offsetof(grelpicado_r
     && offsetof(grelpicado_report_answer, board) == 2, "layout of grelpicado_report_answer");
 GRELPICADO_CHECK_(sizeof(grelpicado_status_answer) == 2 && offsetof(grelpicado_status_answer, number) == 0
     && offsetof(grelpicado_status_answer, status) == 1, "layout of grelpicado_status_answer");
+GRELPICADO_CHECK_(sizeof(grelpicado_counter_answer) == 2 && offsetof(grelpicado_counter_answer, number) == 0
+    && offsetof(grelpicado_counter_answer, counter) == 1, "layout of grelpicado_counter_answer");
 GRELPICADO_CHECK_(sizeof(grelpicado_frame_answer) == 24 && offsetof(grelpicado_frame_answer, number) == 0
     && offsetof(grelpicado_frame_answer, start) == 8
     && offsetof(grelpicado_frame_answer, length) == 16, "layout of grelpicado_frame_answer");

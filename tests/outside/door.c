@@ -27,7 +27,7 @@
 enum { CONFIG, RECORDS, DEBOUNCE, MEMORY, INPUT, ROOM, BLOCKS };
 
 enum {
-    FRESH, REPORT, TICK, START, STOP, CLEAR, READ_STATUS, READ_FRAME, SAVE, RESTORE, REQUEST
+    FRESH, REPORT, TICK, START, STOP, CLEAR, READ_STATUS, READ_FRAME, SAVE, RESTORE, REQUEST, READ_COUNTER
 };
 
 /* By the plain call; on a context; by grelpicado_begin, for a fresh state. */
@@ -50,7 +50,7 @@ struct answer {
     uint8_t broken; /* a bit for each block beside which a byte was written; 40h: the context's blocks changed */
     grelpicado_board board;
     uint64_t turn;
-    uint64_t start;
+    uint64_t start;  /* of a frame; or a counter, as a signed number */
     uint64_t length;
     uint64_t nanoseconds;
 };
@@ -244,6 +244,12 @@ static void take_status(struct answer *answer, grelpicado_status_answer got)
     answer->value = got.status;
 }
 
+static void take_counter(struct answer *answer, grelpicado_counter_answer got)
+{
+    answer->number = got.number;
+    answer->start = (uint64_t)(int64_t)got.counter; /* with its sign, as the header's type has it */
+}
+
 static void take_frame(struct answer *answer, grelpicado_frame_answer got)
 {
     answer->number = got.number;
@@ -282,6 +288,7 @@ static void by_plain(const struct head *head, const struct block b[BLOCKS], stru
     case SAVE: take_length(answer, grelpicado_save(LENT, board, ROOM_BYTES)); break;
     case RESTORE: take(answer, grelpicado_restore(LENT, board, INPUT_BYTES)); break;
     case REQUEST: take_request(answer, grelpicado_request(LENT, board, INPUT_BYTES, ROOM_BYTES)); break;
+    case READ_COUNTER: take_counter(answer, grelpicado_read_counter(LENT, board, event)); break;
     default: give_up("no such call");
     }
 }
@@ -315,6 +322,7 @@ static void on_context(
     case SAVE: take_length(answer, grelpicado_ctx_save(manager, ROOM_OR_NULL)); break;
     case RESTORE: answer->number = grelpicado_ctx_restore(manager, INPUT_OR_NULL); break;
     case REQUEST: take_length(answer, grelpicado_ctx_request(manager, INPUT_OR_NULL, ROOM_OR_NULL)); break;
+    case READ_COUNTER: take_counter(answer, grelpicado_ctx_read_counter(manager, event)); break;
     default: give_up("no such call");
     }
 }
@@ -461,6 +469,9 @@ static void print_layout(void)
     SIZE(grelpicado_status_answer);
     FIELD(grelpicado_status_answer, number);
     FIELD(grelpicado_status_answer, status);
+    SIZE(grelpicado_counter_answer);
+    FIELD(grelpicado_counter_answer, number);
+    FIELD(grelpicado_counter_answer, counter);
     SIZE(grelpicado_frame_answer);
     FIELD(grelpicado_frame_answer, number);
     FIELD(grelpicado_frame_answer, start);

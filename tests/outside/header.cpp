@@ -29,7 +29,11 @@ bool a_run(grelpicado *manager)
         && grelpicado_ctx_report(manager, 0, GRELPICADO_FAILED, nullptr, 0).verdict == GRELPICADO_VERDICT_FAILED
         && grelpicado_ctx_tick(manager, GRELPICADO_MAX_TICK, nullptr, 0) == GRELPICADO_DONE
         && grelpicado_ctx_read_status(manager, 0).status == 0xAF
+        && grelpicado_ctx_read_counter(manager, 0).counter == 127
         && grelpicado_ctx_read_frame(manager, 0).start == 4
+        && grelpicado_ctx_report(manager, 0, GRELPICADO_PASSED, nullptr, 0).verdict == GRELPICADO_VERDICT_PASSED
+        && grelpicado_ctx_read_counter(manager, 0).counter == -128
+        && grelpicado_ctx_report(manager, 0, GRELPICADO_FAILED, nullptr, 0).verdict == GRELPICADO_VERDICT_FAILED
         && grelpicado_ctx_stop(manager, GRELPICADO_CYCLE_0) == GRELPICADO_DONE;
 }
 

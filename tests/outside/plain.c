@@ -667,6 +667,36 @@ grelpicado_status_answer plain_read_status(LENT(const), size_t event)
     return (grelpicado_status_answer){GRELPICADO_DONE, records[RECORD * event + STATUS]};
 }
 
+/* How near an event is to a fault, -128 to 127. */
+static int32_t counter_of(const grelpicado_event *row, int32_t d, uint8_t status)
+{
+    if (row->debounce_kind == GRELPICADO_KIND_INTERNAL) {
+        if (status & GRELPICADO_TEST_FAILED) {
+            return 127;
+        }
+        return status & GRELPICADO_TEST_NOT_COMPLETED_SINCE_LAST_CLEAR ? 0 : -128;
+    }
+    int32_t less = row->debounce_kind == GRELPICADO_KIND_TIME ? 1 : 0;
+    if (d == 0) {
+        return 0;
+    }
+    return d > 0 ? 127 * (d - less) / row->q : -(128 * (-d - less) / -row->p);
+}
+
+grelpicado_counter_answer plain_read_counter(LENT(const), size_t event)
+{
+    struct table table;
+    uint8_t number = judge(&table, LENGTHS, BLOCKS, &board);
+    if (number != GRELPICADO_DONE) {
+        return (grelpicado_counter_answer){number, 0};
+    }
+    if (event >= table.events) {
+        return (grelpicado_counter_answer){GRELPICADO_NO_SUCH, 0};
+    }
+    int32_t counter = counter_of(&table.event[event], debounce[event], records[RECORD * event + STATUS]);
+    return (grelpicado_counter_answer){GRELPICADO_DONE, (int8_t)counter};
+}
+
 grelpicado_frame_answer plain_read_frame(LENT(const), size_t event)
 {
     struct table table;
@@ -777,7 +807,7 @@ grelpicado_answer plain_restore(LENT(), const uint8_t *image, size_t image_lengt
 
 enum {
     READ_INFORMATION = 0x19, CLEAR_INFORMATION = 0x14, POSITIVE = 0x40, NEGATIVE = 0x7F,
-    COUNT_BY_MASK = 0x01, LIST_BY_MASK = 0x02, LIST_ALL = 0x0A, SUPPRESS = 0x80
+    COUNT_BY_MASK = 0x01, LIST_BY_MASK = 0x02, LIST_ALL = 0x0A, LIST_NEAR = 0x14, SUPPRESS = 0x80
 };
 
 /* The codes of negative replies; 0 where the request is good. */
@@ -804,7 +834,7 @@ static uint8_t judge_question(struct question *question, const uint8_t *request,
         return WRONG_LENGTH;
     }
     question->sub_function = request[1] & 0x7F;
-    question->all = question->sub_function == LIST_ALL;
+    question->all = question->sub_function == LIST_ALL || question->sub_function == LIST_NEAR;
     if (!question->all && question->sub_function != COUNT_BY_MASK && question->sub_function != LIST_BY_MASK) {
         return NO_SUB_FUNCTION;
     }
@@ -815,15 +845,19 @@ static uint8_t judge_question(struct question *question, const uint8_t *request,
     return GOOD;
 }
 
+static void put_code(uint8_t *at, int32_t code)
+{
+    at[0] = (uint8_t)(code >> 16);
+    at[1] = (uint8_t)(code >> 8);
+    at[2] = (uint8_t)code;
+}
+
 static void list(const struct table *table, const uint8_t *records, const struct question *question, uint8_t *at)
 {
     for (size_t e = 0; e < table->events; e++) {
         uint8_t status = records[RECORD * e + STATUS];
         if (matches(question, status)) {
-            int32_t code = table->event[e].trouble_code;
-            at[0] = (uint8_t)(code >> 16);
-            at[1] = (uint8_t)(code >> 8);
-            at[2] = (uint8_t)code;
+            put_code(at, table->event[e].trouble_code);
             at[3] = status;
             at += 4;
         }
@@ -839,11 +873,44 @@ static size_t count_matching(const struct table *table, const uint8_t *records, 
     return count;
 }
 
+/* The events whose counter is 1 to 126, with it. Without a room they are only counted. */
+static size_t list_near(const struct table *table, const struct state *state, uint8_t *at)
+{
+    size_t count = 0;
+    for (size_t e = 0; e < table->events; e++) {
+        int32_t counter = counter_of(&table->event[e], state->debounce[e], state->records[RECORD * e + STATUS]);
+        if (counter < 1 || counter > 126) {
+            continue;
+        }
+        if (at != NULL) {
+            put_code(at + 4 * count, table->event[e].trouble_code);
+            at[4 * count + 3] = (uint8_t)counter;
+        }
+        count++;
+    }
+    return count;
+}
+
+/* Sub-function 14. */
+static uint8_t reply_near(
+    const struct table *table, const struct state *state, uint8_t *room, size_t room_length, size_t *length)
+{
+    *length = 2 + 4 * list_near(table, state, NULL);
+    if (*length > room_length) {
+        return REPLY_TOO_LONG;
+    }
+    room[0] = READ_INFORMATION + POSITIVE;
+    room[1] = LIST_NEAR;
+    list_near(table, state, room + 2);
+    return GOOD;
+}
+
 /* Service 19. Answers the code of a negative reply, or 0 and the reply's length. */
 static uint8_t read_information(
-    const struct table *table, const uint8_t *records, const uint8_t *request, size_t request_length,
+    const struct table *table, const struct state *state, const uint8_t *request, size_t request_length,
     uint8_t *room, size_t room_length, size_t *length)
 {
+    const uint8_t *records = state->records;
     struct question question;
     uint8_t code = judge_question(&question, request, request_length);
     if (code != GOOD) {
@@ -852,6 +919,9 @@ static uint8_t read_information(
     if (request[1] & SUPPRESS) {
         *length = 0;
         return GOOD;
+    }
+    if (question.sub_function == LIST_NEAR) {
+        return reply_near(table, state, room, room_length, length);
     }
     size_t matching = question.all ? table->events : count_matching(table, records, &question);
     bool counts = question.sub_function == COUNT_BY_MASK;
@@ -895,7 +965,7 @@ static size_t reply(
     uint8_t code = NO_SERVICE;
     size_t length = 0;
     if (request[0] == READ_INFORMATION) {
-        code = read_information(table, state->records, request, request_length, room, room_length, &length);
+        code = read_information(table, state, request, request_length, room, room_length, &length);
     } else if (request[0] == CLEAR_INFORMATION) {
         code = clear_information(table, state, request, request_length, room, &length);
     }

@@ -1,4 +1,4 @@
-// Runs the case files through the eleven calls, and prints the file and the line of each case that differs, and for
+// Runs the case files through the twelve calls, and prints the file and the line of each case that differs, and for
 // each file how many calls ran and how many differed.
 //
 // A line of a case file begins with
@@ -75,6 +75,7 @@ enum Call {
 // The calls that only read.
 enum Reading {
     ReadStatus,
+    ReadCounter,
     ReadFrame,
     Save,
 }
@@ -203,6 +204,10 @@ fn same_verdict(says: &[u8], verdict: Verdict) -> bool {
     }
 }
 
+fn same_counter(says: &[u8], counter: i8) -> bool {
+    text::integer(says, text::word(says, 2)) == counter as i32
+}
+
 // Whether the frame stands where the line has it as from:to, and the part has the bytes that stand there in the memory
 // block.
 fn same_frame(says: &[u8], frame: FramePart, memory: &[u8], part: &[u8]) -> bool {
@@ -298,6 +303,23 @@ fn place_of(answer: FrameAnswer) -> FramePart {
     }
 }
 
+fn run_read_counter(
+    line: &[u8],
+    says: &[u8],
+    cfg: &[i32],
+    records: &[u8],
+    debounce: &[i32],
+    memory: &[u8],
+    board: Board,
+) -> Given {
+    let answer = queries::read_counter(cfg, records, debounce, memory, board, event_of(line));
+    Given {
+        agrees: same_number(says, answers::counter_number(answer))
+            & same_counter(says, answers::counter(answer)),
+        board,
+    }
+}
+
 fn run_read_frame(
     line: &[u8],
     says: &[u8],
@@ -367,6 +389,7 @@ fn run_reading(
 ) -> Given {
     match call {
         Reading::ReadStatus => run_read_status(line, says, cfg, records, debounce, memory, board),
+        Reading::ReadCounter => run_read_counter(line, says, cfg, records, debounce, memory, board),
         Reading::ReadFrame => run_read_frame(line, says, cfg, records, debounce, memory, board),
         Reading::Save => run_save(line, says, cfg, records, debounce, memory, board),
     }
@@ -494,6 +517,9 @@ fn call_of(line: &[u8]) -> Call {
     }
     if text::stands(line, 2, b"read_status ") {
         return Call::Reads(Reading::ReadStatus);
+    }
+    if text::stands(line, 2, b"read_counter ") {
+        return Call::Reads(Reading::ReadCounter);
     }
     if text::stands(line, 2, b"read_frame ") {
         return Call::Reads(Reading::ReadFrame);

@@ -41,6 +41,9 @@ pub enum Call {
         request: Vec<u8>,
         room: usize,
     },
+    ReadCounter {
+        event: usize,
+    },
 }
 
 /// What a call answers beside its number and the board.
@@ -50,6 +53,7 @@ pub enum Values {
     /// 0 none, 1 passed, 2 failed.
     Verdict(u8),
     Status(u8),
+    Counter(i64),
     Frame {
         start: usize,
         length: usize,
@@ -63,8 +67,8 @@ pub struct Outcome {
     pub values: Values,
 }
 
-/// The eleven calls, and the numbers each can answer with.
-pub const ANSWERS: [(&str, &[u8]); 11] = [
+/// The twelve calls, and the numbers each can answer with.
+pub const ANSWERS: [(&str, &[u8]); 12] = [
     ("fresh", &[0, 2, 3]),
     ("report", &[0, 2, 3, 4, 1, 6, 9, 5]),
     ("tick", &[0, 2, 3, 1, 9]),
@@ -76,6 +80,7 @@ pub const ANSWERS: [(&str, &[u8]); 11] = [
     ("save", &[0, 2, 3, 5, 7]),
     ("restore", &[0, 2, 3, 8]),
     ("request", &[0, 2, 3, 7, 1]),
+    ("read counter", &[0, 2, 3, 4]),
 ];
 
 impl Call {
@@ -93,6 +98,7 @@ impl Call {
             Call::Save { .. } => 8,
             Call::Restore { .. } => 9,
             Call::Request { .. } => 10,
+            Call::ReadCounter { .. } => 11,
         }
     }
 
@@ -118,7 +124,9 @@ impl Call {
     pub fn numbers(&self) -> (usize, u32) {
         match self {
             Call::Report { event, code, .. } => (*event, *code),
-            Call::ReadStatus { event } | Call::ReadFrame { event } => (*event, 0),
+            Call::ReadStatus { event }
+            | Call::ReadFrame { event }
+            | Call::ReadCounter { event } => (*event, 0),
             Call::Tick { ms, .. } => (*ms as usize, 0),
             Call::Start { cycle } | Call::Stop { cycle } => (*cycle as usize, 0),
             Call::Clear { code } => (*code as usize, 0),
@@ -126,11 +134,14 @@ impl Call {
         }
     }
 
-    /// Read status, read frame and save cannot change the board, and hand none back.
+    /// Read status, read frame, read counter and save cannot change the board, and hand none back.
     pub fn hands_back_board(&self) -> bool {
         !matches!(
             self,
-            Call::ReadStatus { .. } | Call::ReadFrame { .. } | Call::Save { .. }
+            Call::ReadStatus { .. }
+                | Call::ReadFrame { .. }
+                | Call::ReadCounter { .. }
+                | Call::Save { .. }
         )
     }
 
@@ -151,6 +162,7 @@ impl Call {
             Call::Request { request, .. } => {
                 length(reference::request(config, state, request, room))
             }
+            Call::ReadCounter { event } => counter(reference::read_counter(config, state, *event)),
         }
     }
 }
@@ -188,6 +200,12 @@ fn status(answered: Result<u8, u8>) -> Outcome {
     outcome(answered, Values::Status(0), Values::Status)
 }
 
+fn counter(answered: Result<i8, u8>) -> Outcome {
+    outcome(answered, Values::Counter(0), |counter| {
+        Values::Counter(i64::from(counter))
+    })
+}
+
 fn frame(answered: Result<(usize, usize), u8>) -> Outcome {
     let empty = Values::Frame {
         start: 0,
@@ -214,7 +232,9 @@ impl fmt::Display for Call {
             Call::Tick { ms, frame } => write!(f, "{name} {ms} ms frame {}", hex(frame)),
             Call::Start { cycle } | Call::Stop { cycle } => write!(f, "{name} cycle {cycle}"),
             Call::Clear { code } => write!(f, "{name} code {code}"),
-            Call::ReadStatus { event } | Call::ReadFrame { event } => {
+            Call::ReadStatus { event }
+            | Call::ReadFrame { event }
+            | Call::ReadCounter { event } => {
                 write!(f, "{name} event {event}")
             }
             Call::Save { room } => write!(f, "{name} room {room}"),
@@ -233,6 +253,7 @@ impl fmt::Display for Outcome {
             Values::Nothing => Ok(()),
             Values::Verdict(verdict) => write!(f, " verdict {verdict}"),
             Values::Status(status) => write!(f, " status {status:02X}h"),
+            Values::Counter(counter) => write!(f, " counter {counter}"),
             Values::Frame { start, length } => write!(f, " frame at {start}, {length} long"),
             Values::Length(length) => write!(f, " length {length}"),
         }

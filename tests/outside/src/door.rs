@@ -139,6 +139,7 @@ pub struct Answer {
     pub broken: u8,
     pub board: Board,
     pub turn: u64,
+    /// Of a frame; or a counter, as a signed number.
     pub start: usize,
     pub length: usize,
     pub nanoseconds: u64,

@@ -144,10 +144,12 @@ impl Happenings {
         for (what, code) in codes {
             self.met(what, negative && room[2] == code);
         }
-        let suppressed = matches!(request, [0x19, 0x81 | 0x82, _] | [0x19, 0x8A]);
+        let suppressed = matches!(request, [0x19, 0x81 | 0x82, _] | [0x19, 0x8A | 0x94]);
         self.met("a suppressed reply", suppressed);
         let listed = matches!(request, [0x19, 0x02, _]) && room.len() > 6 && room[0] == 0x59;
         self.met("a reply with events", listed);
+        let near = matches!(request, [0x19, 0x14]) && room.len() > 5 && room[..2] == [0x59, 0x14];
+        self.met("a reply with counters", near && room[5] != 0xA5);
     }
 }
 

@@ -11,11 +11,12 @@ const CRATE: &str = include_str!("../../../crates/grelpicado/src/lib.rt");
 const MANUAL: &str = include_str!("../../../crates/manual/src/lib.rt");
 
 /// The header's structs under the crate's names.
-const STRUCTS: [(&str, &str); 7] = [
+const STRUCTS: [(&str, &str); 8] = [
     ("PanelBoard", "grelpicado_board"),
     ("PanelAnswer", "grelpicado_answer"),
     ("PanelReport", "grelpicado_report_answer"),
     ("PanelStatus", "grelpicado_status_answer"),
+    ("PanelCounter", "grelpicado_counter_answer"),
     ("PanelFrame", "grelpicado_frame_answer"),
     ("PanelLength", "grelpicado_length_answer"),
     ("PanelRequest", "grelpicado_request_answer"),
@@ -106,7 +107,7 @@ fn fields(name: &str) -> Vec<(String, String)> {
 /// Size and alignment of a type of the crate.
 fn size_of(kind: &str) -> (usize, usize) {
     match kind {
-        "u8" => (1, 1),
+        "u8" | "i8" => (1, 1),
         "usize" => (8, 8),
         "[u8; manual::CYCLES]" => (cycles(), 1),
         name => {
@@ -165,7 +166,7 @@ fn sizes(n: usize, m: usize, f: usize) -> [String; 6] {
 }
 
 const NAMED: [(&str, u32); 45] = [
-    ("HEADER_VERSION", 1000),
+    ("HEADER_VERSION", 1001),
     ("MAX_EVENTS", 512),
     ("MAX_PLACES", 64),
     ("MAX_FRAME", 32),
@@ -238,7 +239,7 @@ fn all_macros(tally: &mut Tally, found: &str) {
     }
 }
 
-// ---- the eleven calls
+// ---- the twelve calls
 
 /// Each function that the crate exports stands in the header, word for word as its types in C.
 fn declarations(tally: &mut Tally) {

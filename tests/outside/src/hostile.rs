@@ -114,22 +114,26 @@ fn call(random: &mut Random, config: &Configuration, state: &State) -> Call {
         5 => Call::Clear {
             code: trouble_code(random, config),
         },
-        6 => Call::ReadStatus {
-            event: event(random, config),
-        },
-        7 => Call::ReadFrame {
-            event: event(random, config),
-        },
         8 => Call::Save {
             room: image_room(random, config, state),
         },
         9 => Call::Restore {
             image: image(random, config),
         },
-        _ => Call::Request {
+        10 => Call::Request {
             request: request(random, config),
             room: reply_room(random, config),
         },
+        which => reading(which, event(random, config)),
+    }
+}
+
+/// The calls that read one event, by their rows in ANSWERS.
+fn reading(which: usize, event: usize) -> Call {
+    match which {
+        6 => Call::ReadStatus { event },
+        7 => Call::ReadFrame { event },
+        _ => Call::ReadCounter { event },
     }
 }
 
@@ -275,11 +279,12 @@ fn request(random: &mut Random, config: &Configuration) -> Vec<u8> {
     let mask = random.byte();
     let top = random.pick(&[0, 0, 0x80]);
     let [_, high, middle, low] = trouble_code(random, config).to_be_bytes();
-    let mut request = match random.below(8) {
+    let mut request = match random.below(10) {
         0 | 1 => vec![0x19, top | 0x01, mask],
         2 | 3 => vec![0x19, top | 0x02, mask],
         4 => vec![0x19, top | 0x0A],
         5 | 6 => vec![0x14, high, middle, low],
+        7 | 8 => vec![0x19, top | 0x14],
         _ => {
             let length = random.below(8);
             random.bytes(length)

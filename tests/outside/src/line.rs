@@ -97,6 +97,7 @@ fn outcome(call: &Call, answer: &Answer) -> Outcome {
     let values = match call {
         Call::Report { .. } => Values::Verdict(answer.value),
         Call::ReadStatus { .. } => Values::Status(answer.value),
+        Call::ReadCounter { .. } => Values::Counter(answer.start as i64),
         Call::ReadFrame { .. } => Values::Frame { start, length },
         Call::Save { .. } | Call::Request { .. } => Values::Length(length),
         _ => Values::Nothing,

@@ -673,6 +673,42 @@ pub fn read_status(config: &[i32], state: &State, event: usize) -> Result<u8, u8
     Ok(state.records[4 * event])
 }
 
+/// Document 02: the fault detection counter.
+pub fn read_counter(config: &[i32], state: &State, event: usize) -> Result<i8, u8> {
+    let config = judge(config, state)?;
+    if event >= config.events {
+        return Err(NO_SUCH);
+    }
+    let status = state.records[4 * event];
+    Ok(counter_of(
+        &config.row(event),
+        state.debounce[event],
+        status,
+    ))
+}
+
+/// How near a fault is, -128 to 127, in a well-formed state.
+fn counter_of(row: &Row, d: i32, status: u8) -> i8 {
+    if row.kind == 0 {
+        return match (status & 0x01 != 0, status & 0x10 != 0) {
+            (true, _) => 127,
+            (false, false) => -128,
+            (false, true) => 0,
+        };
+    }
+    // "Time kind: the same with |D| - 1 in place of |D|, and 0 when D is 0."
+    let distance = match (row.kind, d) {
+        (_, 0) => 0,
+        (2, _) => d.abs() - 1,
+        _ => d.abs(),
+    };
+    let counter = match d {
+        0.. => 127 * distance / row.q,
+        _ => -(128 * distance / -row.p),
+    };
+    counter.try_into().expect("D lies in its range")
+}
+
 /// The frame's start in the memory block, and its length.
 pub fn read_frame(config: &[i32], state: &State, event: usize) -> Result<(usize, usize), u8> {
     let config = judge(config, state)?;
@@ -765,6 +801,11 @@ fn bodies<'a>(config: &Configuration, image: &'a [u8]) -> Option<(&'a [u8], &'a 
     fits.then_some((records, memory, overflow))
 }
 
+// Three things are called 14.
+const SERVICE_14: u8 = 0x14;
+const SUB_FUNCTION_14: u8 = 0x14;
+const CODE_14: u8 = 0x14;
+
 /// A diagnostic request. Writes the reply into the room and answers its length.
 pub fn request(
     config: &[i32],
@@ -781,7 +822,7 @@ pub fn request(
     };
     let reply = match service {
         0x19 => read_information(&config, state, request, room),
-        0x14 => clear_information(&config, state, request, room),
+        &SERVICE_14 => clear_information(&config, state, request, room),
         _ => Err(0x11),
     };
     Ok(reply.unwrap_or_else(|code| {
@@ -803,20 +844,23 @@ fn read_information(
     let sub_function = second & 0x7F;
     let mask = match (sub_function, rest) {
         (0x01 | 0x02, [mask]) => Some(*mask),
-        (0x0A, []) => None,
-        (0x01 | 0x02 | 0x0A, _) => return Err(0x13),
+        (0x0A | SUB_FUNCTION_14, []) => None,
+        (0x01 | 0x02 | 0x0A | SUB_FUNCTION_14, _) => return Err(0x13),
         _ => return Err(0x12),
     };
     // "With the top bit set a positive reply has length 0 and the room stays untouched."
     if second & 0x80 != 0 {
         return Ok(0);
     }
+    if sub_function == SUB_FUNCTION_14 {
+        return near(config, state, room);
+    }
     let statuses = state.records.iter().step_by(4);
     let matching = statuses.filter(|status| matches(**status, mask)).count();
     let counted = sub_function == 0x01;
     let length = if counted { 6 } else { 3 + 4 * matching };
     // "Otherwise one longer than the room: code 14."
-    let reply = room.get_mut(..length).ok_or(0x14)?;
+    let reply = room.get_mut(..length).ok_or(CODE_14)?;
     reply[..3].copy_from_slice(&[0x59, sub_function, 0xFF]);
     if counted {
         reply[3..].copy_from_slice(&[0x01, (matching >> 8) as u8, matching as u8]);
@@ -842,6 +886,21 @@ fn list(config: &Configuration, state: &State, mask: Option<u8>, reply: &mut [u8
         let [_, high, middle, low] = row.trouble_code.to_be_bytes();
         part.copy_from_slice(&[high, middle, low, *status]);
     }
+}
+
+/// Document 02: trouble code and counter of each event whose counter is 1 to 126, rising.
+fn near(config: &Configuration, state: &State, room: &mut [u8]) -> Result<usize, u8> {
+    let mut reply = vec![0x59, SUB_FUNCTION_14];
+    for (event, row) in config.rows().enumerate() {
+        let counter = counter_of(&row, state.debounce[event], state.records[4 * event]);
+        if (1..=126).contains(&counter) {
+            let [_, high, middle, low] = row.trouble_code.to_be_bytes();
+            reply.extend([high, middle, low, counter as u8]);
+        }
+    }
+    let part = room.get_mut(..reply.len()).ok_or(CODE_14)?;
+    part.copy_from_slice(&reply);
+    Ok(reply.len())
 }
 
 /// Service 14. `Err` is the code of a negative reply.

@@ -143,7 +143,8 @@ impl Story<'_> {
             72..84 => return self.request(),
             84..90 => return self.save(),
             90..92 => self.call(Call::ReadStatus { event }),
-            92..96 => self.call(Call::ReadFrame { event }),
+            92..94 => self.call(Call::ReadFrame { event }),
+            94..96 => self.call(Call::ReadCounter { event }),
             96..99 => {
                 let code = self.trouble_code();
                 self.call(Call::Clear { code })
@@ -247,10 +248,11 @@ impl Story<'_> {
         };
         let suppress = self.random.pick(&[0, 0, 0, 0, 0x80]);
         let [_, high, middle, low] = self.trouble_code().to_be_bytes();
-        let mut request = match self.random.below(8) {
+        let mut request = match self.random.below(10) {
             0 | 1 => vec![0x19, suppress | 0x01, mask],
             2..5 => vec![0x19, suppress | 0x02, mask],
             5 | 6 => vec![0x19, suppress | 0x0A],
+            7 | 8 => vec![0x19, suppress | 0x14],
             _ => vec![0x14, high, middle, low],
         };
         match self.random.below(30) {

@@ -302,12 +302,9 @@ fn call_of(text: &str) -> Call {
             cycle: number(cycle),
         },
         ["clear", code] => Call::Clear { code: number(code) },
-        ["read_status", event] => Call::ReadStatus {
-            event: number(event),
-        },
-        ["read_frame", event] => Call::ReadFrame {
-            event: number(event),
-        },
+        ["read_status", event] => read(event, |event| Call::ReadStatus { event }),
+        ["read_frame", event] => read(event, |event| Call::ReadFrame { event }),
+        ["read_counter", event] => read(event, |event| Call::ReadCounter { event }),
         ["save", length] => Call::Save { room: room(length) },
         ["restore", image] => Call::Restore {
             image: bytes(image),
@@ -320,6 +317,10 @@ fn call_of(text: &str) -> Call {
     }
 }
 
+fn read(event: &str, call: impl Fn(usize) -> Call) -> Call {
+    call(number(event))
+}
+
 /// `ANSWER VALUES ROOM`, the mark included.
 fn answer_of(call: &Call, text: &str) -> (Outcome, Vec<u8>) {
     let words: Vec<&str> = text.split_whitespace().collect();
@@ -329,6 +330,7 @@ fn answer_of(call: &Call, text: &str) -> (Outcome, Vec<u8>) {
         (Call::Report { .. }, ["0"]) => Values::Verdict(1),
         (Call::Report { .. }, ["1"]) => Values::Verdict(2),
         (Call::ReadStatus { .. }, [status]) => Values::Status(number(status)),
+        (Call::ReadCounter { .. }, [counter]) => Values::Counter(number(counter)),
         (Call::ReadFrame { .. }, [part]) => {
             let (from, to) = part.split_once(':').expect("a part is from:to");
             let (start, end) = (number::<usize>(from), number::<usize>(to));
