@@ -6,7 +6,7 @@ use crate::reference::{
     Configuration, State, CONFIRMED, FAILED_THIS_CYCLE, PENDING, TEST_FAILED, WARNING,
 };
 
-const NEEDED: [&str; 25] = [
+const NEEDED: [&str; 26] = [
     "an event confirms",
     "an event asks for the indicator",
     "an event fails by a tick",
@@ -30,6 +30,7 @@ const NEEDED: [&str; 25] = [
     "negative reply 31",
     "a suppressed reply",
     "a reply with events",
+    "a reply with counters",
     "a restore with entries",
     "a restore with overflow",
 ];
