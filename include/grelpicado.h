@@ -113,9 +113,11 @@ extern "C" {
  *                     confirmed
  *  11  heal           H: after how many clean runs it warns no       1 to 255
  *                     more
- *  12  age            A: after how many runs without a failure it    1 to 255
- *                     is confirmed no more, and its entry leaves
+ *  12  age            A: after how many clean runs it is confirmed   1 to 255
+ *                     no more, and its entry leaves
  *  13  indicator      whether it warns when confirmed: 1 yes, 0 no   0 or 1
+ *
+ * A run is clean for an event if its test was completed in it and never failed.
  */
 typedef struct grelpicado_event {
     int32_t trouble_code;

@@ -398,16 +398,14 @@ static int32_t debounced(const grelpicado_event *row, int32_t d, uint32_t code)
 static bool heal_and_age(const grelpicado_event *row, uint8_t *record)
 {
     int status = record[STATUS];
-    if (status & FAILED_THIS_CYCLE) {
+    if (status & (FAILED_THIS_CYCLE | UNTESTED_THIS_CYCLE)) {
         return false;
     }
-    if (!(status & UNTESTED_THIS_CYCLE)) {
-        status &= ~PENDING;
-        record[K] = 0;
-        if ((status & WARNING) && ++record[H] == row->heal) {
-            status &= ~WARNING;
-            record[H] = 0;
-        }
+    status &= ~PENDING;
+    record[K] = 0;
+    if ((status & WARNING) && ++record[H] == row->heal) {
+        status &= ~WARNING;
+        record[H] = 0;
     }
     bool aged = (status & CONFIRMED) && ++record[G] == row->age;
     if (aged) {

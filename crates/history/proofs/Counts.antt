@@ -145,13 +145,11 @@ module _ (A fs : ℕ) where
 -- a stop that counts for healing counts for ageing
 healing-ages : (l : History)
     → countedForHealing (moment stop l) ≡ countedForHealing (moment stop l) && countedForAgeing (moment stop l)
-unfolding clean
-healing-ages l = table (failureFree (moment stop l)) _
+healing-ages l = table (clean (moment stop l))
   where
-    table : (f p : Bool) → f && p ≡ (f && p) && f
-    table true true = refl
-    table true false = refl
-    table false p = refl
+    table : (c : Bool) → c ≡ c && c
+    table true = refl
+    table false = refl
 
 module _ (n : Limits) (a : Allowed n) where
   -- the two tests of a stretch
@@ -211,11 +209,11 @@ module _ (n : Limits) (a : Allowed n) where
   r3-stop l = standing-stop (n .C) (notAged n) not-aged-empty not-aged-mono l
 
   r3-passed : (l : History) → r3 (passed ∷ l) ≡ r3 l
-  unfolding reading failureFree
+  unfolding reading failureFree clean
   r3-passed l = standing-passed (n .C) (notAged n) not-aged-empty not-aged-mono l (λ s. refl)
 
   r3-start : (l : History) → r3 (start ∷ l) ≡ r3 l
-  unfolding reading failureFree
+  unfolding reading failureFree clean
   r3-start l = standing-start (n .C) (notAged n) not-aged-empty not-aged-mono l (λ s. refl)
 
   r3-none : r3 [] ≡ false
@@ -341,11 +339,11 @@ module _ (n : Limits) (a : Allowed n) where
     at3 = rw (r3-stop l, ageing-is n l, k .at3, k .atg, at-A) (stop-bit3 (n .A) (agedBy l) ages (r3 l) (r3-newest l));
     atg = rw (r3-stop l, ageing-is n l, k .at3, k .atg, at-A) (stop-g (n .A) (agedBy l) ages (r3 l) (r3-newest l));
     at7 =
-        rw (r7-stop l, healing-is n l, ageing-is n l, k .at3, k .atg, k .at7, k .ath, at-A, at-H)
+        rw (r7-stop l, healing-is n l, k .at3, k .atg, k .at7, k .ath, at-A, at-H)
         (stop-bit7 (n .A) (agedBy l) (n .H) (healedBy l) ages heals (r7 l) (r3 l) (healing-ages l) (k .only)
         (r7-newest l));
     ath =
-        rw (r7-stop l, healing-is n l, ageing-is n l, k .at3, k .atg, k .at7, k .ath, at-A, at-H)
+        rw (r7-stop l, healing-is n l, k .at3, k .atg, k .at7, k .ath, at-A, at-H)
         (stop-h (n .A) (agedBy l) (n .H) (healedBy l) ages heals (r7 l) (r3 l) (healing-ages l)
         (k .only) (r7-newest l));
     only =

@@ -52,7 +52,11 @@ worked =
     ∷ (start gives 0x68)
     ∷ (stop gives 0x68)
     ∷ (start gives 0x68)
-    ∷ (stop gives 0x60)
+    ∷ (passed gives 0x28)
+    ∷ (stop gives 0x28)
+    ∷ (start gives 0x68)
+    ∷ (passed gives 0x28)
+    ∷ (stop gives 0x20)
     ∷ (clear gives 0x50)
     ∷ []
 

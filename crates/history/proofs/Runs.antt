@@ -1,5 +1,5 @@
 -- Clean stops, bit 2, and in a legal history what K counts: the runs from start to stop that hold failed results.
-use mathlib.Core.Path.{_≡_, refl, sym, ap, ap₂, _∙_}
+use mathlib.Core.Path.{_≡_, refl, sym, ap₂, _∙_}
 use mathlib.Core.Bool.{Bool, true, false, not, _&&_, _||_, cond}
 use mathlib.Core.List.{List, [], _∷_}
 use Prim.Native.Nat.{ℕ, suc, min}
@@ -48,8 +48,7 @@ module _ (n : Limits) (l : History) where
   healing-is = clean-cycle-is
 
   pub ageing-is : countsForAgeing (recordAfter n l .status) ≡ countedForAgeing (moment stop l)
-  unfolding failureFree reading
-  ageing-is = ap (λ failed. not failed) (bit1 n l)
+  ageing-is = clean-cycle-is
 
 -- a run that goes on holds a failed result after the last clean stop exactly where bit 1 reads set
 this-run : (n : Limits) (l : History) → running l ≡ true

@@ -108,9 +108,10 @@ confirming C m = isFailed m && leb C (failedRuns (m ∷ sinceCleanStop (m .befor
 abbrev pub stretches : List Moment → List (List Moment)
 stretches = cutAt isFailed
 
--- what a stretch counts for ageing: "failure-free stops"
+-- what a stretch counts for ageing. Document 02, W2: "In the history reading, "A failure-free stops" becomes "A clean
+-- stops" in both places."
 abbrev pub countedForAgeing : Moment → Bool
-countedForAgeing = failureFree
+countedForAgeing = clean
 
 -- what a stretch counts for healing: "clean stops"
 abbrev pub countedForHealing : Moment → Bool
@@ -148,9 +149,10 @@ reading n l testNotCompletedThisOperationCycle = not (anyOf isResult (sinceW l))
 reading n l testFailedThisOperationCycle = anyOf isFailed (sinceW l)
 -- "2: a failed result since L with no clean stop after it."
 reading n l pendingDTC = someWith (λ after m. isFailed m && not (anyOf clean after)) (sinceL l)
--- "3: since L there is a confirming result after which no stretch … holds A failure-free stops."
+-- "3: since L there is a confirming result after which no stretch … holds", by W2, "A clean stops".
 reading n l confirmedDTC = standing (n .C) (notAged n) l
--- "7: indicator 1, and since L a confirming result after which no stretch holds H clean stops or A failure-free stops."
+-- "7: indicator 1, and since L a confirming result after which no stretch holds H clean stops or", by W2, "A clean
+-- stops".
 reading n l warningIndicatorRequested =
     n .indicator && standing (n .C) (λ stretch. notHealed n stretch && notAged n stretch) l
 

@@ -156,16 +156,16 @@ stopA n r = record {
   g = r .g;
 }
 
--- what counts for ageing: "(b) then, if 1 is clear"
+-- what counts for ageing. Document 02, W2: "Ageing must count only a cycle with bits 1 and 6 both clear at its stop."
 abbrev pub countsForAgeing : Status → Bool
-countsForAgeing s = not (s testFailedThisOperationCycle)
+countsForAgeing s = cleanCycle s
 
 -- "and 3 is set: g rises by one; at A the event ages"
 abbrev pub ages : Limits → EventRecord → Bool
 ages n r = countsForAgeing (r .status) && r .status confirmedDTC && eqb (suc (r .g)) (n .A)
 
--- "(b) then, if 1 is clear and 3 is set: g rises by one; at A the event ages: 3 and 7 clear, h = g = 0, its entry
--- leaves memory."
+-- "(b) then, if 1 is clear", and by W2 6 too, "and 3 is set: g rises by one; at A the event ages: 3 and 7 clear,
+-- h = g = 0, its entry leaves memory."
 abbrev pub stopB : Limits → EventRecord → EventRecord
 stopB n r = record {
   status = clearBitsIf (ages n r) (confirmedDTC ∷ warningIndicatorRequested ∷ []) (r .status);

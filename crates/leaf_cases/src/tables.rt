@@ -311,7 +311,7 @@ pub const TICKS: [u8; 879] = *b"
 // before leaves, the first from the fresh record: the step (0 start, 1 stop, 2 passed, 3 failed, 4 clear); then the
 // status as its eight bits, bit 7 first, K, h, g, and 1 where memory is told of a fresh failure or of an event that
 // aged. E1 50h; E3 27h; E4 27h; E5 65h; E6 AFh; E7 AEh; E8 stop, start ECh; E9 passed, stop 28h, g 1; E10 start, stop,
-// start, stop 60h.
+// start, stop 68h, g still 1.
 pub const STORY: [u8; 267] = *b"
 0 01010000 0 0 0 0
 3 00100111 1 0 0 1
@@ -324,14 +324,14 @@ pub const STORY: [u8; 267] = *b"
 2 10101100 2 0 0 0
 1 00101000 0 0 1 0
 0 01101000 0 0 1 0
-1 01101000 0 0 2 0
-0 01101000 0 0 2 0
-1 01100000 0 0 0 1
+1 01101000 0 0 1 0
+0 01101000 0 0 1 0
+1 01101000 0 0 1 0
 ";
 
 // Single steps: C, H, A and indicator of the event, its status (bit 7 first), K, h and g; then the step and what it
 // leaves, as in STORY.
-pub const STEPS: [u8; 1467] = *b"
+pub const STEPS: [u8; 1551] = *b"
 2 1 3 1 01010000 0 0 0 2 00000000 0 0 0 0
 2 1 3 1 00100111 1 0 0 2 00100110 1 0 0 0
 2 1 3 1 01100101 1 0 0 2 00100100 1 0 0 0
@@ -356,12 +356,14 @@ pub const STEPS: [u8; 1467] = *b"
 2 1 3 1 10101111 2 0 0 1 10101111 2 0 0 0
 1 2 9 1 10101100 1 0 0 1 10101000 0 1 1 0
 1 2 9 1 10101000 0 1 1 1 00101000 0 0 2 0
-1 2 9 1 11101000 0 1 1 1 11101000 0 1 2 0
+1 2 9 1 11101000 0 1 1 1 11101000 0 1 1 0
 1 2 9 0 00101100 1 0 0 1 00101000 0 0 1 0
 1 5 1 1 10101100 1 0 0 1 00100000 0 0 0 1
 1 1 1 1 10101100 1 0 0 1 00100000 0 0 0 1
-1 9 5 1 11101000 0 3 4 1 01100000 0 0 0 1
-1 9 2 1 11101100 2 0 1 1 01100100 2 0 0 1
+1 9 5 1 11101000 0 3 4 1 11101000 0 3 4 0
+1 9 5 1 10101000 0 3 4 1 00100000 0 0 0 1
+1 9 2 1 11101100 2 0 1 1 11101100 2 0 1 0
+1 9 2 1 10101100 2 0 1 1 00100000 0 0 0 1
 1 255 255 1 10101000 0 253 253 1 10101000 0 254 254 0
 1 255 255 1 10101000 0 254 254 1 00100000 0 0 0 1
 2 1 3 1 10101111 3 0 0 4 01010000 0 0 0 0

@@ -232,15 +232,15 @@ fn stop_a(heal: usize, r: Record) -> Record
     }
 }
 
-// What counts for ageing: "if 1 is clear".
+// What counts for ageing. Document 02, W2: "only a cycle with bits 1 and 6 both clear at its stop".
 fn counts_for_ageing(s: Status) -> bool
     ensures { λ r. ⌜ r ≡ countsForAgeing (statusOf (s .0)) ⌝ }
 {
-    !s.contains(Status::TEST_FAILED_THIS_OPERATION_CYCLE)
+    clean_cycle(s)
 }
 
-// "(b) then, if 1 is clear and 3 is set: g rises by one; at A the event ages: 3 and 7 clear, h = g = 0, its entry
-// leaves memory."
+// "(b) then", if the cycle counts for ageing "and 3 is set: g rises by one; at A the event ages: 3 and 7 clear, h = g =
+// 0, its entry leaves memory."
 fn stop_b(age: usize, r: Record) -> AfterStop
     requires { ⌜ r .g < 255 ⌝ }
     ensures { λ b. ⌜ ((C H : ℕ) (i : Bool)

@@ -3,10 +3,11 @@
 
 use crate::call::Call;
 use crate::reference::{
-    Configuration, State, CONFIRMED, FAILED_THIS_CYCLE, PENDING, TEST_FAILED, WARNING,
+    Configuration, State, CONFIRMED, FAILED_THIS_CYCLE, NOT_COMPLETED_THIS_CYCLE, PENDING,
+    TEST_FAILED, WARNING,
 };
 
-const NEEDED: [&str; 26] = [
+const NEEDED: [&str; 27] = [
     "an event confirms",
     "an event asks for the indicator",
     "an event fails by a tick",
@@ -16,6 +17,7 @@ const NEEDED: [&str; 26] = [
     "an event ages",
     "an event ages and its entry leaves",
     "an event ages that still asks for the indicator",
+    "an untested run ends where a clean one would age the event",
     "a known entry moves to the end",
     "an occurrence count held at 255",
     "an entry of greater priority number is displaced",
@@ -130,6 +132,12 @@ impl Happenings {
             let fewer = before.memory[0] > after.memory[0];
             let left = aged && fewer && !remaining.iter().any(|(kept, _)| *kept == event);
             self.met("an event ages and its entry leaves", left);
+            let row = config.row(event);
+            let running = |state: &State| state.board.running[row.cycle as usize];
+            let ended = running(before) && !running(after);
+            let last = was[0] & CONFIRMED != 0 && i32::from(was[3]) + 1 == row.age;
+            let untested = ended && last && was[0] & NOT_COMPLETED_THIS_CYCLE != 0;
+            self.met("an untested run ends where a clean one would age the event", untested);
         }
     }
 

@@ -618,11 +618,12 @@ fn heal(row: &Row, record: &mut [u8; 4]) {
     }
 }
 
-/// Stop, (b): "if 1 is clear and 3 is set: g rises by one; at A the event ages".
-/// Says whether it aged.
+/// Stop, (b): "if 1 is clear", and by W2 6 too, "and 3 is set: g rises by one;
+/// at A the event ages". Says whether it aged.
 fn age(row: &Row, record: &mut [u8; 4]) -> bool {
     let [status, _, h, g] = record;
-    if *status & FAILED_THIS_CYCLE != 0 || *status & CONFIRMED == 0 {
+    let clean = *status & (FAILED_THIS_CYCLE | NOT_COMPLETED_THIS_CYCLE) == 0;
+    if !clean || *status & CONFIRMED == 0 {
         return false;
     }
     *g += 1;
