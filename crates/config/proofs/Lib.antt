@@ -4,3 +4,4 @@ pub mod RowsLaws
 pub mod PartLaws
 pub mod JudgedInOnePass
 pub mod SearchLaws
+pub mod HalvingLaws

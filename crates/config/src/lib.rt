@@ -13,6 +13,7 @@ ghost use Rattle.manual.specs.Configuration.{limitsOf, rowOk, configOk};
 ghost use Rattle.config.specs.Rows.{InRow, Within, RowWithin, RowsWithin, limitsIs, partOf, ofKind};
 ghost use Rattle.config.specs.Rows.{risesHere, rowFits};
 ghost use Rattle.config.specs.Search.{hasCode, firstWithCode, searchIs};
+ghost use Rattle.config.specs.Halving.{NarrowedTo, Halved};
 
 // "Configuration: lent signed 32-bit numbers, three in front: n events …, M memory places …, F frame bytes"
 const IN_FRONT: usize = 3;
@@ -393,6 +394,37 @@ pub enum CodeSearch {
     Nothing,
 }
 
+// The rows where the search goes on, from low to high, both among them.
+struct Range {
+    low: usize,
+    high: usize,
+}
+
+// 9 halvings leave one of 512 rows. Each looks at one row at most, and the comparison at the one that is left: 10 rows.
+const HALVINGS: usize = 9;
+
+// The half of a range that has the first row whose code is not below the wanted one. A range of one row stays.
+fn halved(cfg: &[i32], range: Range, code: u32) -> Range
+    requires { ⌜ NarrowedTo (now cfg) code range ⌝ }
+    ensures { λ r. ⌜ Halved (now (cfg .entry)) code range r ⌝ }
+{
+    if range.low == range.high {
+        return range;
+    }
+    let middle = range.low + (range.high - range.low) / 2;
+    if code_of(cfg, EventNumber(middle)) < code as usize {
+        Range {
+            low: middle + 1,
+            high: range.high,
+        }
+    } else {
+        Range {
+            low: range.low,
+            high: middle,
+        }
+    }
+}
+
 fn has_code(cfg: &[i32], event: EventNumber, code: u32) -> bool
     requires { ⌜ event .0 < mostEvents ⌝ }
     ensures { λ r. ⌜ r ≡ hasCode (now (cfg .entry)) code (event .0) ⌝ }
@@ -406,10 +438,14 @@ pub fn find_code(cfg: &[i32], code: u32) -> CodeSearch
     requires { ⌜ configOk (now cfg) ≡ true ⌝ }
     ensures { λ r. ⌜ searchIs r ≡ firstWithCode (now (cfg .entry)) code ⌝ }
 {
-    for event in 0..events(cfg) {
-        if has_code(cfg, EventNumber(event), code) {
-            return CodeSearch::At(EventNumber(event));
-        }
+    let last = events(cfg) - 1;
+    let mut range = Range { low: 0, high: last };
+    for _ in 0..HALVINGS {
+        range = halved(cfg, range, code);
     }
-    CodeSearch::Nothing
+    if has_code(cfg, EventNumber(range.low), code) {
+        CodeSearch::At(EventNumber(range.low))
+    } else {
+        CodeSearch::Nothing
+    }
 }
