@@ -14,6 +14,7 @@ ghost use mathlib.Core.Bool.{true};
 ghost use Prim.Native.Nat.{_≤_, min};
 ghost use lib.ListN.{length};
 ghost use Rattle.manual.specs.Words.{between};
+ghost use Rattle.manual.specs.Configuration.{configOk};
 ghost use Rattle.debounce.specs.Rows.{SmallReport};
 
 mod tables;
@@ -153,9 +154,13 @@ fn length_agrees(table: &[i32], at: usize) -> bool {
     accepted(&cfg, count_at(table, at, 0)) == count_at(table, at, 1)
 }
 
-// The event's number and one.
+// Ten times the event's number and one.
 fn code_after(event: usize) -> i32 {
-    if event < 1000 { (event + 1) as i32 } else { 0 }
+    if event < 1000 {
+        (10 * event + 10) as i32
+    } else {
+        0
+    }
 }
 
 // A number of the rows of kind 0, counted from the first row on: trouble code, priority, C, H and A, all others 0.
@@ -187,15 +192,13 @@ fn codes_agree(table: &[i32], at: usize) -> bool {
 
 // ---- search
 
-// The event with the trouble code; 5 where none has it, 6 where the configuration is not accepted.
-fn event_with(cfg: &[i32], code: u32) -> usize {
-    if config::config_ok(cfg) {
-        match config::find_code(cfg, code) {
-            CodeSearch::At(event) => event.0,
-            CodeSearch::Nothing => 5,
-        }
-    } else {
-        6
+// Whether the search of a trouble code answers this event; the number of events where none has the code.
+fn is_at(cfg: &[i32], code: u32, event: usize) -> bool
+    requires { ⌜ configOk (now cfg) ≡ true ⌝ }
+{
+    match config::find_code(cfg, code) {
+        CodeSearch::At(found) => found.0 == event,
+        CodeSearch::Nothing => config::events(cfg) == event,
     }
 }
 
@@ -210,11 +213,68 @@ fn wide_code(above: usize, rest: usize) -> u32 {
     (above * 16_777_216 + rest) as u32
 }
 
+// Whether the case's code, in two parts, is at its event.
+fn code_agrees(cfg: &[i32], table: &[i32], at: usize) -> bool {
+    let code = wide_code(count_at(table, at, 0), count_at(table, at, 1));
+    if config::config_ok(cfg) {
+        is_at(cfg, code, count_at(table, at, 2))
+    } else {
+        false
+    }
+}
+
 fn search_agrees(table: &[i32], at: usize) -> bool {
     let mut cfg = [0; 68];
     read_numbers(&tables::SEARCHED, &mut cfg);
-    let code = wide_code(count_at(table, at, 0), count_at(table, at, 1));
-    event_with(&cfg, code) == count_at(table, at, 2)
+    code_agrees(&cfg, table, at)
+}
+
+// Whether number k of the case, a trouble code, is at the event that the number behind it says.
+fn pair_agrees(cfg: &[i32], table: &[i32], at: usize, k: usize) -> bool
+    requires { ⌜ configOk (now cfg) ≡ true ⌝ }
+    requires { ⌜ k ≤ 19 ⌝ }
+{
+    is_at(
+        cfg,
+        wide_code(0, count_at(table, at, k)),
+        count_at(table, at, k + 1),
+    )
+}
+
+// Whether the case's ten codes are at their events.
+fn pairs_agree(cfg: &[i32], table: &[i32], at: usize) -> bool
+    requires { ⌜ configOk (now cfg) ≡ true ⌝ }
+{
+    let mut agree = true;
+    for pair in 0..10 {
+        agree = agree & pair_agrees(cfg, table, at, 1 + 2 * pair);
+    }
+    agree
+}
+
+// The same of the first n rows, once they are judged.
+fn pairs_agree_below(cfg: &[i32], n: usize, table: &[i32], at: usize) -> bool {
+    if 512 < n {
+        return false;
+    }
+    let len = 3 + 13 * n;
+    if cfg.len() < len {
+        return false;
+    }
+    let rows = &cfg[..len];
+    if !config::config_ok(rows) {
+        return false;
+    }
+    pairs_agree(rows, table, at)
+}
+
+// Rows of kind 0 with the trouble codes 10, 20, 30 and so on, then n, M 1 and F 0.
+fn long_search_agrees(table: &[i32], at: usize) -> bool {
+    let mut cfg = [0; 6659];
+    fill_rows(&mut cfg);
+    put(&mut cfg, 0, number_at(table, at, 0));
+    put(&mut cfg, 1, 1);
+    pairs_agree_below(&cfg, count_at(table, at, 0), table, at)
 }
 
 // ---- debouncing
@@ -441,6 +501,7 @@ enum Cases {
     Lengths,
     Codes,
     Searches,
+    LongSearches,
     Reports,
     Ticks,
     Story,
@@ -454,6 +515,7 @@ fn agrees(cases: Cases, table: &[i32], at: usize) -> bool {
         Cases::Lengths => length_agrees(table, at),
         Cases::Codes => codes_agree(table, at),
         Cases::Searches => search_agrees(table, at),
+        Cases::LongSearches => long_search_agrees(table, at),
         Cases::Reports => report_agrees(table, at),
         Cases::Ticks => tick_agrees(table, at),
         Cases::Story => story_agrees(table, at),
@@ -473,6 +535,7 @@ fn say_table(cases: Cases) {
         Cases::Lengths => say(b"LENGTHS"),
         Cases::Codes => say(b"CODES"),
         Cases::Searches => say(b"SEARCHES"),
+        Cases::LongSearches => say(b"LONG_SEARCHES"),
         Cases::Reports => say(b"REPORTS"),
         Cases::Ticks => say(b"TICKS"),
         Cases::Story => say(b"STORY"),
@@ -554,6 +617,7 @@ fn configurations() {
 
 fn search() {
     let tally = run(none(), Cases::Searches, &tables::SEARCHES, 3);
+    let tally = run(tally, Cases::LongSearches, &tables::LONG_SEARCHES, 21);
     print(b"search", tally);
 }
 

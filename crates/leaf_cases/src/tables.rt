@@ -132,8 +132,8 @@ pub const LENGTHS: [u8; 32] = *b"
 ";
 
 // "strictly rising from event to event": n, how many numbers are lent, the trouble codes of the first two events, and 1
-// where the configuration is accepted. The codes after the second are their event's number and one.
-pub const CODES: [u8; 257] = *b"
+// where the configuration is accepted. The codes after the second are ten times their event's number and one.
+pub const CODES: [u8; 271] = *b"
 2 29 5 6 1
 2 29 5 5 0
 2 29 6 5 0
@@ -141,8 +141,9 @@ pub const CODES: [u8; 257] = *b"
 2 28 5 6 0
 2 30 5 6 0
 3 42 1 2 1
-3 42 1 3 0
-3 42 1 4 0
+3 42 1 29 1
+3 42 1 30 0
+3 42 1 31 0
 511 6646 1 2 1
 511 6659 1 2 0
 512 6646 1 2 0
@@ -187,6 +188,17 @@ pub const SEARCHES: [u8; 178] = *b"
 1 1193046 5
 255 16777214 5
 255 16777215 5
+";
+
+// n events with the trouble codes 10, 20, 30 and so on: n, then ten codes, each with the event that has it; n where none
+// has. Among the codes are the first and the last, some between two, below the first and above the last, 0 and FFFFFFh.
+pub const LONG_SEARCHES: [u8; 449] = *b"
+1 10 0 0 1 1 1 5 1 9 1 11 1 15 1 20 1 16777214 1 16777215 1
+2 10 0 20 1 0 2 9 2 11 2 15 2 19 2 21 2 16777214 2 16777215 2
+3 10 0 20 1 30 2 0 3 9 3 15 3 25 3 31 3 16777214 3 16777215 3
+511 10 0 20 1 2560 255 5100 509 5110 510 0 511 9 511 2565 511 5111 511 16777215 511
+512 10 0 20 1 1280 127 1290 128 2560 255 2570 256 3840 383 3850 384 5110 510 5120 511
+512 0 512 9 512 11 512 2559 512 2561 512 2565 512 5115 512 5121 512 16777214 512 16777215 512
 ";
 
 // Reports: kind, P, Q, up, down and jumps of the event, the report's code and D; then D after it, and the verdict: 0
