@@ -7,7 +7,7 @@ use crate::reference::{
     TEST_FAILED, WARNING,
 };
 
-const NEEDED: [&str; 27] = [
+const NEEDED: [&str; 32] = [
     "an event confirms",
     "an event asks for the indicator",
     "an event fails by a tick",
@@ -25,6 +25,11 @@ const NEEDED: [&str; 27] = [
     "overflow",
     "a clear of one takes an entry out",
     "a clear of all clears overflow",
+    "the first of many codes is cleared",
+    "the last of many codes is cleared",
+    "a code below the first of many is unknown",
+    "a code between two of many is unknown",
+    "a code above the last of many is unknown",
     "negative reply 11",
     "negative reply 12",
     "negative reply 13",
@@ -36,6 +41,9 @@ const NEEDED: [&str; 27] = [
     "a restore with entries",
     "a restore with overflow",
 ];
+
+/// So many trouble codes are many: a search by halving goes on for seven turns.
+const MANY: usize = 100;
 
 #[derive(Default)]
 pub struct Happenings {
@@ -69,7 +77,11 @@ impl Happenings {
             }
             Call::Tick { .. } => self.failures(before, after, true),
             Call::Stop { .. } => self.stops(config, before, after),
-            Call::Clear { .. } => {
+            Call::Clear { code } => {
+                let (first, last) = config.first_and_last_code();
+                let many = config.events >= MANY;
+                self.met("the first of many codes is cleared", many && *code == first);
+                self.met("the last of many codes is cleared", many && *code == last);
                 let left = before.memory[0] == after.memory[0] + 1;
                 self.met("a clear of one takes an entry out", left);
                 let cleared = before.board.overflow && !after.board.overflow;
@@ -82,6 +94,17 @@ impl Happenings {
             }
             _ => {}
         }
+    }
+
+    /// Looks at a clear that was refused, since no event has this trouble code.
+    pub fn unknown(&mut self, config: &Configuration, code: u32) {
+        let (first, last) = config.first_and_last_code();
+        let many = config.events >= MANY;
+        let (below, above) = (many && code < first, many && code > last);
+        let between = many && !below && !above;
+        self.met("a code below the first of many is unknown", below);
+        self.met("a code between two of many is unknown", between);
+        self.met("a code above the last of many is unknown", above);
     }
 
     fn failures(&mut self, before: &State, after: &State, by_tick: bool) {

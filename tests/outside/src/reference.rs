@@ -242,6 +242,11 @@ impl<'a> Configuration<'a> {
         1 + self.places * self.entry()
     }
 
+    pub fn first_and_last_code(&self) -> (u32, u32) {
+        let code = |event: usize| self.row(event).trouble_code as u32;
+        (code(0), code(self.events - 1))
+    }
+
     /// The event that has this trouble code.
     fn event_of(&self, code: u32) -> Option<usize> {
         self.rows().position(|row| row.trouble_code as u32 == code)

@@ -8,8 +8,8 @@ use crate::happenings::Happenings;
 use crate::making;
 use crate::random::Random;
 use crate::reference::{
-    Board, Configuration, State, ALL_CODES, DONE, FAILED, KIND_INTERNAL, KIND_TIME, PASSED,
-    PRE_FAILED, PRE_PASSED,
+    Board, Configuration, State, ALL_CODES, DONE, FAILED, KIND_INTERNAL, KIND_TIME, NO_SUCH,
+    PASSED, PRE_FAILED, PRE_PASSED,
 };
 use crate::tally::Tally;
 
@@ -112,6 +112,9 @@ impl Story<'_> {
             let room = self.both.room();
             self.happenings
                 .observe(&self.config, &call, room, &self.before, &self.state);
+        }
+        if let (NO_SUCH, Call::Clear { code }) = (outcome.number, &call) {
+            self.happenings.unknown(&self.config, *code);
         }
         Some(outcome)
     }
@@ -230,13 +233,20 @@ impl Story<'_> {
         Some(())
     }
 
-    /// A known trouble code mostly, sometimes all, sometimes none's.
+    /// A known trouble code mostly, sometimes all, sometimes none's: beside a
+    /// known one, below the first or above the last.
     fn trouble_code(&mut self) -> u32 {
         let event = self.event();
         let known = self.config.row(event).trouble_code as u32;
-        match self.random.below(10) {
-            0 => ALL_CODES,
-            1 => known + 1,
+        let (first, last) = self.config.first_and_last_code();
+        match self.random.below(20) {
+            0 | 1 => ALL_CODES,
+            2 => known + 1,
+            3 => known - 1,
+            4 => first - 1,
+            5 => last + 1,
+            6 => first,
+            7 => last,
             _ => known,
         }
     }
