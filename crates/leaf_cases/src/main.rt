@@ -154,7 +154,7 @@ fn length_agrees(table: &[i32], at: usize) -> bool {
     accepted(&cfg, count_at(table, at, 0)) == count_at(table, at, 1)
 }
 
-// Ten times the event's number and one.
+// 10 for event 0, 20 for event 1, and so on.
 fn code_after(event: usize) -> i32 {
     if event < 1000 {
         (10 * event + 10) as i32

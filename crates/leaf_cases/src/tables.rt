@@ -132,7 +132,7 @@ pub const LENGTHS: [u8; 32] = *b"
 ";
 
 // "strictly rising from event to event": n, how many numbers are lent, the trouble codes of the first two events, and 1
-// where the configuration is accepted. The codes after the second are ten times their event's number and one.
+// where the configuration is accepted. The codes after the second are 30, 40 and so on.
 pub const CODES: [u8; 271] = *b"
 2 29 5 6 1
 2 29 5 5 0
@@ -190,8 +190,9 @@ pub const SEARCHES: [u8; 178] = *b"
 255 16777215 5
 ";
 
-// n events with the trouble codes 10, 20, 30 and so on: n, then ten codes, each with the event that has it; n where none
-// has. Among the codes are the first and the last, some between two, below the first and above the last, 0 and FFFFFFh.
+// n events with the trouble codes 10, 20, 30 and so on: n, then ten codes, each with the event that has it; n where no
+// event has. Among the codes are the first and the last, some between two, below the first and above the last, 0 and
+// FFFFFFh.
 pub const LONG_SEARCHES: [u8; 449] = *b"
 1 10 0 0 1 1 1 5 1 9 1 11 1 15 1 20 1 16777214 1 16777215 1
 2 10 0 20 1 0 2 9 2 11 2 15 2 19 2 21 2 16777214 2 16777215 2

@@ -42,8 +42,8 @@ const NEEDED: [&str; 32] = [
     "a restore with overflow",
 ];
 
-/// So many trouble codes are many: a search by halving goes on for seven turns.
-const MANY: usize = 100;
+/// So many trouble codes are many: four halvings or more leave one of them.
+const MANY: usize = 16;
 
 #[derive(Default)]
 pub struct Happenings {

@@ -233,8 +233,8 @@ impl Story<'_> {
         Some(())
     }
 
-    /// A known trouble code mostly, sometimes all, sometimes none's: beside a
-    /// known one, below the first or above the last.
+    /// A known trouble code mostly, sometimes all, sometimes one beside a known
+    /// one, the first or the last, which is mostly none's.
     fn trouble_code(&mut self) -> u32 {
         let event = self.event();
         let known = self.config.row(event).trouble_code as u32;
