@@ -1,18 +1,16 @@
--- Laws of specs/Halving.antt: how a range is halved, and what the row that is left tells. Of the codes they ask only
+-- Laws of specs/Halving.antt: how a range is halved, and what the row that is left tells. Of the codes they use only
 -- that they do not fall from row to row.
 use mathlib.Core.Path.{_≡_, ap, subst, _∙_}
-use mathlib.Core.Logic.{_≢_, _⊎_, inl, inr, ⊎-elim}
+use mathlib.Core.Logic.{_≢_, inl, inr, ⊎-elim}
 use mathlib.Core.Option.{none, some}
 use mathlib.Core.Bool.{true}
 use Prim.Native.Nat.{ℕ, suc, _+_, _-_, _*_, _/_, _^_, _≤_, _<_}
 use native.Mathlib.Nat.{pow-suc, lt-of-not-le, not-suc-le-zero}
 use native.Mathlib.Omega.{arith}
-use Rattle.manual.specs.Configuration.{Configuration, mostEvents, events, codeOf, configOk}
-use Rattle.manual.proofs.ConfigurationLaws.{config-tells, codes-not-falling}
+use Rattle.manual.specs.Configuration.{Configuration, mostEvents, events, codeOf, configOk, firstWithCode}
+use Rattle.manual.proofs.ConfigurationLaws.{config-tells, codes-not-falling, found-is, nothing-is}
 use Rattle.config.specs.declared.Range.{Range}
-use Rattle.config.specs.Search.{firstWithCode}
 use Rattle.config.specs.Halving.{NarrowedTo, Halved, width}
-use Rattle.config.proofs.SearchLaws.{found-is, nothing-is}
 
 abbrev pub middle : Range → ℕ
 middle range = range .low + (range .high - range .low) / 2

@@ -9,10 +9,10 @@ ghost use Rattle.history.specs.Words.{holds};
 ghost use Rattle.manual.specs.Words.{allBelow, between, eqZ, natOf};
 ghost use Rattle.manual.specs.Configuration.{mostEvents, numberAt, events, places, frameBytes, column, codeOf};
 ghost use Rattle.manual.specs.Configuration.{priorityOf, cycleOf, kindOf, lowOf, highOf, upOf, downOf, jumpsOf};
-ghost use Rattle.manual.specs.Configuration.{limitsOf, rowOk, configOk};
+ghost use Rattle.manual.specs.Configuration.{limitsOf, rowOk, configOk, hasCode, firstWithCode};
 ghost use Rattle.config.specs.Rows.{InRow, Within, RowWithin, RowsWithin, limitsIs, partOf, ofKind};
 ghost use Rattle.config.specs.Rows.{risesHere, rowFits};
-ghost use Rattle.config.specs.Search.{hasCode, firstWithCode, searchIs};
+ghost use Rattle.config.specs.Search.{searchIs};
 ghost use Rattle.config.specs.Halving.{NarrowedTo, Halved};
 
 // "Configuration: lent signed 32-bit numbers, three in front: n events …, M memory places …, F frame bytes"
@@ -403,7 +403,8 @@ struct Range {
 // 9 halvings leave one of 512 rows. Each looks at one row at most, and the comparison at the one that is left: 10 rows.
 const HALVINGS: usize = 9;
 
-// The half of a range that has the first row whose code is not below the wanted one. A range of one row stays.
+// The half of a range that has the first row whose code is not below the wanted one, or the last row where there is
+// none. A range of one row stays.
 fn halved(cfg: &[i32], range: Range, code: u32) -> Range
     requires { ⌜ NarrowedTo (now cfg) code range ⌝ }
     ensures { λ r. ⌜ Halved (now (cfg .entry)) code range r ⌝ }

@@ -1,22 +1,24 @@
 -- What an accepted configuration gives, by name, so that no later proof opens the table.
 use mathlib.Core.Path.{_≡_, refl, sym}
-use mathlib.Core.Logic.{_⊎_, inl, inr, ⊎-elim}
+use mathlib.Core.Logic.{_≢_, _⊎_, inl, inr, ⊎-elim}
 use mathlib.Core.Bool.{Bool, true, false, cond}
+use mathlib.Core.Option.{none, some}
 use Prim.Native.Nat.{ℕ, zero, suc, _-_, _≤_, _<_}
 use native.Mathlib.Nat.{eq-or-lt-of-le, le-of-suc-le-suc, le-refl}
 use native.Mathlib.Omega.{arith}
 use lib.Dec.{eqb}
 use lib.IntN.{ℤ, pos, negsuc}
 use lib.Signed.{leZ, ltZ}
-use borrow.Author.Tests.{leb-true, ltb-true}
+use borrow.Author.Tests.{leb-true, ltb-true, eq-eqb, ne-eqb, eqb-true, eqb-false}
 use Rattle.history.specs.History.{Allowed}
 use Rattle.history.proofs.WordsLaws.{part}
 use Rattle.manual.specs.Words.{between, eqZ, natOf}
 use Rattle.manual.specs.Configuration.{Configuration, mostEvents, mostPlaces, mostFrame, mostPayload, events}
 use Rattle.manual.specs.Configuration.{places, frameBytes, entryFrames, column, numberAt, codeOf, cycleOf, kindOf}
 use Rattle.manual.specs.Configuration.{isInternal, isCounter, isTime, lowOf, highOf, upOf, downOf, limitsOf}
-use Rattle.manual.specs.Configuration.{rowOk, rises, configOk}
-use Rattle.manual.proofs.WordsLaws.{clash, all-below-at, eqZ-true, between-from, between-to}
+use Rattle.manual.specs.Configuration.{rowOk, rises, configOk, hasCode, firstWithCode, FirstWithCode}
+use Rattle.manual.proofs.WordsLaws.{clash, all-below-at, lowest-none, none-lowest, lowest-some}
+use Rattle.manual.proofs.WordsLaws.{some-lowest, eqZ-true, between-from, between-to}
 use Rattle.manual.proofs.SignedLaws.{signed}
 
 -- "kinds 1, 2: P −30,000 to −1, Q 1 to 30,000", "up, down: kind 1: 1 to 30,000; else 0", as far as debouncing needs it
@@ -127,3 +129,30 @@ codes-not-falling cfg ok a (suc b) l h =
 
     later : codeOf cfg a ≤ codeOf cfg b → codeOf cfg a ≤ codeOf cfg (suc b)
     later k = omega (arith, next)
+
+-- ---- the first event with a trouble code
+
+module _ (cfg : Configuration) (code : ℕ) where
+  pub found-tells : (e : ℕ) → firstWithCode cfg code ≡ some e → FirstWithCode cfg code e
+  unfolding firstWithCode
+  found-tells e q =
+      let l = some-lowest (hasCode cfg code) (events cfg) e q in
+      record {
+        below = l .below;
+        has-code = eqb-true (codeOf cfg e) code (l .passes);
+        first = λ k h. eqb-false (codeOf cfg k) code (l .first k h);
+      }
+
+  pub found-is : (e : ℕ) → FirstWithCode cfg code e → firstWithCode cfg code ≡ some e
+  unfolding firstWithCode
+  found-is e l =
+      lowest-some (hasCode cfg code) (events cfg) e (l .below) (eq-eqb (codeOf cfg e) code (l .has-code))
+      (λ k h. ne-eqb (codeOf cfg k) code (l .first k h))
+
+  pub nothing-tells : firstWithCode cfg code ≡ none → (e : ℕ) → e < events cfg → codeOf cfg e ≢ code
+  unfolding firstWithCode
+  nothing-tells q e h = eqb-false (codeOf cfg e) code (none-lowest (hasCode cfg code) (events cfg) q e h)
+
+  pub nothing-is : ((e : ℕ) → e < events cfg → codeOf cfg e ≢ code) → firstWithCode cfg code ≡ none
+  unfolding firstWithCode
+  nothing-is n = lowest-none (hasCode cfg code) (events cfg) (λ e h. ne-eqb (codeOf cfg e) code (n e h))

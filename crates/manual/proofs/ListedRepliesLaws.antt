@@ -16,8 +16,8 @@ use Rattle.manual.specs.WellFormed.{wellFormed}
 use Rattle.manual.specs.Answers.{Beside, Outcome}
 use Rattle.manual.specs.Diagnostics.{requestReply}
 use Rattle.manual.specs.Replies.{rising, sharesBit, numberBy, listBy, listAll, fours, linesIn, Tells, secondByte}
-use Rattle.manual.specs.Replies.{Due, sends, refusedWith, number-by-mask, list-by-mask, list-all, too-long}
-use Rattle.manual.specs.Replies.{negative, positive}
+use Rattle.manual.specs.Replies.{Due, sends, refusedWith, length-of-01, length-of-02, length-of-0A}
+use Rattle.manual.specs.Replies.{number-by-mask, list-by-mask, list-all, too-long, negative, positive}
 use Rattle.manual.proofs.WordsLaws.{those-le}
 use Rattle.manual.proofs.ConfigurationLaws.{config-tells}
 use Rattle.manual.proofs.RepliesLaws.{rising-length, fours-flat, flat-length, accepted-told}
@@ -110,7 +110,10 @@ module _ (cfg : Configuration) (s : State) (configured : configOk cfg ≡ true) 
     number-wants : Wants (numberBy mask) numberBytes
     number-wants = record {
       asked = λ e. omega arith;
-      due = record { service-19 = refl; more = λ e. omega arith; asks = number-by-mask refl };
+      due = record {
+        sized = record { service-19 = refl; more = λ e. omega arith; must-have = length-of-01 refl };
+        asks = number-by-mask refl;
+      };
       plain = omega arith;
     }
 
@@ -126,7 +129,10 @@ module _ (cfg : Configuration) (s : State) (configured : configOk cfg ≡ true) 
     by-mask-wants : Wants (listBy mask) (0x59 ∷ 0x02 ∷ 0xFF ∷ flatMap line matched)
     by-mask-wants = record {
       asked = λ e. omega arith;
-      due = record { service-19 = refl; more = λ e. omega arith; asks = list-by-mask refl };
+      due = record {
+        sized = record { service-19 = refl; more = λ e. omega arith; must-have = length-of-02 refl };
+        asks = list-by-mask refl;
+      };
       plain = omega arith;
     }
 
@@ -150,7 +156,10 @@ module _ (cfg : Configuration) (s : State) (configured : configOk cfg ≡ true) 
   all-wants : Wants listAll (0x59 ∷ 0x0A ∷ 0xFF ∷ flatMap line every)
   all-wants = record {
     asked = λ e. omega arith;
-    due = record { service-19 = refl; more = λ e. omega arith; asks = list-all refl };
+    due = record {
+      sized = record { service-19 = refl; more = λ e. omega arith; must-have = length-of-0A refl };
+      asks = list-all refl;
+    };
     plain = omega arith;
   }
 

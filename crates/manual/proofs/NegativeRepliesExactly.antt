@@ -12,7 +12,8 @@ use Rattle.manual.specs.State.{State}
 use Rattle.manual.specs.Answers.{Beside, Outcome}
 use Rattle.manual.specs.Diagnostics.{requestReply}
 use Rattle.manual.specs.Replies.{Asks, Negative, Replies, refusedWith, number-by-mask, list-by-mask}
-use Rattle.manual.specs.Replies.{list-all, list-near, negative, suppressed, positive, clears}
+use Rattle.manual.specs.Replies.{list-all, list-near, frame-of-entry, details-of-entry, frame-without-entry}
+use Rattle.manual.specs.Replies.{details-without-entry, negative, suppressed, positive, clears}
 use Rattle.manual.proofs.RepliesFollowTheSentences.{reply-said, reply-is}
 
 module _ (cfg : Configuration) (request : List ℕ) (b : Beside) (s : State) where
@@ -29,12 +30,15 @@ module _ (cfg : Configuration) (request : List ℕ) (b : Beside) (s : State) whe
   firstByte o = getD (o .beside .room) 0 0
 
   -- a positive reply of service 19 begins with 59
-  begins-59 : {size : ℕ} {bytes : List ℕ} → Asks cfg request s size bytes
-      → (rest : List ℕ) → getD (bytes ++ rest) 0 0 ≡ 0x59
+  begins-59 : {bytes : List ℕ} → Asks cfg request s bytes → (rest : List ℕ) → getD (bytes ++ rest) 0 0 ≡ 0x59
   begins-59 (number-by-mask e) rest = refl
   begins-59 (list-by-mask e) rest = refl
   begins-59 (list-all e) rest = refl
   begins-59 (list-near e) rest = refl
+  begins-59 (frame-of-entry n e h x q) rest = refl
+  begins-59 (details-of-entry n e h x q) rest = refl
+  begins-59 (frame-without-entry n e h q) rest = refl
+  begins-59 (details-without-entry n e h q) rest = refl
 
   begins-7F : (o : Outcome) → Replies cfg request s b o → o .value ≢ 0 → firstByte o ≡ 0x7F
       → (code : ℕ) × Given code × (o ≡ negativeReply code)

@@ -12,8 +12,8 @@ use Rattle.manual.specs.State.{State}
 use Rattle.manual.specs.Answers.{Beside, Outcome}
 use Rattle.manual.specs.Diagnostics.{requestReply}
 use Rattle.manual.specs.Replies.{SameReply, sends, refusedWith, Negative, Replies, other-service, alone}
-use Rattle.manual.specs.Replies.{no-sub-function, other-length, too-long, not-four, unknown, negative, suppressed}
-use Rattle.manual.specs.Replies.{positive, clears}
+use Rattle.manual.specs.Replies.{no-sub-function, other-length, unknown-in-04, unknown-in-06, too-long, not-four}
+use Rattle.manual.specs.Replies.{unknown, negative, suppressed, positive, clears}
 use Rattle.manual.proofs.RepliesLaws.{accepted-tells}
 use Rattle.manual.proofs.RepliesFollowTheSentences.{reply-said, reply-is}
 
@@ -61,8 +61,10 @@ module _ (cfg : Configuration) (request : List ℕ) (s : State) where
     negative-again : (code : ℕ) → Negative cfg request s b code → Negative cfg request s b′ code
     negative-again _ (other-service a b) = other-service a b
     negative-again _ (alone a l) = alone a l
-    negative-again _ (no-sub-function a m p q r t) = no-sub-function a m p q r t
-    negative-again _ (other-length size bytes n l) = other-length size bytes n l
+    negative-again _ (no-sub-function a m p q r t u v) = no-sub-function a m p q r t u v
+    negative-again _ (other-length size n l) = other-length size n l
+    negative-again _ (unknown-in-04 z n u) = unknown-in-04 z n u
+    negative-again _ (unknown-in-06 z n u) = unknown-in-06 z n u
     negative-again _ (too-long bytes n p l) = absurd (fits (too-long bytes n p l))
     negative-again _ (not-four a l) = not-four a l
     negative-again _ (unknown a l u) = unknown a l u

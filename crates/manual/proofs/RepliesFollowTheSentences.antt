@@ -1,29 +1,37 @@
 -- An accepted request has the outcome that the sentences of document 01 give it, and no other: the bytes that it is
 -- sent, the answer 0, the rest of the room as found, and the state that it leaves.
 use mathlib.Core.Path.{_≡_, refl, sym, ap, subst, _∙_}
-use mathlib.Core.Logic.{_≢_, _↔_}
-use mathlib.Core.Bool.{true, false, not, cond}
-use mathlib.Core.List.{List, [], _∷_, flatMap}
-use mathlib.Core.Option.{Option, none, some}
+use mathlib.Core.Logic.{_≢_, _↔_, _⊎_, inl, inr, ⊎-elim}
+use mathlib.Core.Bool.{Bool, true, false, not, _||_, cond}
+use mathlib.Core.List.{List, [], _∷_, _++_, flatMap}
+use mathlib.Core.Option.{Option, none, some, Option·none-ne-some}
 use Prim.Native.Nat.{ℕ}
 use lib.Dec.{eqb, ltb, leb}
 use lib.ListN.{length}
 use borrow.Author.Tests.{eqb-true, eqb-false, eq-eqb, ne-eqb, ltb-true, ltb-false, lt-ltb}
 use borrow.Author.Tests.{le-ltb, leb-true, leb-false, le-leb, lt-leb, not-true, not-false}
 use Rattle.manual.specs.Words.{firstOf, two}
-use Rattle.manual.specs.Configuration.{Configuration, events}
+use Rattle.manual.specs.Configuration.{Configuration, events, firstWithCode}
 use Rattle.manual.specs.State.{State}
+use Rattle.manual.specs.Memory.{Entry, entryFor}
+use Rattle.manual.specs.WellFormed.{entries}
 use Rattle.manual.specs.Answers.{Beside, Outcome}
 use Rattle.manual.specs.Calls.{unknownCode, cleared}
 use Rattle.manual.specs.Diagnostics.{Reply, Served, served, SubFunction, subFunction, fitted, lines, numberByMask}
 use Rattle.manual.specs.Diagnostics.{listByMask, listAll, listNear, isNear, counterByte}
+use Rattle.manual.specs.Diagnostics.{isRecord, shownEvent, eventAsked, frameTold, detailsTold}
+use Rattle.manual.specs.Diagnostics.{behindStatus, shownBytes, showing, showFrame, showDetails}
 use Rattle.manual.specs.Diagnostics.{subFunctionOf, subFunctionReply, service19}
 use Rattle.manual.specs.Diagnostics.{service14, servedBy, sent, replied, requestReply}
 use Rattle.manual.specs.Replies as Replies
-use Rattle.manual.specs.Replies.{rising, number-by-mask, list-by-mask, list-all, list-near, other-service, alone}
-use Rattle.manual.specs.Replies.{no-sub-function, other-length, too-long, not-four, unknown, negative, suppressed}
+use Rattle.manual.specs.Replies.{rising, length-of-01, length-of-02, length-of-0A, length-of-14, length-of-04}
+use Rattle.manual.specs.Replies.{length-of-06, number-by-mask, list-by-mask, list-all, list-near, frame-of-entry}
+use Rattle.manual.specs.Replies.{details-of-entry, frame-without-entry, details-without-entry, unknown-code}
+use Rattle.manual.specs.Replies.{unknown-record, other-service, alone, no-sub-function, other-length}
+use Rattle.manual.specs.Replies.{unknown-in-04, unknown-in-06, too-long, not-four, unknown, negative, suppressed}
 use Rattle.manual.specs.Replies.{positive, clears}
-use Rattle.manual.proofs.WordsLaws.{by}
+use Rattle.manual.proofs.WordsLaws.{by, neither, either}
+use Rattle.manual.proofs.ConfigurationLaws.{found-tells, found-is, nothing-tells, nothing-is}
 use Rattle.manual.proofs.RepliesLaws.{those-every, count-is, join-is, accepted-is}
 
 module _ (cfg : Configuration) (request : List ℕ) (b : Beside) (s : State) where
@@ -51,11 +59,23 @@ module _ (cfg : Configuration) (request : List ℕ) (b : Beside) (s : State) whe
   abbrev troubleCode : ℕ
   troubleCode = Replies.troubleCode cfg request s
 
-  abbrev Asks : ℕ → List ℕ → Type 0
+  abbrev Shown : ℕ → Type 0
+  Shown = Replies.Shown cfg request s
+
+  abbrev AsksForUnknown : Type 0
+  AsksForUnknown = Replies.AsksForUnknown cfg request s
+
+  abbrev MustHave : ℕ → Type 0
+  MustHave = Replies.MustHave cfg request s
+
+  abbrev Asks : List ℕ → Type 0
   Asks = Replies.Asks cfg request s
 
-  abbrev Names : ℕ → List ℕ → Type 0
+  abbrev Names : ℕ → Type 0
   Names = Replies.Names cfg request s
+
+  abbrev Sized : Type 0
+  Sized = Replies.Sized cfg request s
 
   abbrev Due : List ℕ → Type 0
   Due = Replies.Due cfg request s
@@ -69,9 +89,9 @@ module _ (cfg : Configuration) (request : List ℕ) (b : Beside) (s : State) whe
   abbrev here : Served
   here = servedBy cfg request (length (b .room)) s
 
-  -- a positive reply as the request and the room let it go
-  abbrev fitting : List ℕ → Reply
-  fitting bytes = fitted (leb 128 second) (length (b .room)) (Reply.positive bytes)
+  -- a reply as the request and the room let it go
+  abbrev fitting : Reply → Reply
+  fitting reply = fitted (leb 128 second) (length (b .room)) reply
 
   -- ---- the definitions' positive replies are the sentences' ones
 
@@ -93,6 +113,43 @@ module _ (cfg : Configuration) (request : List ℕ) (b : Beside) (s : State) whe
   unfolding listNear lines isNear counterByte
   near-is = ap (λ (l : List ℕ). Reply.positive (0x59 ∷ 0x14 ∷ l)) (join-is _ counterLine (events cfg))
 
+  -- ---- the event that a request asks for, or none
+
+  record-known : isRecord cfg (Replies.askedRecord cfg request s) ≡ true → Replies.KnownRecord cfg request s
+  record-known t = ⊎-elim (λ p. inl (eqb-true _ _ p)) (λ p. inr (eqb-true _ _ p)) (either _ _ t)
+
+  known-record : Replies.KnownRecord cfg request s → isRecord cfg (Replies.askedRecord cfg request s) ≡ true
+  known-record (inl e) = rw e
+  known-record (inr e) = rw e
+
+  record-unknown : isRecord cfg (Replies.askedRecord cfg request s) ≡ false → AsksForUnknown
+  record-unknown f = let n = neither _ _ f in unknown-record (eqb-false _ _ (n .0)) (eqb-false _ _ (n .1))
+
+  shown-is : (e : ℕ) → eventAsked cfg request s ≡ some e → Shown e
+  unfolding eventAsked shownEvent
+  shown-is e =
+      by (isRecord cfg (Replies.askedRecord cfg request s)) (λ (o : Option ℕ). o ≡ some e → Shown e)
+      (λ t q. record { known-record = record-known t; of-code = found-tells cfg _ e q })
+      (λ f q. absurd (Option·none-ne-some e q))
+
+  is-shown : (e : ℕ) → Shown e → eventAsked cfg request s ≡ some e
+  unfolding eventAsked shownEvent
+  is-shown e h = rw (known-record (h .known-record)) (found-is cfg _ e (h .of-code))
+
+  unknown-is : eventAsked cfg request s ≡ none → AsksForUnknown
+  unfolding eventAsked shownEvent
+  unknown-is =
+      by (isRecord cfg (Replies.askedRecord cfg request s)) (λ (o : Option ℕ). o ≡ none → AsksForUnknown)
+      (λ t q. unknown-code (nothing-tells cfg _ q))
+      (λ f q. record-unknown f)
+
+  is-unknown : AsksForUnknown → eventAsked cfg request s ≡ none
+  unfolding eventAsked shownEvent
+  is-unknown (unknown-code n) =
+      by (isRecord cfg (Replies.askedRecord cfg request s)) (λ (o : Option ℕ). o ≡ none)
+      (λ t. nothing-is cfg _ n) (λ f. refl)
+  is-unknown (unknown-record a b) = rw (ne-eqb _ _ a, ne-eqb _ _ b)
+
   -- ---- the definitions follow the sentences
 
   -- what this leaves is said
@@ -102,7 +159,7 @@ module _ (cfg : Configuration) (request : List ℕ) (b : Beside) (s : State) whe
   abbrev Said19 : Reply → Type 0
   Said19 reply = SaidOf (served reply s)
 
-  fitted-said : (bytes : List ℕ) → Due bytes → Said19 (fitting bytes)
+  fitted-said : (bytes : List ℕ) → Due bytes → Said19 (fitting (Reply.positive bytes))
   unfolding fitted sent
   fitted-said bytes n =
       by (leb 128 second) Said19 (λ t. suppressed (bytes, n, leb-true _ _ t)) (λ f.
@@ -110,34 +167,92 @@ module _ (cfg : Configuration) (request : List ℕ) (b : Beside) (s : State) whe
       (λ t. negative 0x14 (too-long bytes n (leb-false _ _ f) (ltb-true _ _ t)))
       (λ g. positive bytes n (leb-false _ _ f) (ltb-false _ _ g)))
 
-  sub-said : (k size : ℕ) (reply : List ℕ → State → Reply) (bytes : List ℕ)
-      → reply request s ≡ Reply.positive bytes → Names size bytes
+  -- a request that has its length
+  module _ (z : Sized) where
+    due-said : (bytes : List ℕ) → Asks bytes → Said19 (fitting (Reply.positive bytes))
+    due-said bytes a = fitted-said bytes (record { sized = z; asks = a })
+
+    -- of one that asks for the event of a code, and what is told of its entry
+    module _ (k : ℕ) (told : State → ℕ → Entry → List ℕ)
+        (of-entry : (e : ℕ) → Shown e → (x : Entry) → entryFor e (entries cfg s) ≡ some x
+        → Asks (0x59 ∷ k ∷ (lineOf e ++ (0x01 ∷ told s e x))))
+        (without : (e : ℕ) → Shown e → entryFor e (entries cfg s) ≡ none → Asks (0x59 ∷ k ∷ lineOf e)) where
+      shown-asks : (e : ℕ) → Shown e → Asks (shownBytes cfg k told e s)
+      unfolding shownBytes behindStatus
+      shown-asks e h = go (entryFor e (entries cfg s)) refl
+        where
+          go : (x : Option Entry) → entryFor e (entries cfg s) ≡ x
+              → Asks (0x59 ∷ k ∷ (lineOf e ++ behindStatus cfg (told s e) x))
+          go (some x) q = of-entry e h x q
+          go none q = without e h q
+
+      showing-said : (AsksForUnknown → Negative 0x31) → Said19 (fitting (showing cfg k told (eventAsked cfg request s) s))
+      unfolding showing fitted sent
+      showing-said to31 = go (eventAsked cfg request s) refl
+        where
+          go : (o : Option ℕ) → eventAsked cfg request s ≡ o → Said19 (fitting (showing cfg k told o s))
+          go (some e) q = due-said _ (shown-asks e (shown-is e q))
+          go none q = negative 0x31 (to31 (unknown-is q))
+
+    frame-said : number ≡ 0x04 → Said19 (fitting (showing cfg 0x04 (frameTold cfg) (eventAsked cfg request s) s))
+    frame-said n =
+        showing-said 0x04 (frameTold cfg) (frame-of-entry n) (frame-without-entry n) (unknown-in-04 z n)
+
+    details-said : number ≡ 0x06 → Said19 (fitting (showing cfg 0x06 (detailsTold cfg) (eventAsked cfg request s) s))
+    details-said n =
+        showing-said 0x06 (detailsTold cfg) (details-of-entry n) (details-without-entry n) (unknown-in-06 z n)
+
+  sub-said : (k size : ℕ) (reply : List ℕ → State → Reply) → Names size
+      → (Sized → Said19 (fitting (reply request s)))
       → Said19 (subFunctionReply cfg (some (subFunction k size reply)) request (length (b .room)) s)
   unfolding subFunctionReply sent
-  sub-said k size reply bytes e n =
+  sub-said k size reply n said =
       by (not (eqb (length request) size)) Said19
-      (λ t. negative 0x13 (other-length size bytes n (eqb-false _ _ (not-true _ t))))
-      (λ f. let l : length request ≡ size = eqb-true _ _ (not-false _ f) in rw e (fitted-said bytes (rw l n)))
+      (λ t. negative 0x13 (other-length size n (eqb-false _ _ (not-true _ t))))
+      (λ f. let l : length request ≡ size = eqb-true _ _ (not-false _ f) in said (rw l n))
 
   module _ (is19 : service ≡ 0x19) (more : length request ≢ 1) where
-    named : {size : ℕ} {bytes : List ℕ} → Asks size bytes → Names size bytes
-    named a = record { service-19 = is19; more = more; asks = a }
+    named : {size : ℕ} → MustHave size → Names size
+    named m = record { service-19 = is19; more = more; must-have = m }
 
     abbrev SaidSub : Option SubFunction → Type 0
     SaidSub f = Said19 (subFunctionReply cfg f request (length (b .room)) s)
 
-    none-said : number ≢ 0x01 → number ≢ 0x02 → number ≢ 0x0A → number ≢ 0x14 → SaidSub none
+    none-said : number ≢ 0x01 → number ≢ 0x02 → number ≢ 0x0A → number ≢ 0x14 → number ≢ 0x04 → number ≢ 0x06
+        → SaidSub none
     unfolding subFunctionReply sent
-    none-said a b c d = negative 0x12 (no-sub-function is19 more a b c d)
+    none-said a b c d e f = negative 0x12 (no-sub-function is19 more a b c d e f)
+
+    -- each sub-function
+    said-01 : number ≡ 0x01 → SaidSub (some (subFunction 0x01 3 (numberByMask cfg)))
+    said-01 n =
+        sub-said 0x01 3 _ (named (length-of-01 n)) (λ z. rw number-is (due-said z _ (number-by-mask n)))
+
+    said-02 : number ≡ 0x02 → SaidSub (some (subFunction 0x02 3 (listByMask cfg)))
+    said-02 n = sub-said 0x02 3 _ (named (length-of-02 n)) (λ z. rw list-is (due-said z _ (list-by-mask n)))
+
+    said-0A : number ≡ 0x0A → SaidSub (some (subFunction 0x0A 2 (listAll cfg)))
+    said-0A n = sub-said 0x0A 2 _ (named (length-of-0A n)) (λ z. rw all-is (due-said z _ (list-all n)))
+
+    said-14 : number ≡ 0x14 → SaidSub (some (subFunction 0x14 2 (listNear cfg)))
+    said-14 n = sub-said 0x14 2 _ (named (length-of-14 n)) (λ z. rw near-is (due-said z _ (list-near n)))
+
+    said-04 : number ≡ 0x04 → SaidSub (some (subFunction 0x04 6 (showFrame cfg)))
+    said-04 n = sub-said 0x04 6 _ (named (length-of-04 n)) (λ z. frame-said z n)
+
+    said-06 : number ≡ 0x06 → SaidSub (some (subFunction 0x06 6 (showDetails cfg)))
+    said-06 n = sub-said 0x06 6 _ (named (length-of-06 n)) (λ z. details-said z n)
 
     subs-said : SaidSub (subFunctionOf cfg request)
     unfolding firstOf
     subs-said =
-        by (eqb 0x01 number) SaidSub (λ t. sub-said 0x01 3 _ _ number-is (named (number-by-mask (this t))))
-        (λ not-01. by (eqb 0x02 number) SaidSub (λ t. sub-said 0x02 3 _ _ list-is (named (list-by-mask (this t))))
-        (λ not-02. by (eqb 0x0A number) SaidSub (λ t. sub-said 0x0A 2 _ _ all-is (named (list-all (this t))))
-        (λ not-0A. by (eqb 0x14 number) SaidSub (λ t. sub-said 0x14 2 _ _ near-is (named (list-near (this t))))
-        (λ not-14. none-said (other not-01) (other not-02) (other not-0A) (other not-14)))))
+        by (eqb 0x01 number) SaidSub (λ t. said-01 (this t)) (λ not-01.
+        by (eqb 0x02 number) SaidSub (λ t. said-02 (this t)) (λ not-02.
+        by (eqb 0x0A number) SaidSub (λ t. said-0A (this t)) (λ not-0A.
+        by (eqb 0x14 number) SaidSub (λ t. said-14 (this t)) (λ not-14.
+        by (eqb 0x04 number) SaidSub (λ t. said-04 (this t)) (λ not-04.
+        by (eqb 0x06 number) SaidSub (λ t. said-06 (this t)) (λ not-06.
+        none-said (other not-01) (other not-02) (other not-0A) (other not-14) (other not-04) (other not-06)))))))
       where
         this : {k : ℕ} → eqb k number ≡ true → number ≡ k
         this t = sym (eqb-true _ _ t)
@@ -168,26 +283,71 @@ module _ (cfg : Configuration) (request : List ℕ) (b : Beside) (s : State) whe
   -- ---- the sentences give nothing else
 
   -- the sub-function that a request asks for, in the definitions' table
-  record Found (size : ℕ) (bytes : List ℕ) : Type 0 where
+  record Found (size : ℕ) : Type 0 where
     its-number : ℕ
     its-reply : List ℕ → State → Reply
     there : subFunctionOf cfg request ≡ some (subFunction its-number size its-reply)
-    gives : its-reply request s ≡ Reply.positive bytes
 
-  found : {size : ℕ} {bytes : List ℕ} → Asks size bytes → Found size bytes
+  found : {size : ℕ} → MustHave size → Found size
   unfolding firstOf
-  found (number-by-mask e) = record { its-number = 0x01; its-reply = numberByMask cfg; there = rw e; gives = number-is }
-  found (list-by-mask e) = record { its-number = 0x02; its-reply = listByMask cfg; there = rw e; gives = list-is }
-  found (list-all e) = record { its-number = 0x0A; its-reply = listAll cfg; there = rw e; gives = all-is }
-  found (list-near e) = record { its-number = 0x14; its-reply = listNear cfg; there = rw e; gives = near-is }
+  found (length-of-01 e) = record { its-number = 0x01; its-reply = numberByMask cfg; there = rw e }
+  found (length-of-02 e) = record { its-number = 0x02; its-reply = listByMask cfg; there = rw e }
+  found (length-of-0A e) = record { its-number = 0x0A; its-reply = listAll cfg; there = rw e }
+  found (length-of-14 e) = record { its-number = 0x14; its-reply = listNear cfg; there = rw e }
+  found (length-of-04 e) = record { its-number = 0x04; its-reply = showFrame cfg; there = rw e }
+  found (length-of-06 e) = record { its-number = 0x06; its-reply = showDetails cfg; there = rw e }
 
-  named-served : {size : ℕ} {bytes : List ℕ} → Names size bytes
-      → here ≡ served (cond (not (eqb (length request) size)) (Reply.negative 0x13) (fitting bytes)) s
+  -- and its reply
+  abbrev replyOf : Option SubFunction → Reply
+  replyOf none = Reply.negative 0x12
+  replyOf (some f) = f .reply request s
+
+  abbrev theReply : Reply
+  theReply = replyOf (subFunctionOf cfg request)
+
+  shows-entry : (k : ℕ) (told : State → ℕ → Entry → List ℕ) (e : ℕ) → Shown e
+      → (x : Option Entry) → entryFor e (entries cfg s) ≡ x
+      → showing cfg k told (eventAsked cfg request s) s
+      ≡ Reply.positive (0x59 ∷ k ∷ (lineOf e ++ behindStatus cfg (told s e) x))
+  unfolding showing shownBytes
+  shows-entry k told e h x q = rw (is-shown e h, q)
+
+  shows-unknown : (k : ℕ) (told : State → ℕ → Entry → List ℕ) → AsksForUnknown
+      → showing cfg k told (eventAsked cfg request s) s ≡ Reply.negative 0x31
+  unfolding showing
+  shows-unknown k told u = rw (is-unknown u)
+
+  asks-is : {bytes : List ℕ} → Asks bytes → theReply ≡ Reply.positive bytes
+  unfolding firstOf behindStatus
+  asks-is (number-by-mask e) = rw e number-is
+  asks-is (list-by-mask e) = rw e list-is
+  asks-is (list-all e) = rw e all-is
+  asks-is (list-near e) = rw e near-is
+  asks-is (frame-of-entry n e h x q) = rw n (shows-entry 0x04 (frameTold cfg) e h (some x) q)
+  asks-is (details-of-entry n e h x q) = rw n (shows-entry 0x06 (detailsTold cfg) e h (some x) q)
+  asks-is (frame-without-entry n e h q) = rw n (shows-entry 0x04 (frameTold cfg) e h none q)
+  asks-is (details-without-entry n e h q) = rw n (shows-entry 0x06 (detailsTold cfg) e h none q)
+
+  unknown-reply : (number ≡ 0x04) ⊎ (number ≡ 0x06) → AsksForUnknown → theReply ≡ Reply.negative 0x31
+  unfolding firstOf
+  unknown-reply (inl n) u = rw n (shows-unknown 0x04 (frameTold cfg) u)
+  unknown-reply (inr n) u = rw n (shows-unknown 0x06 (detailsTold cfg) u)
+
+  named-served : {size : ℕ} → Names size
+      → here ≡ served (cond (not (eqb (length request) size)) (Reply.negative 0x13) (fitting theReply)) s
   unfolding servedBy service19 subFunctionReply
-  named-served n = let f = found (n .asks) in rw (n .service-19, ne-eqb _ _ (n .more), f .there, f .gives)
+  named-served n = let f = found (n .must-have) in rw (n .service-19, ne-eqb _ _ (n .more), f .there)
 
-  due-served : {bytes : List ℕ} → Due bytes → here ≡ served (fitting bytes) s
-  due-served n = named-served n ∙ rw (eq-eqb (length request) (length request) refl)
+  sized-served : Sized → here ≡ served (fitting theReply) s
+  sized-served z = named-served z ∙ rw (eq-eqb (length request) (length request) refl)
+
+  due-served : {bytes : List ℕ} → Due bytes → here ≡ served (fitting (Reply.positive bytes)) s
+  due-served n = sized-served (n .sized) ∙ ap (λ (r : Reply). served (fitting r) s) (asks-is (n .asks))
+
+  unknown-served : Sized → (number ≡ 0x04) ⊎ (number ≡ 0x06) → AsksForUnknown
+      → here ≡ served (Reply.negative 0x31) s
+  unfolding fitted
+  unknown-served z n u = sized-served z ∙ ap (λ (r : Reply). served (fitting r) s) (unknown-reply n u)
 
   other : {k : ℕ} → number ≢ k → eqb k number ≡ false
   other n = ne-eqb _ _ (λ e. n (sym e))
@@ -196,8 +356,11 @@ module _ (cfg : Configuration) (request : List ℕ) (b : Beside) (s : State) whe
   unfolding servedBy service19 subFunctionReply service14 firstOf fitted
   negative-served _ (other-service a b) = rw (ne-eqb _ _ a, ne-eqb _ _ b)
   negative-served _ (alone a l) = rw (a, l)
-  negative-served _ (no-sub-function a m p q r t) = rw (a, ne-eqb _ _ m, other p, other q, other r, other t)
-  negative-served _ (other-length size bytes n l) = named-served n ∙ rw (ne-eqb _ _ l)
+  negative-served _ (no-sub-function a m p q r t u v) =
+      rw (a, ne-eqb _ _ m, other p, other q, other r, other t, other u, other v)
+  negative-served _ (other-length size n l) = named-served n ∙ rw (ne-eqb _ _ l)
+  negative-served _ (unknown-in-04 z n u) = unknown-served z (inl n) u
+  negative-served _ (unknown-in-06 z n u) = unknown-served z (inr n) u
   negative-served _ (too-long bytes n p l) = due-served n ∙ rw (lt-leb _ _ p, lt-ltb _ _ l)
   negative-served _ (not-four a l) = rw (a, ne-eqb _ _ l)
   negative-served _ (unknown a l u) = rw (a, l, u)

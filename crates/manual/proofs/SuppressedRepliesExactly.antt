@@ -11,7 +11,8 @@ use Rattle.manual.specs.State.{State}
 use Rattle.manual.specs.Answers.{Beside, Outcome}
 use Rattle.manual.specs.Diagnostics.{requestReply}
 use Rattle.manual.specs.Replies.{Asks, Suppressed, sends, Replies, number-by-mask, list-by-mask}
-use Rattle.manual.specs.Replies.{list-all, list-near, negative, suppressed, positive, clears}
+use Rattle.manual.specs.Replies.{list-all, list-near, frame-of-entry, details-of-entry, frame-without-entry}
+use Rattle.manual.specs.Replies.{details-without-entry, negative, suppressed, positive, clears}
 use Rattle.manual.proofs.RepliesFollowTheSentences.{reply-said, reply-is}
 
 module _ (cfg : Configuration) (request : List ℕ) (b : Beside) (s : State) where
@@ -19,11 +20,15 @@ module _ (cfg : Configuration) (request : List ℕ) (b : Beside) (s : State) whe
   outcome = requestReply cfg request b s
 
   -- no positive reply is empty
-  not-empty : {size : ℕ} {bytes : List ℕ} → Asks cfg request s size bytes → 2 ≤ length bytes
+  not-empty : {bytes : List ℕ} → Asks cfg request s bytes → 2 ≤ length bytes
   not-empty (number-by-mask e) = omega arith
   not-empty (list-by-mask e) = omega arith
   not-empty (list-all e) = omega arith
   not-empty (list-near e) = omega arith
+  not-empty (frame-of-entry n e h x q) = omega arith
+  not-empty (details-of-entry n e h x q) = omega arith
+  not-empty (frame-without-entry n e h q) = omega arith
+  not-empty (details-without-entry n e h q) = omega arith
 
   silent-is : (o : Outcome) → Replies cfg request s b o → o .value ≡ 0 → Suppressed cfg request s
   silent-is _ (negative code n) z = absurd (let w : ⊥ = omega arith in w)

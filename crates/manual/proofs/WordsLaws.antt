@@ -4,7 +4,7 @@ use mathlib.Core.Logic.{_⊎_, inl, inr, ⊎-elim}
 use mathlib.Core.Bool.{Bool, true, false, not, _&&_, _||_, cond, true≢false}
 use mathlib.Core.List.{List, [], _∷_, _++_, List·Memᴰ, List·Memᴰ·head, List·Memᴰ·tail, List·Memᴰ·cases-cons}
 use mathlib.Core.List.{List·Memᴰ·append-cases, Memᴰ·append-left, Memᴰ·append-right}
-use mathlib.Core.Option.{none, some, Option·none-ne-some}
+use mathlib.Core.Option.{Option, none, some, Option·none-ne-some, Option·some-ne-none, Option·some-injective}
 use Prim.Native.Nat.{ℕ, zero, suc, _+_, _≤_, _<_}
 use native.Mathlib.Nat.{eq-or-lt-of-le, le-of-suc-le-suc, not-suc-le-zero, le-refl}
 use native.Mathlib.Omega.{arith}
@@ -15,7 +15,7 @@ use lib.Signed.{leZ}
 use borrow.Author.Tests.{eq-eqb, eqb-true}
 use Rattle.history.specs.Words.{anyOf, allOf}
 use Rattle.history.proofs.WordsLaws.{and-left, and-right, both}
-use Rattle.manual.specs.Words.{All, allBelow, forBelow, firstOf, those, equal, eqZ, between}
+use Rattle.manual.specs.Words.{All, allBelow, forBelow, firstOf, orElse, lowestBelow, those, equal, eqZ, between}
 
 -- ---- tests
 
@@ -27,6 +27,10 @@ clash a p q = absurd (true≢false (sym p ∙ q))
 pub by : {A : Type 0} (b : Bool) (P : A → Type 0) {x y : A} → (b ≡ true → P x) → (b ≡ false → P y) → P (cond b x y)
 by true P f g = f refl
 by false P f g = g refl
+
+pub either : (a b : Bool) → a || b ≡ true → (a ≡ true) ⊎ (b ≡ true)
+either true b e = inl refl
+either false b e = inr e
 
 pub neither : (a b : Bool) → a || b ≡ false → (a ≡ false) × (b ≡ false)
 neither true b e = clash true refl e
@@ -53,6 +57,53 @@ pub for-below-keeps : {S : Type 0} (P : S → Type 0) (one : ℕ → S → S) (n
 unfolding forBelow
 for-below-keeps P one n zero h f s p = p
 for-below-keeps P one n (suc m) h f s p = f m (forBelow m one s) h (for-below-keeps P one n m (omega arith) f s p)
+
+-- the lowest that passes
+module _ (f : ℕ → Bool) where
+  pub lowest-none : (n : ℕ) → ((k : ℕ) → k < n → f k ≡ false) → lowestBelow n f ≡ none
+  unfolding lowestBelow
+  lowest-none zero h = refl
+  lowest-none (suc n) h = rw (lowest-none n (λ k q. h k (omega arith)), h n (omega arith))
+
+  pub none-lowest : (n : ℕ) → lowestBelow n f ≡ none → (k : ℕ) → k < n → f k ≡ false
+  unfolding lowestBelow
+  none-lowest zero e k h = absurd (not-suc-le-zero h)
+  none-lowest (suc n) e k h = go (lowestBelow n f) refl (f n) refl e (λ p. none-lowest n p k)
+    where
+      go : (o : Option ℕ) → lowestBelow n f ≡ o → (b : Bool) → f n ≡ b → orElse o (cond b (some n) none) ≡ none
+          → (lowestBelow n f ≡ none → k < n → f k ≡ false) → f k ≡ false
+      go (some a) p b q t ih = absurd (Option·some-ne-none a t)
+      go none p true q t ih = absurd (Option·some-ne-none n t)
+      go none p false q t ih = ⊎-elim (λ s. ap f s ∙ q) (ih p) (eq-or-lt-of-le (le-of-suc-le-suc h))
+
+  pub lowest-some : (n e : ℕ) → e < n → f e ≡ true → ((k : ℕ) → k < e → f k ≡ false) → lowestBelow n f ≡ some e
+  unfolding lowestBelow
+  lowest-some zero e h t first = absurd (not-suc-le-zero h)
+  lowest-some (suc n) e h t first =
+      ⊎-elim (λ s. here (sym s)) (λ s. rw (lowest-some n e s t first))
+      (eq-or-lt-of-le (le-of-suc-le-suc h))
+    where
+      here : n ≡ e → orElse (lowestBelow n f) (cond (f n) (some n) none) ≡ some e
+      here s = rw (lowest-none n (λ k q. first k (subst (λ (m : ℕ). k < m) s q)), s, t)
+
+  pub record Lowest (n e : ℕ) : Type 0 where
+    pub below : e < n
+    pub passes : f e ≡ true
+    pub first : (k : ℕ) → k < e → f k ≡ false
+
+  pub some-lowest : (n e : ℕ) → lowestBelow n f ≡ some e → Lowest n e
+  unfolding lowestBelow
+  some-lowest zero e q = absurd (Option·none-ne-some e q)
+  some-lowest (suc n) e q = go (lowestBelow n f) refl (f n) refl q (some-lowest n e)
+    where
+      go : (o : Option ℕ) → lowestBelow n f ≡ o → (b : Bool) → f n ≡ b → orElse o (cond b (some n) none) ≡ some e
+          → (lowestBelow n f ≡ some e → Lowest n e) → Lowest (suc n) e
+      go (some a) p b r t ih =
+          let l = ih (p ∙ t) in record { below = omega arith; passes = l .passes; first = l .first }
+      go none p true r t ih =
+          let s : n ≡ e = Option·some-injective n e t in
+          record { below = omega arith; passes = rw (sym s) r; first = rw (sym s) (none-lowest n p) }
+      go none p false r t ih = absurd (Option·none-ne-some e t)
 
 -- ---- lists
 

@@ -1,14 +1,17 @@
 -- Document 01, "The parts the manager works on": the configuration. Assumes nothing.
+use mathlib.Core.Path.{_≡_}
+use mathlib.Core.Logic.{_≢_}
 use mathlib.Core.Bool.{Bool, cond}
 use mathlib.Core.List.{List, [], _∷_}
-use Prim.Native.Nat.{ℕ, suc, _+_, _*_, _-_}
+use mathlib.Core.Option.{Option}
+use Prim.Native.Nat.{ℕ, suc, _+_, _*_, _-_, _<_}
 use lib.IntN.{ℤ, pos, negsuc}
 use lib.Signed.{ltZ}
 use lib.ListN.{getD, length}
 use lib.Dec.{leb, eqb}
 use Rattle.history.specs.Words.{holds}
 use Rattle.history.specs.StatusByte.{Limits}
-use Rattle.manual.specs.Words.{allBelow, between, eqZ, natOf}
+use Rattle.manual.specs.Words.{allBelow, lowestBelow, between, eqZ, natOf}
 
 -- "Configuration: lent signed 32-bit numbers"
 abbrev pub Configuration : Type 0
@@ -143,3 +146,18 @@ configOk cfg =
     ∷ allBelow (events cfg) (rowOk cfg)
     ∷ allBelow (events cfg - 1) (rises cfg)
     ∷ [])
+
+-- ---- the event of a trouble code
+
+abbrev pub hasCode : Configuration → ℕ → ℕ → Bool
+hasCode cfg code e = eqb (codeOf cfg e) code
+
+-- the first event with this trouble code, where there is one
+unfoldable pub firstWithCode : Configuration → ℕ → Option ℕ
+firstWithCode cfg code = lowestBelow (events cfg) (hasCode cfg code)
+
+-- event e has the code, and no event before it has
+pub record FirstWithCode (cfg : Configuration) (code e : ℕ) : Type 0 where
+  pub below : e < events cfg
+  pub has-code : codeOf cfg e ≡ code
+  pub first : (k : ℕ) → k < e → codeOf cfg k ≢ code

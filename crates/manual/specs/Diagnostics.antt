@@ -1,5 +1,5 @@
--- Document 01, "Diagnostic requests", with the sub-function of document 02, W1. Assumes nothing.
-use mathlib.Core.Bool.{Bool, true, not, cond}
+-- Document 01, "Diagnostic requests", with the sub-functions of document 02, W1 and W4. Assumes nothing.
+use mathlib.Core.Bool.{Bool, true, not, _||_, cond}
 use mathlib.Core.List.{List, [], _∷_, _++_}
 use mathlib.Core.Option.{Option, none, some}
 use Prim.Native.Nat.{ℕ, _%_}
@@ -9,8 +9,10 @@ use lib.Bits.{bitAnd}
 use lib.IntN.{pos}
 use Rattle.manual.specs.declared.Verdict.the-variants.{None}
 use Rattle.manual.specs.Words.{countBelow, joinBelow, firstOf, two, three, threeAt, between, twosComplement}
-use Rattle.manual.specs.Configuration.{Configuration, events, codeOf}
-use Rattle.manual.specs.State.{State, statusByte}
+use Rattle.manual.specs.Configuration.{Configuration, events, codeOf, firstWithCode}
+use Rattle.manual.specs.State.{State, storedAt, statusByte}
+use Rattle.manual.specs.Memory.{Entry, entryFor}
+use Rattle.manual.specs.WellFormed.{entries}
 use Rattle.manual.specs.Answers.{Beside, withRoom, Outcome, Rule, _if_, judged}
 use Rattle.manual.specs.Calls.{begins, unknownCode, cleared}
 use Rattle.manual.specs.Counter.{counterIn}
@@ -52,7 +54,7 @@ abbrev pub subFunction : ℕ → ℕ → (List ℕ → State → Reply) → SubF
 subFunction number size reply = record { number = number; size = size; reply = reply }
 
 -- "With the top bit set a positive reply has length 0 and the room stays untouched. Otherwise one longer than the room:
--- code 14."
+-- code 14."; "unknown code or record 31, then 14": a negative reply is neither suppressed nor too long
 unfoldable pub fitted : Bool → ℕ → Reply → Reply
 fitted suppressed room (positive bytes) =
     cond suppressed (positive []) (cond (ltb room (length bytes)) (negative codeFourteen) (positive bytes))
@@ -100,11 +102,63 @@ module _ (cfg : Configuration) where
   unfoldable pub listNear : List ℕ → State → Reply
   listNear request s = positive (0x59 ∷ subFunctionFourteen ∷ lines (isNear s) (counterByte s))
 
-  -- "not 01, 02, 0A: code 12. Length must be 3, 3, 2"; "Document 01's list of sub-functions grows by this one"
+  -- ---- `19 04` and `19 06`: what is known of the event of one trouble code
+
+  -- "`19 04` (code, record) and `19 06` (code, record)"
+  abbrev pub codeAsked : List ℕ → ℕ
+  codeAsked request = threeAt 2 request
+
+  abbrev pub recordAsked : List ℕ → ℕ
+  recordAsked request = getD request 5 0
+
+  -- "The only record numbers are 01 and FF."
+  abbrev pub isRecord : ℕ → Bool
+  isRecord number = eqb number 0x01 || eqb number 0xFF
+
+  -- the event of a trouble code whose status and entry are shown. "FFFFFFh is an unknown code here.": no event has it
+  unfoldable pub shownEvent : ℕ → State → Option ℕ
+  shownEvent code s = firstWithCode cfg code
+
+  -- the event that the request asks for; none where its code or its record is unknown
+  unfoldable pub eventAsked : List ℕ → State → Option ℕ
+  eventAsked request s = cond (isRecord (recordAsked request)) (shownEvent (codeAsked request) s) none
+
+  -- of an event's entry, "the F frame bytes": all that it holds of its frame
+  abbrev pub frameTold : State → ℕ → Entry → List ℕ
+  frameTold s e x = x .payload
+
+  -- "occurrence count, K, h, g"
+  abbrev pub detailsTold : State → ℕ → Entry → List ℕ
+  detailsTold s e x =
+      x .count ∷ storedAt e (s .records) .K ∷ storedAt e (s .records) .h ∷ storedAt e (s .records) .g ∷ []
+
+  -- "then if the event has an entry `01` and" what is told of it. "Without an entry the reply ends after the status."
+  unfoldable pub behindStatus : (Entry → List ℕ) → Option Entry → List ℕ
+  behindStatus told (some x) = 0x01 ∷ told x
+  behindStatus told none = []
+
+  -- "`59 04`, code, status, then …", "`59 06`, code, status, then …"
+  unfoldable pub shownBytes : ℕ → (State → ℕ → Entry → List ℕ) → ℕ → State → List ℕ
+  shownBytes number told e s =
+      0x59 ∷ number ∷ (line (statusByte s) e ++ behindStatus (told s e) (entryFor e (entries cfg s)))
+
+  -- "unknown code or record 31"
+  unfoldable pub showing : ℕ → (State → ℕ → Entry → List ℕ) → Option ℕ → State → Reply
+  showing number told (some e) s = positive (shownBytes number told e s)
+  showing number told none s = negative 0x31
+
+  abbrev pub showFrame : List ℕ → State → Reply
+  showFrame request s = showing 0x04 frameTold (eventAsked request s) s
+
+  abbrev pub showDetails : List ℕ → State → Reply
+  showDetails request s = showing 0x06 detailsTold (eventAsked request s) s
+
+  -- "not 01, 02, 0A: code 12. Length must be 3, 3, 2"; "Document 01's list of sub-functions grows by this one"; "Add
+  -- `19 04` (code, record) and `19 06` (code, record), each of length 6."
   abbrev pub subFunctions : List SubFunction
   subFunctions =
       subFunction 0x01 3 numberByMask ∷ subFunction 0x02 3 listByMask ∷ subFunction 0x0A 2 listAll
-      ∷ subFunction subFunctionFourteen 2 listNear ∷ []
+      ∷ subFunction subFunctionFourteen 2 listNear ∷ subFunction 0x04 6 showFrame ∷ subFunction 0x06 6 showDetails ∷ []
 
   -- "The second byte less its top bit is the sub-function"
   abbrev pub subFunctionOf : List ℕ → Option SubFunction
@@ -119,7 +173,8 @@ module _ (cfg : Configuration) where
       cond (not (eqb (length request) (f .size))) (negative 0x13)
       (fitted (suppresses request) room (f .reply request s))
 
-  -- "19: length 1: code 13. … not 01, 02, 0A: code 12. Length must be 3, 3, 2: else 13.", and 14, of length 2
+  -- "19: length 1: code 13. … not 01, 02, 0A: code 12. Length must be 3, 3, 2: else 13.", and 14, of length 2,
+  -- 04 and 06, of length 6: "Check order after length"
   unfoldable pub service19 : List ℕ → ℕ → State → Reply
   service19 request room s =
       cond (eqb (length request) 1) (negative 0x13) (subFunctionReply (subFunctionOf request) request room s)

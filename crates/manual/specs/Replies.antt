@@ -1,11 +1,12 @@
--- Document 01, "Diagnostic requests", with document 02's W1, a case for each sentence: what an accepted request is
--- sent, and what it leaves.
+-- Document 01, "Diagnostic requests", with document 02's W1 and W4, a case for each sentence: what an accepted request
+-- is sent, and what it leaves.
 -- The definitions of Diagnostics.antt compute; this is the same as a relation, to be laid beside the document. Assumes
 -- nothing.
 use mathlib.Core.Path.{_≡_}
-use mathlib.Core.Logic.{_≢_}
+use mathlib.Core.Logic.{_≢_, _⊎_}
 use mathlib.Core.Bool.{Bool, true, false, not}
 use mathlib.Core.List.{List, [], _∷_, _++_, flatMap}
+use mathlib.Core.Option.{none, some}
 use Prim.Native.Nat.{ℕ, zero, suc, _+_, _*_, _/_, _%_, _≤_, _<_}
 use lib.ListN.{length, getD, take, drop}
 use lib.Dec.{eqb}
@@ -13,9 +14,10 @@ use lib.Bits.{bitAnd}
 use lib.IntN.{pos}
 use Rattle.manual.specs.declared.Verdict.the-variants.{None}
 use Rattle.manual.specs.Words.{All, those, two, three, threeAt, between, twosComplement}
-use Rattle.manual.specs.Configuration.{Configuration, events, codeOf, configOk}
-use Rattle.manual.specs.State.{State, statusByte}
-use Rattle.manual.specs.WellFormed.{wellFormed}
+use Rattle.manual.specs.Configuration.{Configuration, events, codeOf, configOk, FirstWithCode}
+use Rattle.manual.specs.State.{State, storedAt, statusByte}
+use Rattle.manual.specs.Memory.{Entry, entryFor}
+use Rattle.manual.specs.WellFormed.{entries, wellFormed}
 use Rattle.manual.specs.Answers.{Beside, withRoom, Outcome}
 use Rattle.manual.specs.Calls.{unknownCode, cleared}
 use Rattle.manual.specs.Counter.{counterIn}
@@ -64,27 +66,84 @@ module _ (cfg : Configuration) (request : List ℕ) (s : State) where
   abbrev pub counterLine : ℕ → List ℕ
   counterLine e = three (codeOf cfg e) ++ (twosComplement (counterIn cfg s e) ∷ [])
 
-  -- a sub-function: "Length must be 3, 3, 2", and its positive reply
-  pub data Asks : ℕ → List ℕ → Type 0 where
+  -- document 02, W4: "`19 04` (code, record) and `19 06` (code, record)"
+  abbrev pub askedCode : ℕ
+  askedCode = threeAt 2 request
+
+  abbrev pub askedRecord : ℕ
+  askedRecord = getD request 5 0
+
+  -- "The only record numbers are 01 and FF."
+  abbrev pub KnownRecord : Type 0
+  KnownRecord = (askedRecord ≡ 0x01) ⊎ (askedRecord ≡ 0xFF)
+
+  -- the event that the request asks for
+  pub record Shown (e : ℕ) : Type 0 where
+    pub known-record : KnownRecord
+    pub of-code : FirstWithCode cfg askedCode e
+
+  -- "if the event has an entry", and "Without an entry"
+  abbrev pub HasEntry : ℕ → Entry → Type 0
+  HasEntry e x = entryFor e (entries cfg s) ≡ some x
+
+  abbrev pub HasNone : ℕ → Type 0
+  HasNone e = entryFor e (entries cfg s) ≡ none
+
+  -- "occurrence count, K, h, g"
+  abbrev pub detailsOf : ℕ → Entry → List ℕ
+  detailsOf e x = x .count ∷ storedAt e (s .records) .K ∷ storedAt e (s .records) .h ∷ storedAt e (s .records) .g ∷ []
+
+  -- "Length must be 3, 3, 2", "of length 2", "each of length 6": the length that a sub-function's request must have
+  pub data MustHave : ℕ → Type 0 where
+    length-of-01 : number ≡ 0x01 → MustHave 3
+    length-of-02 : number ≡ 0x02 → MustHave 3
+    length-of-0A : number ≡ 0x0A → MustHave 2
+    length-of-14 : number ≡ 0x14 → MustHave 2
+    length-of-04 : number ≡ 0x04 → MustHave 6
+    length-of-06 : number ≡ 0x06 → MustHave 6
+
+  -- a sub-function's positive reply
+  pub data Asks : List ℕ → Type 0 where
     -- "01 mask: `59 01 FF 01` and the number of matching events, 2 bytes high first."
-    number-by-mask : number ≡ 0x01 → Asks 3 (0x59 ∷ 0x01 ∷ 0xFF ∷ 0x01 ∷ two (length matching))
+    number-by-mask : number ≡ 0x01 → Asks (0x59 ∷ 0x01 ∷ 0xFF ∷ 0x01 ∷ two (length matching))
     -- "02 mask: `59 02 FF`, then per matching event trouble code (3 bytes high first) and status, rising."
-    list-by-mask : number ≡ 0x02 → Asks 3 (0x59 ∷ 0x02 ∷ 0xFF ∷ flatMap lineOf matching)
+    list-by-mask : number ≡ 0x02 → Asks (0x59 ∷ 0x02 ∷ 0xFF ∷ flatMap lineOf matching)
     -- "0A: `59 0A FF`, then all events likewise."
-    list-all : number ≡ 0x0A → Asks 2 (0x59 ∷ 0x0A ∷ 0xFF ∷ flatMap lineOf (rising (events cfg)))
+    list-all : number ≡ 0x0A → Asks (0x59 ∷ 0x0A ∷ 0xFF ∷ flatMap lineOf (rising (events cfg)))
     -- document 02, W1: "request `19 14` of length 2: `59 14`, then trouble code and counter byte (two's complement) for
     -- each event whose counter is 1 to 126, rising"
-    list-near : number ≡ 0x14 → Asks 2 (0x59 ∷ 0x14 ∷ flatMap counterLine nearing)
+    list-near : number ≡ 0x14 → Asks (0x59 ∷ 0x14 ∷ flatMap counterLine nearing)
+    -- document 02, W4: "`59 04`, code, status, then if the event has an entry `01` and the F frame bytes", which its
+    -- payload is
+    frame-of-entry : number ≡ 0x04 → (e : ℕ) → Shown e → (x : Entry) → HasEntry e x
+        → Asks (0x59 ∷ 0x04 ∷ (lineOf e ++ (0x01 ∷ x .payload)))
+    -- "`59 06`, code, status, then if it has an entry `01`, occurrence count, K, h, g"
+    details-of-entry : number ≡ 0x06 → (e : ℕ) → Shown e → (x : Entry) → HasEntry e x
+        → Asks (0x59 ∷ 0x06 ∷ (lineOf e ++ (0x01 ∷ detailsOf e x)))
+    -- "Without an entry the reply ends after the status."
+    frame-without-entry : number ≡ 0x04 → (e : ℕ) → Shown e → HasNone e → Asks (0x59 ∷ 0x04 ∷ lineOf e)
+    details-without-entry : number ≡ 0x06 → (e : ℕ) → Shown e → HasNone e → Asks (0x59 ∷ 0x06 ∷ lineOf e)
 
-  -- a request of service 19 that names a sub-function
-  pub record Names (size : ℕ) (bytes : List ℕ) : Type 0 where
+  -- a request of service 19 that names a sub-function, which must have this length
+  pub record Names (size : ℕ) : Type 0 where
     pub service-19 : service ≡ 0x19
     pub more : length request ≢ 1
-    pub asks : Asks size bytes
+    pub must-have : MustHave size
 
-  -- and has the length that it must have: this is its positive reply
-  abbrev pub Due : List ℕ → Type 0
-  Due bytes = Names (length request) bytes
+  -- and has that length
+  abbrev pub Sized : Type 0
+  Sized = Names (length request)
+
+  -- this is its positive reply
+  pub record Due (bytes : List ℕ) : Type 0 where
+    pub sized : Sized
+    pub asks : Asks bytes
+
+  -- "unknown code or record", in a request for the event of a code: no event has the code, or the record is neither 01
+  -- nor FF
+  pub data AsksForUnknown : Type 0 where
+    unknown-code : ((e : ℕ) → e < events cfg → codeOf cfg e ≢ askedCode) → AsksForUnknown
+    unknown-record : askedRecord ≢ 0x01 → askedRecord ≢ 0xFF → AsksForUnknown
 
   -- "With the top bit set a positive reply"
   abbrev pub Suppressed : Type 0
@@ -105,11 +164,14 @@ module _ (cfg : Configuration) (request : List ℕ) (s : State) where
       other-service : service ≢ 0x19 → service ≢ 0x14 → Negative 0x11
       -- "19: length 1: code 13."
       alone : service ≡ 0x19 → length request ≡ 1 → Negative 0x13
-      -- "not 01, 02, 0A: code 12.", and not 14
+      -- "not 01, 02, 0A: code 12.", and not 14, 04, 06
       no-sub-function : service ≡ 0x19 → length request ≢ 1 → number ≢ 0x01 → number ≢ 0x02 → number ≢ 0x0A
-          → number ≢ 0x14 → Negative 0x12
-      -- "Length must be 3, 3, 2: else 13.", and 2 for 14
-      other-length : (size : ℕ) (bytes : List ℕ) → Names size bytes → length request ≢ size → Negative 0x13
+          → number ≢ 0x14 → number ≢ 0x04 → number ≢ 0x06 → Negative 0x12
+      -- "Length must be 3, 3, 2: else 13.", and 2 for 14, 6 for 04 and 06
+      other-length : (size : ℕ) → Names size → length request ≢ size → Negative 0x13
+      -- document 02, W4: "Check order after length: unknown code or record 31", whether the top bit is set or not
+      unknown-in-04 : Sized → number ≡ 0x04 → AsksForUnknown → Negative 0x31
+      unknown-in-06 : Sized → number ≡ 0x06 → AsksForUnknown → Negative 0x31
       -- "Otherwise one longer than the room: code 14."
       too-long : (bytes : List ℕ) → Due bytes → secondByte < 128 → length (b .room) < length bytes → Negative 0x14
       -- "14: length must be 4 (else 13)"
@@ -137,7 +199,7 @@ module _ (cfg : Configuration) (request : List ℕ) (s : State) where
       negative : (code : ℕ) → Negative code → Replies (refusedWith code)
       -- "With the top bit set a positive reply has length 0 and the room stays untouched."
       suppressed : Suppressed → Replies (sends [] s)
-      -- "01 mask: …", "02 mask: …", "0A: …", "`59 14`, then …"
+      -- "01 mask: …", "02 mask: …", "0A: …", "`59 14`, then …", "`59 04`, code, status, …", "`59 06`, code, status, …"
       positive : (bytes : List ℕ) → Due bytes → secondByte < 128 → length bytes ≤ length (b .room)
           → Replies (sends bytes s)
       -- "else clear and `54`"

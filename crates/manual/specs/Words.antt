@@ -53,6 +53,11 @@ module _ {A : Type 0} where
   those p [] = []
   those p (x ∷ l) = cond (p x) (x ∷ those p l) (those p l)
 
+-- the lowest number below n that passes
+unfoldable pub lowestBelow : ℕ → (ℕ → Bool) → Option ℕ
+lowestBelow zero f = none
+lowestBelow (suc n) f = orElse (lowestBelow n f) (cond (f n) (some n) none)
+
 -- two lists of bytes are equal
 unfoldable pub equal : List ℕ → List ℕ → Bool
 equal [] [] = true
