@@ -30,6 +30,7 @@ pub mod NegativeRepliesExactly
 pub mod SuppressedRepliesExactly
 pub mod RequestsAcceptedExactly
 pub mod RepliesFitTheRoom
+pub mod RoomForEveryReply
 pub mod RepliesAgree
 pub mod MatchingIsASharedBit
 pub mod Service14IsClear

@@ -241,6 +241,10 @@ module _ {A : Type 0} where
 -- ---- lists cut at an element
 
 module _ {A : Type 0} where
+  pub all-middle : (P : A → Type 0) (xs : List A) (v : A) (ys : List A) → All P (xs ++ v ∷ ys) → P v
+  all-middle P [] v ys a = a .0
+  all-middle P (x ∷ xs) v ys a = all-middle P xs v ys (a .1)
+
   pub all-front : (P : A → Type 0) (xs ys : List A) → All P (xs ++ ys) → All P xs
   all-front P [] ys a = tt
   all-front P (x ∷ xs) ys a = (a .0, all-front P xs ys (a .1))

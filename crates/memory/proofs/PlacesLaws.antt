@@ -1,5 +1,5 @@
--- Laws of specs/Places.antt and specs/Fits.antt: an entry's bytes by its place, and the searches by place, turn by
--- turn.
+-- Laws of specs/Places.antt and specs/Fits.antt: where entries lie within their block, an entry's bytes by its place,
+-- and the searches by place, turn by turn.
 use mathlib.Core.Path.{_≡_, refl, sym, ap, subst, _∙_}
 use mathlib.Core.Bool.{Bool, true, false, cond}
 use mathlib.Core.List.{List, [], _∷_}
@@ -16,12 +16,28 @@ use Rattle.history.specs.Words.{allOf}
 use Rattle.history.proofs.WordsLaws.{and-left, and-right, both}
 use Rattle.manual.specs.declared.Place.{Place}
 use Rattle.manual.specs.Words.{firstOf}
+use Rattle.manual.specs.Configuration.{Configuration, entryFrames, configOk}
+use Rattle.manual.specs.State.{State}
+use Rattle.manual.specs.WellFormed.{wellFormed}
 use Rattle.manual.specs.Memory.{Entry, eventOf, entryWidth, entryAt, entryCount, bytesInUse, entriesFrom, entriesOf}
+use Rattle.manual.proofs.ConfigurationLaws.{config-tells}
 use Rattle.manual.proofs.MemoryLaws.{entries-length}
+use Rattle.manual.proofs.WellFormedLaws.{state-tells, used-fits}
 use Rattle.memory.specs.declared.Find.{Find}
 use Rattle.memory.specs.declared.Find.the-variants.{At, Nothing}
 use Rattle.memory.specs.Places.{blank, atPlace, firstPlaceFrom, firstPlace}
-use Rattle.memory.specs.Fits.{PlaceFits, EventsFit}
+use Rattle.memory.specs.Fits.{EntriesFit, PlaceFits, EventsFit}
+
+-- ---- the entries of a well-formed state
+
+pub entries-fit : (cfg : Configuration) (s : State) → configOk cfg ≡ true → wellFormed cfg s ≡ true
+    → EntriesFit (entryFrames cfg) (s .memory)
+entries-fit cfg s ok formed =
+    let t = config-tells cfg ok in
+    let tells = state-tells cfg s formed in
+    let most = t .M-most in
+    let few = tells .few in
+    record { payload-most = t .payload-most; count-most = omega arith; within = used-fits cfg s tells }
 
 -- ---- the bytes of the entry at a place
 

@@ -98,6 +98,17 @@ pub fn frame_start(payload_bytes: usize, place: Place) -> usize
     start_of(payload_bytes, place) + BEFORE_PAYLOAD
 }
 
+// The payload of the entry at a place, as a part of the block.
+pub fn payload_at<'a>(memory: &'a [u8], payload_bytes: usize, place: Place) -> &'a [u8]
+    requires { ⌜ PlaceFits «payload_bytes» (now memory) (place .0) ⌝ }
+    ensures { λ r. ⌜ now r
+        ≡ atPlace (place .0) (entriesOf «payload_bytes» (now (memory .entry))) .payload ⌝ }
+{
+    let start = start_of(payload_bytes, place) + BEFORE_PAYLOAD;
+    let end = start + payload_bytes;
+    &memory[start..end]
+}
+
 // The place of the event's entry.
 pub fn place_of(memory: &[u8], payload_bytes: usize, event: EventNumber) -> Find
     requires { ⌜ EntriesFit «payload_bytes» (now memory) ⌝ }

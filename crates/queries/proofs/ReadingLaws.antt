@@ -33,12 +33,11 @@ use Rattle.manual.proofs.AnswersLaws.{first-of-both, none-applies, goes-through
 use Rattle.manual.proofs.OneOutcomeOnly.{not-done}
 use Rattle.manual.proofs.ConfigurationLaws.{config-tells}
 use Rattle.manual.proofs.CounterOfAState.{in-a-byte}
-use Rattle.manual.proofs.WellFormedLaws.{StateTells, state-tells, used-fits}
 use Rattle.memory.specs.declared.Find.{Find}
 use Rattle.memory.specs.declared.Find.the-variants.{Nothing}
 use Rattle.memory.specs.Places.{frameAt, placeOf}
 use Rattle.memory.specs.Fits.{EntriesFit, PlaceFits}
-use Rattle.memory.proofs.PlacesLaws.{entry-within, entries-are-count, frame-is-at, found, found-nothing}
+use Rattle.memory.proofs.PlacesLaws.{entries-fit, entry-within, entries-are-count, frame-is-at, found, found-nothing}
 use Rattle.queries.specs.Reading.{four, partAt, says, frameStart, entryAnswer, placed, frameRead}
 use Rattle.queries.specs.Reading as Reading
 
@@ -96,15 +95,10 @@ refused-is r s o start size q =
 
 module _ (cfg : Configuration) (s : State) (e : ℕ)
     (z : firstThatApplies (begins cfg s true (four (noSuchEvent cfg e))) ≡ 0) where
-  tells : StateTells cfg s
-  tells = state-tells cfg s (not-false (wellFormed cfg s) (none-applies _ z refl 1))
-
   pub may-seek : EntriesFit (entryFrames cfg) (s .memory)
   may-seek =
-      let t = config-tells cfg (not-false (configOk cfg) (none-applies _ z refl 0)) in
-      let most = t .M-most in
-      let few = tells .few in
-      record { payload-most = t .payload-most; count-most = omega arith; within = used-fits cfg s tells }
+      entries-fit cfg s (not-false (configOk cfg) (none-applies _ z refl 0))
+      (not-false (wellFormed cfg s) (none-applies _ z refl 1))
 
   pub status-is : {byte : ℕ} → byte ≡ statusByte s e
       → leaves (answered 0 None byte) [] alone s ≡ readStatus cfg e alone s
