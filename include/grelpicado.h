@@ -44,10 +44,10 @@ extern "C" {
 #endif
 
 /*
- * Of this header: 1001 is 1.1. The thousands rise when a program that includes it must be changed
+ * Of this header: 2000 is 2.0. The thousands rise when a program that includes it must be changed
  * or compiled again, the rest when something is added.
  */
-#define GRELPICADO_HEADER_VERSION 1001
+#define GRELPICADO_HEADER_VERSION 2000
 
 /* A cast and a check in the words of either language, for this file. */
 #ifdef __cplusplus
@@ -76,8 +76,14 @@ extern "C" {
 /* Bytes of the largest saved image. */
 #define GRELPICADO_IMAGE_BYTES(n, M, F) \
     (GRELPICADO_SIZE_(20) + GRELPICADO_RECORDS_BYTES(n) + GRELPICADO_MEMORY_BYTES(M, F) + GRELPICADO_SIZE_(1))
-/* Bytes of the largest diagnostic reply. */
-#define GRELPICADO_REPLY_BYTES(n) (GRELPICADO_SIZE_(3) + GRELPICADO_SIZE_(4) * GRELPICADO_SIZE_(n))
+/*
+ * Bytes of the largest diagnostic reply: of the list of all events, 3 + 4n, of one event with its
+ * frame, 7 + F, or with its details, 11. A constant expression where n and F are.
+ */
+#define GRELPICADO_REPLY_BYTES(n, F) \
+    GRELPICADO_LARGER_(GRELPICADO_SIZE_(3) + GRELPICADO_SIZE_(4) * GRELPICADO_SIZE_(n), \
+        GRELPICADO_LARGER_(GRELPICADO_SIZE_(7) + GRELPICADO_SIZE_(F), GRELPICADO_SIZE_(11)))
+#define GRELPICADO_LARGER_(a, b) ((a) < (b) ? (b) : (a))
 
 /* An array by its name, not by a pointer to it, as a call takes it: the pointer and how many elements. */
 #define GRELPICADO_LEND(array) (array), sizeof (array) / sizeof (array)[0]
@@ -412,7 +418,7 @@ grelpicado_answer grelpicado_restore(
 /*
  * Answers a diagnostic request, services 19h and 14h. A negative reply (7Fh, service, code) is
  * written with number 0. A suppressed positive reply has length 0. A room of
- * GRELPICADO_REPLY_BYTES(n) bytes holds every reply.
+ * GRELPICADO_REPLY_BYTES(n, F) bytes holds every reply.
  * Refusals, in order: 2, 3, 7 (the room is below 3 bytes), 1 (the request is empty).
  */
 grelpicado_request_answer grelpicado_request(

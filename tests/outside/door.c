@@ -548,7 +548,7 @@ static void print_sizes(size_t n, size_t places, size_t frame)
     printf("GRELPICADO_MEMORY_BYTES(%zu,%zu) %zu\n", places, frame, GRELPICADO_MEMORY_BYTES(places, frame));
     printf("GRELPICADO_IMAGE_BYTES(%zu,%zu,%zu) %zu\n", n, places, frame,
         GRELPICADO_IMAGE_BYTES(n, places, frame));
-    printf("GRELPICADO_REPLY_BYTES(%zu) %zu\n", n, GRELPICADO_REPLY_BYTES(n));
+    printf("GRELPICADO_REPLY_BYTES(%zu,%zu) %zu\n", n, frame, GRELPICADO_REPLY_BYTES(n, frame));
 }
 
 /* What the macros that lend make of arrays of known lengths, and what GRELPICADO_CONFIG lays out. */

@@ -21,7 +21,7 @@ std::uint8_t records[GRELPICADO_RECORDS_BYTES(event_count)];
 std::int32_t debounce[GRELPICADO_DEBOUNCE_NUMBERS(event_count)];
 std::uint8_t memory[GRELPICADO_MEMORY_BYTES(place_count, frame_length)];
 std::uint8_t image[GRELPICADO_IMAGE_BYTES(event_count, place_count, frame_length)];
-std::uint8_t reply[GRELPICADO_REPLY_BYTES(event_count)];
+std::uint8_t reply[GRELPICADO_REPLY_BYTES(event_count, frame_length)];
 
 bool a_run(grelpicado *manager)
 {
@@ -40,10 +40,12 @@ bool a_run(grelpicado *manager)
 bool back_and_cleared(grelpicado *manager)
 {
     const std::uint8_t request[] = {0x19, 0x02, GRELPICADO_CONFIRMED};
+    const std::uint8_t details[] = {0x19, 0x06, 0x00, 0x12, 0x34, 0xFF};
     const grelpicado_length_answer saved = grelpicado_ctx_save(manager, GRELPICADO_LEND(image));
     return grelpicado_ctx_fresh(manager) == GRELPICADO_DONE
         && grelpicado_ctx_restore(manager, image, saved.length) == GRELPICADO_DONE
         && grelpicado_ctx_request(manager, GRELPICADO_LEND(request), GRELPICADO_LEND(reply)).length == 7
+        && grelpicado_ctx_request(manager, GRELPICADO_LEND(details), GRELPICADO_LEND(reply)).length == 11
         && grelpicado_ctx_clear(manager, GRELPICADO_ALL_CODES) == GRELPICADO_DONE
         && grelpicado_ctx_read_status(manager, 0).status == GRELPICADO_FRESH_STATUS;
 }

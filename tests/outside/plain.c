@@ -805,7 +805,8 @@ grelpicado_answer plain_restore(LENT(), const uint8_t *image, size_t image_lengt
 
 enum {
     READ_INFORMATION = 0x19, CLEAR_INFORMATION = 0x14, POSITIVE = 0x40, NEGATIVE = 0x7F,
-    COUNT_BY_MASK = 0x01, LIST_BY_MASK = 0x02, LIST_ALL = 0x0A, LIST_NEAR = 0x14, SUPPRESS = 0x80
+    COUNT_BY_MASK = 0x01, LIST_BY_MASK = 0x02, LIST_ALL = 0x0A, LIST_NEAR = 0x14, SHOW_FRAME = 0x04,
+    SHOW_DETAILS = 0x06, SUPPRESS = 0x80
 };
 
 /* The codes of negative replies; 0 where the request is good. */
@@ -832,6 +833,9 @@ static uint8_t judge_question(struct question *question, const uint8_t *request,
         return WRONG_LENGTH;
     }
     question->sub_function = request[1] & 0x7F;
+    if (question->sub_function == SHOW_FRAME || question->sub_function == SHOW_DETAILS) {
+        return length == 6 ? GOOD : WRONG_LENGTH;
+    }
     question->all = question->sub_function == LIST_ALL || question->sub_function == LIST_NEAR;
     if (!question->all && question->sub_function != COUNT_BY_MASK && question->sub_function != LIST_BY_MASK) {
         return NO_SUB_FUNCTION;
@@ -903,6 +907,43 @@ static uint8_t reply_near(
     return GOOD;
 }
 
+/* Sub-functions 04 and 06: the event of one trouble code, and its frame or its details. */
+static uint8_t show(
+    const struct table *table, const struct state *state, const uint8_t *request, uint8_t *room, size_t room_length,
+    size_t *length)
+{
+    bool frame = (request[1] & 0x7F) == SHOW_FRAME;
+    size_t event = event_of(table, (uint32_t)request[2] << 16 | (uint32_t)request[3] << 8 | request[4]);
+    if (event == table->events || (request[5] != 0x01 && request[5] != 0xFF)) {
+        return OUT_OF_RANGE;
+    }
+    if (request[1] & SUPPRESS) {
+        *length = 0;
+        return GOOD;
+    }
+    const uint8_t *record = state->records + RECORD * event;
+    int place = place_of(table, state->memory, event);
+    *length = place == NO_PLACE ? 6 : frame ? 7 + table->frame : 11;
+    if (*length > room_length) {
+        return REPLY_TOO_LONG;
+    }
+    room[0] = READ_INFORMATION + POSITIVE;
+    memcpy(room + 1, request + 1, 4);
+    room[5] = record[STATUS];
+    if (place == NO_PLACE) {
+        return GOOD;
+    }
+    const uint8_t *entry = state->memory + 1 + (size_t)place * table->entry;
+    room[6] = 0x01;
+    if (frame) {
+        memcpy(room + 7, entry + HEAD, table->frame);
+    } else {
+        room[7] = entry[OCCURRENCE];
+        memcpy(room + 8, record + K, 3);
+    }
+    return GOOD;
+}
+
 /* Service 19. Answers the code of a negative reply, or 0 and the reply's length. */
 static uint8_t read_information(
     const struct table *table, const struct state *state, const uint8_t *request, size_t request_length,
@@ -913,6 +954,9 @@ static uint8_t read_information(
     uint8_t code = judge_question(&question, request, request_length);
     if (code != GOOD) {
         return code;
+    }
+    if (question.sub_function == SHOW_FRAME || question.sub_function == SHOW_DETAILS) {
+        return show(table, state, request, room, room_length, length);
     }
     if (request[1] & SUPPRESS) {
         *length = 0;

@@ -117,15 +117,18 @@ module _ (cfg : Configuration) (room : List ℕ) (s : State) where
     unfolding service19
     of-number n e p = rw (ne-eqb _ _ n, ← e) p
 
-    pub no-such-number : {k : ℕ} → k ≢ 0x01 → k ≢ 0x02 → k ≢ 0x0A → k ≢ 0x14 → Sends o (negative 0x12)
+    pub no-such-number : {k : ℕ} → k ≢ 0x01 → k ≢ 0x02 → k ≢ 0x0A → k ≢ 0x14 → k ≢ 0x04 → k ≢ 0x06
+        → Sends o (negative 0x12)
         → Sends o (subFunctionReply cfg (firstOf (λ f. eqb (f .number) k) (subFunctions cfg)) request (length room) s)
     unfolding firstOf subFunctionReply
-    no-such-number {k} a b c d p =
+    no-such-number {k} a b c d f g p =
         rw (
           ne-eqb 0x01 k (λ e. a (sym e)),
           ne-eqb 0x02 k (λ e. b (sym e)),
           ne-eqb 0x0A k (λ e. c (sym e)),
           ne-eqb 0x14 k (λ e. d (sym e)),
+          ne-eqb 0x04 k (λ e. f (sym e)),
+          ne-eqb 0x06 k (λ e. g (sym e)),
         )
         p
 

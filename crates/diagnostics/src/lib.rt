@@ -1,9 +1,12 @@
-// Document 01, "Diagnostic requests", with the sub-function of document 02, W1.
+// Document 01, "Diagnostic requests", with the sub-functions of document 02, W1 and W4.
+use config::CodeSearch;
 use judgement::Check;
 use manual::Board;
 use manual::EventNumber;
 use manual::LengthAnswer;
+use manual::Place;
 use manual::Refusal;
+use memory::Find;
 ghost use mathlib.Core.Path.{_≡_};
 ghost use mathlib.Core.Bool.{true, cond};
 ghost use mathlib.Core.List.{List, [], _∷_};
@@ -12,19 +15,25 @@ ghost use lib.IntN.{ℤ};
 ghost use lib.ListN.{length, getD};
 ghost use lib.Dec.{eqb, ltb};
 ghost use Rattle.manual.specs.Words.{countBelow, threeAt};
-ghost use Rattle.manual.specs.Configuration.{Configuration, mostEvents, events, configOk};
+ghost use Rattle.manual.specs.Configuration.{Configuration, mostEvents, events, entryFrames, configOk};
 ghost use Rattle.manual.specs.State.{State, lent};
 ghost use Rattle.manual.specs.WellFormed.{wellFormed};
 ghost use Rattle.manual.specs.Answers.{lentRoom, _if_, firstThatApplies, ofLength, leaves};
 ghost use Rattle.manual.specs.Diagnostics.{negative, replyBytes, served, subFunction, line, maskOf, suppresses};
 ghost use Rattle.manual.specs.Diagnostics.{matches, isNear, counterByte, numberByMask, listByMask, listAll, listNear};
+ghost use Rattle.manual.specs.Diagnostics.{isRecord, eventAsked, detailsTold, behindStatus, shownBytes};
 ghost use Rattle.manual.specs.Diagnostics.{service19, service14, servedBy, sent};
 ghost use Rattle.manual.specs.Diagnostics.{replied, requestRules, requestReply};
+ghost use Rattle.manual.specs.Memory.{entriesOf, entryFor};
+ghost use Rattle.config.specs.Search.{searchIs};
 ghost use Rattle.judgement.specs.Checks.{checkNumber};
+ghost use Rattle.memory.specs.Places.{atPlace};
 ghost use Rattle.writing.specs.Writing.{written, append};
 ghost use Rattle.diagnostics.specs.Replies.{InStatesWith, holding, sentIs, asks, shows, lineIfAsked, linesAsked};
 ghost use Rattle.diagnostics.specs.Replies.{EventFits, BytesFit, Accepted, MayList, subFunctionOutcome, listing};
 ghost use Rattle.diagnostics.specs.Replies.{TurnBy};
+ghost use Rattle.diagnostics.specs.Showing.{remembering, numberOf, tells, toldLength, shownLength, showsOne};
+ghost use Rattle.diagnostics.specs.Showing.{MayTell, MayShow, MayRead, shownReply};
 ghost use Rattle.diagnostics.specs.Replies.{clearRequestIs, serviceIs};
 
 // Three things are called 14: the service that clears,
@@ -42,6 +51,12 @@ enum Asked {
     All,
     Matching(u8),
     Near,
+}
+
+// What a reply shows of an event's entry: its frame, or its details.
+enum Told {
+    Frame,
+    Details,
 }
 
 // What a sub-function of service 19 does: write its positive reply, write nothing, or reply with this negative code.
@@ -104,14 +119,33 @@ fn mask_of(request: &[u8]) -> u8
     byte_of(request, 2)
 }
 
-// "the three bytes are a trouble code"
-fn code_in(request: &[u8]) -> u32
-    ensures { λ r. ⌜ r ≡ threeAt 1 (now (request .entry)) ⌝ }
+// "the three bytes are a trouble code": those from `at` on.
+fn code_in(request: &[u8], at: usize) -> u32
+    requires { ⌜ at ≤ 2 ⌝ }
+    ensures { λ r. ⌜ r ≡ threeAt at (now (request .entry)) ⌝ }
 {
-    let high = byte_of(request, 1) as u32;
-    let middle = byte_of(request, 2) as u32;
-    let low = byte_of(request, 3) as u32;
+    let high = byte_of(request, at) as u32;
+    let middle = byte_of(request, at + 1) as u32;
+    let low = byte_of(request, at + 2) as u32;
     high * 65536 + middle * 256 + low
+}
+
+// "The only record numbers are 01 and FF."
+fn is_record(number: u8) -> bool
+    ensures { λ r. ⌜ ((cfg : Configuration) → r ≡ isRecord cfg number) ⌝ }
+{
+    (number == 0x01) | (number == 0xFF)
+}
+
+// The event that `19 04` or `19 06` asks for; nothing where its code or its record is unknown.
+fn event_asked(cfg: &[i32], request: &[u8]) -> CodeSearch
+    requires { ⌜ configOk (now cfg) ≡ true ⌝ }
+    ensures { λ r. ⌜ ((s : State) → searchIs r ≡ eventAsked (now (cfg .entry)) (now (request .entry)) s) ⌝ }
+{
+    if is_record(byte_of(request, 5)) {
+        return config::find_code(cfg, code_in(request, 2));
+    }
+    CodeSearch::Nothing
 }
 
 // ---- the events that a reply lists or counts
@@ -458,8 +492,210 @@ fn list_near(
     )
 }
 
+// ---- service 19: the event of one trouble code, document 02, W4
+
+// The number of the sub-function.
+fn number_of(told: Told) -> u8
+    ensures { λ r. ⌜ r ≡ numberOf told ⌝ }
+{
+    match told {
+        Told::Frame => 0x04,
+        Told::Details => 0x06,
+    }
+}
+
+// How many bytes a reply shows of an entry: "the F frame bytes", or "occurrence count, K, h, g".
+fn told_length(cfg: &[i32], told: Told) -> usize
+    ensures { λ r. ⌜ r ≡ toldLength (now (cfg .entry)) told ⌝ }
+{
+    match told {
+        Told::Frame => memory::entry_frames(cfg),
+        Told::Details => 4,
+    }
+}
+
+// The length of a reply that shows an event with the entry at this place, or without one.
+fn shown_length(cfg: &[i32], own: Find, told: Told) -> usize
+    requires { ⌜ configOk (now cfg) ≡ true ⌝ }
+    ensures { λ r. ⌜ r ≡ shownLength (now (cfg .entry)) told own ⌝ }
+{
+    match own {
+        Find::At(_) => 7 + told_length(cfg, told),
+        Find::Nothing => 6,
+    }
+}
+
+// "occurrence count, K, h, g"
+fn write_details(
+    cfg: &[i32],
+    records: &[u8],
+    memory: &[u8],
+    event: EventNumber,
+    place: Place,
+    room: &mut [u8],
+    at: usize,
+) -> usize
+    requires { ⌜ MayTell (now cfg) (now records) (now memory) (event .0) (place .0) at 4 (now room) ⌝ }
+    ensures { λ r. ⌜ written r (now (room .exit))
+        ≡ append
+        (detailsTold (now (cfg .entry)) (remembering (now (records .entry)) (now (memory .entry))) (event .0)
+        (atPlace (place .0) (entriesOf (entryFrames (now (cfg .entry))) (now (memory .entry)))))
+        (written at (now (room .entry))) ⌝ }
+{
+    let count = memory::count_at(memory, memory::entry_frames(cfg), place);
+    let r = status::read_record(records, event);
+    writing::write(room, at, &[count, r.k, r.h, r.g])
+}
+
+// What a reply shows of the entry at a place.
+fn write_told(
+    cfg: &[i32],
+    records: &[u8],
+    memory: &[u8],
+    event: EventNumber,
+    place: Place,
+    told: Told,
+    room: &mut [u8],
+    at: usize,
+) -> usize
+    requires { ⌜ MayTell (now cfg) (now records) (now memory) (event .0) (place .0) at
+        (toldLength (now cfg) told) (now room) ⌝ }
+    ensures { λ r. ⌜ written r (now (room .exit))
+        ≡ append
+        (tells (now (cfg .entry)) told (remembering (now (records .entry)) (now (memory .entry))) (event .0)
+        (atPlace (place .0) (entriesOf (entryFrames (now (cfg .entry))) (now (memory .entry)))))
+        (written at (now (room .entry))) ⌝ }
+{
+    match told {
+        Told::Frame => {
+            let payload = memory::payload_at(memory, memory::entry_frames(cfg), place);
+            writing::write(room, at, payload)
+        }
+        Told::Details => write_details(cfg, records, memory, event, place, room, at),
+    }
+}
+
+// "then if the event has an entry `01` and" what is shown of it. "Without an entry the reply ends after the status."
+fn write_behind_status(
+    cfg: &[i32],
+    records: &[u8],
+    memory: &[u8],
+    event: EventNumber,
+    own: Find,
+    told: Told,
+    room: &mut [u8],
+    at: usize,
+) -> usize
+    requires { ⌜ MayShow (now cfg) (now records) (now memory) (event .0) told own (now room) × (at ≡ 6) ⌝ }
+    ensures { λ r. ⌜ written r (now (room .exit))
+        ≡ append
+        (behindStatus (now (cfg .entry))
+        (tells (now (cfg .entry)) told (remembering (now (records .entry)) (now (memory .entry))) (event .0))
+        (entryFor (event .0) (entriesOf (entryFrames (now (cfg .entry))) (now (memory .entry)))))
+        (written at (now (room .entry))) ⌝ }
+{
+    match own {
+        Find::At(place) => {
+            let next = writing::write(room, at, &[0x01]);
+            write_told(cfg, records, memory, event, place, told, room, next)
+        }
+        Find::Nothing => at,
+    }
+}
+
+// "`59 04`, code, status, then …", "`59 06`, code, status, then …"
+fn write_shown(
+    cfg: &[i32],
+    records: &[u8],
+    memory: &[u8],
+    event: EventNumber,
+    own: Find,
+    told: Told,
+    room: &mut [u8],
+) -> usize
+    requires { ⌜ MayShow (now cfg) (now records) (now memory) (event .0) told own (now room) ⌝ }
+    ensures { λ r. ⌜ written r (now (room .exit))
+        ≡ append
+        (shownBytes (now (cfg .entry)) (numberOf told) (tells (now (cfg .entry)) told) (event .0)
+        (remembering (now (records .entry)) (now (memory .entry))))
+        (written 0 (now (room .entry))) ⌝ }
+{
+    let at = writing::write(room, 0, &[0x59, number_of(told)]);
+    let status = status::status_of(records, event).0;
+    let next = write_line(cfg, event, status, room, at);
+    write_behind_status(cfg, records, memory, event, own, told, room, next)
+}
+
+// The reply that shows an event, as the request and the room let it go. Its length and its code were judged before.
+fn show_event(
+    cfg: &[i32],
+    records: &[u8],
+    debounce: &[i32],
+    memory: &[u8],
+    request: &[u8],
+    event: EventNumber,
+    told: Told,
+    room: &mut [u8],
+) -> usize
+    requires { ⌜ MayRead (now cfg) (now records) (now memory) (now room) × (event .0 < events (now cfg)) ⌝ }
+    ensures { λ r.
+        ⌜
+        InStatesWith (now (records .entry)) (now (debounce .entry)) (now (memory .entry))
+        (λ s. sentIs r (now (room .exit)) s
+        ≡ shownReply (now (cfg .entry)) told (now (request .entry)) (event .0) (now (room .entry)) s)
+        ⌝ }
+{
+    let own = memory::place_of(memory, memory::entry_frames(cfg), event);
+    let too_long = room.len() < shown_length(cfg, own, told);
+    match turn_of(false, suppresses(request), too_long) {
+        Turn::Negative(code) => negative(0x19, code, room),
+        Turn::Suppressed => 0,
+        Turn::Write => write_shown(cfg, records, memory, event, own, told, room),
+    }
+}
+
+// "each of length 6"
+const SHOW_LENGTH: usize = 6;
+
+// `19 04` and `19 06`. "Check order after length: unknown code or record 31, then 14."
+fn show(
+    cfg: &[i32],
+    records: &[u8],
+    debounce: &[i32],
+    memory: &[u8],
+    request: &[u8],
+    told: Told,
+    room: &mut [u8],
+) -> usize
+    requires { ⌜ MayRead (now cfg) (now records) (now memory) (now room) ⌝ }
+    ensures { λ r.
+        ⌜
+        InStatesWith (now (records .entry)) (now (debounce .entry)) (now (memory .entry))
+        (λ s. sentIs r (now (room .exit)) s
+        ≡ subFunctionOutcome (now (cfg .entry)) (showsOne (now (cfg .entry)) told) (now (request .entry))
+        (now (room .entry)) s)
+        ⌝ }
+{
+    if request.len() != SHOW_LENGTH {
+        return negative(0x19, 0x13, room);
+    }
+    match event_asked(cfg, request) {
+        CodeSearch::At(event) => show_event(
+            cfg,
+            records,
+            debounce,
+            memory,
+            request,
+            event,
+            told,
+            room,
+        ),
+        CodeSearch::Nothing => negative(0x19, 0x31, room),
+    }
+}
+
 // Writes the reply of service 19, and answers its length. "19: length 1: code 13. … not 01, 02, 0A: code 12.", and not
-// 14.
+// 14, 04, 06.
 fn reply_19(
     cfg: &[i32],
     records: &[u8],
@@ -468,7 +704,7 @@ fn reply_19(
     request: &[u8],
     room: &mut [u8],
 ) -> usize
-    requires { ⌜ Accepted (now cfg) (now room) ⌝ }
+    requires { ⌜ MayRead (now cfg) (now records) (now memory) (now room) ⌝ }
     ensures { λ r.
         ⌜
         InStatesWith (now (records .entry)) (now (debounce .entry)) (now (memory .entry))
@@ -486,6 +722,8 @@ fn reply_19(
         0x02 => list_by_mask(cfg, records, debounce, memory, request, room),
         0x0A => list_all(cfg, records, debounce, memory, request, room),
         SUB_FUNCTION_14 => list_near(cfg, records, debounce, memory, request, room),
+        0x04 => show(cfg, records, debounce, memory, request, Told::Frame, room),
+        0x06 => show(cfg, records, debounce, memory, request, Told::Details, room),
         _ => negative(0x19, 0x12, room),
     }
 }
@@ -501,7 +739,7 @@ fn clear_request(cfg: &[i32], request: &[u8]) -> ClearRequest
     if request.len() != 4 {
         return ClearRequest::Negative(0x13);
     }
-    let code = code_in(request);
+    let code = code_in(request, 1);
     if clearing::is_unknown(cfg, code) {
         return ClearRequest::Negative(0x31);
     }
@@ -539,7 +777,7 @@ fn serve(
     request: &[u8],
     room: &mut [u8],
 ) -> Service
-    requires { ⌜ Accepted (now cfg) (now room) ⌝ }
+    requires { ⌜ MayRead (now cfg) (now records) (now memory) (now room) ⌝ }
     ensures { λ r.
         ⌜
         InStatesWith (now (records .entry)) (now (debounce .entry)) (now (memory .entry))

@@ -7,7 +7,7 @@ use crate::reference::{
     TEST_FAILED, WARNING,
 };
 
-const NEEDED: [&str; 32] = [
+const NEEDED: [&str; 38] = [
     "an event confirms",
     "an event asks for the indicator",
     "an event fails by a tick",
@@ -38,6 +38,12 @@ const NEEDED: [&str; 32] = [
     "a suppressed reply",
     "a reply with events",
     "a reply with counters",
+    "a reply with a frame",
+    "a reply with details",
+    "a reply of an event without an entry",
+    "an event with an entry does not fit the room",
+    "an event is shown, suppressed",
+    "an unknown code or record is not suppressed",
     "a restore with entries",
     "a restore with overflow",
 ];
@@ -182,6 +188,31 @@ impl Happenings {
         self.met("a reply with events", listed);
         let near = matches!(request, [0x19, 0x14]) && room.len() > 5 && room[..2] == [0x59, 0x14];
         self.met("a reply with counters", near && room[5] != 0xA5);
+        if let [0x19, second, _, _, _, _] = request {
+            self.shows_one(*second, room);
+        }
+    }
+
+    /// A request of the length that 04 and 06 ask for.
+    fn shows_one(&mut self, second: u8, room: &[u8]) {
+        if !matches!(second & 0x7F, 0x04 | 0x06) {
+            return;
+        }
+        let shown = room.len() >= 6 && room[..2] == [0x59, second];
+        let with_entry = shown && room.get(6) == Some(&0x01);
+        self.met("a reply with a frame", with_entry && second == 0x04);
+        self.met("a reply with details", with_entry && second == 0x06);
+        self.met("a reply of an event without an entry", shown && !with_entry);
+        // Six bytes are enough without an entry.
+        let too_long = room.len() >= 6 && room[..3] == [0x7F, 0x19, 0x14];
+        self.met("an event with an entry does not fit the room", too_long);
+        let suppress = second & 0x80 != 0;
+        self.met("an event is shown, suppressed", suppress && room[0] == 0xA5);
+        let unknown = room[..3] == [0x7F, 0x19, 0x31];
+        self.met(
+            "an unknown code or record is not suppressed",
+            suppress && unknown,
+        );
     }
 }
 

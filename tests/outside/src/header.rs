@@ -142,7 +142,7 @@ fn numbers() -> Vec<String> {
         .map(|(name, value)| format!("GRELPICADO_{name} {value}"))
         .collect();
     lines.push(format!("GRELPICADO_CYCLES {}", cycles()));
-    for (n, m, f) in [(1, 1, 0), (7, 3, 5), (512, 64, 32)] {
+    for (n, m, f) in [(1, 1, 0), (2, 1, 5), (7, 3, 5), (7, 3, 32), (512, 64, 32)] {
         lines.extend(sizes(n, m, f));
     }
     lines.push("GRELPICADO_LEND(5) 5".to_string());
@@ -155,18 +155,19 @@ fn numbers() -> Vec<String> {
 fn sizes(n: usize, m: usize, f: usize) -> [String; 6] {
     let memory = 1 + m * (3 + f);
     let image = 20 + 4 * n + memory + 1;
+    let reply = (3 + 4 * n).max(7 + f).max(11);
     [
         format!("GRELPICADO_CONFIG_NUMBERS({n}) {}", 3 + r::ROW * n),
         format!("GRELPICADO_RECORDS_BYTES({n}) {}", 4 * n),
         format!("GRELPICADO_DEBOUNCE_NUMBERS({n}) {n}"),
         format!("GRELPICADO_MEMORY_BYTES({m},{f}) {memory}"),
         format!("GRELPICADO_IMAGE_BYTES({n},{m},{f}) {image}"),
-        format!("GRELPICADO_REPLY_BYTES({n}) {}", 3 + 4 * n),
+        format!("GRELPICADO_REPLY_BYTES({n},{f}) {reply}"),
     ]
 }
 
 const NAMED: [(&str, u32); 45] = [
-    ("HEADER_VERSION", 1001),
+    ("HEADER_VERSION", 2000),
     ("MAX_EVENTS", 512),
     ("MAX_PLACES", 64),
     ("MAX_FRAME", 32),

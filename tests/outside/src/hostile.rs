@@ -244,7 +244,21 @@ fn reply_room(random: &mut Random, config: &Configuration) -> usize {
     let some = 3 + 4 * random.below(n + 1);
     let all = 3 + 4 * n;
     let small = random.below(9);
-    random.pick(&[all, all, all + 5, all - 1, some, some + 1, some - 1, small])
+    // What shows one event takes 6 bytes, or 7 with its frame, or 11.
+    let one = random.pick(&[6, 7 + config.frame, 11]);
+    let near = one - random.below(2);
+    random.pick(&[
+        all,
+        all,
+        all + 5,
+        all - 1,
+        some,
+        some + 1,
+        some - 1,
+        small,
+        near,
+        near,
+    ])
 }
 
 /// The image of some state of stopped cycles, whole or damaged, or no image at all.
@@ -279,12 +293,15 @@ fn request(random: &mut Random, config: &Configuration) -> Vec<u8> {
     let mask = random.byte();
     let top = random.pick(&[0, 0, 0x80]);
     let [_, high, middle, low] = trouble_code(random, config).to_be_bytes();
-    let mut request = match random.below(10) {
+    let number = random.pick(&[0x01, 0x01, 0x01, 0xFF, 0xFF, 0x00, 0x02, 0xFE, mask]);
+    let mut request = match random.below(14) {
         0 | 1 => vec![0x19, top | 0x01, mask],
         2 | 3 => vec![0x19, top | 0x02, mask],
         4 => vec![0x19, top | 0x0A],
         5 | 6 => vec![0x14, high, middle, low],
         7 | 8 => vec![0x19, top | 0x14],
+        9 | 10 => vec![0x19, top | 0x04, high, middle, low, number],
+        11 | 12 => vec![0x19, top | 0x06, high, middle, low, number],
         _ => {
             let length = random.below(8);
             random.bytes(length)

@@ -848,14 +848,20 @@ fn read_information(
         return Err(0x13);
     };
     let sub_function = second & 0x7F;
+    let suppressed = second & 0x80 != 0;
     let mask = match (sub_function, rest) {
         (0x01 | 0x02, [mask]) => Some(*mask),
         (0x0A | SUB_FUNCTION_14, []) => None,
-        (0x01 | 0x02 | 0x0A | SUB_FUNCTION_14, _) => return Err(0x13),
+        (0x04 | 0x06, &[high, middle, low, number]) => {
+            let code = u32::from_be_bytes([0, high, middle, low]);
+            let reply = about_one(config, state, sub_function, code, number)?;
+            return send(&reply, suppressed, room);
+        }
+        (0x01 | 0x02 | 0x0A | SUB_FUNCTION_14 | 0x04 | 0x06, _) => return Err(0x13),
         _ => return Err(0x12),
     };
     // "With the top bit set a positive reply has length 0 and the room stays untouched."
-    if second & 0x80 != 0 {
+    if suppressed {
         return Ok(0);
     }
     if sub_function == SUB_FUNCTION_14 {
@@ -904,8 +910,45 @@ fn near(config: &Configuration, state: &State, room: &mut [u8]) -> Result<usize,
             reply.extend([high, middle, low, counter as u8]);
         }
     }
+    send(&reply, false, room)
+}
+
+/// Document 02: what 04 and 06 tell of the event of a code, its frame or its details.
+fn about_one(
+    config: &Configuration,
+    state: &State,
+    sub_function: u8,
+    code: u32,
+    number: u8,
+) -> Result<Vec<u8>, u8> {
+    // "The only record numbers are 01 and FF.", "FFFFFFh is an unknown code here."
+    let event = config.event_of(code).ok_or(0x31)?;
+    if !matches!(number, 0x01 | 0xFF) {
+        return Err(0x31);
+    }
+    let [_, high, middle, low] = code.to_be_bytes();
+    let &[status, k, h, g] = &state.records[4 * event..][..4] else {
+        unreachable!("a record has four bytes");
+    };
+    let mut reply = vec![0x59, sub_function, high, middle, low, status];
+    // "Without an entry the reply ends after the status."
+    if let Some(entry) = entries(config, &state.memory).find(|entry| event_in(entry) == event) {
+        reply.push(0x01);
+        match sub_function {
+            0x04 => reply.extend(&entry[3..]),
+            _ => reply.extend([entry[2], k, h, g]),
+        }
+    }
+    Ok(reply)
+}
+
+/// Writes a positive reply, unless it is suppressed or longer than the room.
+fn send(reply: &[u8], suppressed: bool, room: &mut [u8]) -> Result<usize, u8> {
+    if suppressed {
+        return Ok(0);
+    }
     let part = room.get_mut(..reply.len()).ok_or(CODE_14)?;
-    part.copy_from_slice(&reply);
+    part.copy_from_slice(reply);
     Ok(reply.len())
 }
 

@@ -258,11 +258,14 @@ impl Story<'_> {
         };
         let suppress = self.random.pick(&[0, 0, 0, 0, 0x80]);
         let [_, high, middle, low] = self.trouble_code().to_be_bytes();
-        let mut request = match self.random.below(10) {
+        let number = self.random.pick(&[0x01, 0x01, 0xFF, 0xFF, 0x00, mask]);
+        let mut request = match self.random.below(14) {
             0 | 1 => vec![0x19, suppress | 0x01, mask],
             2..5 => vec![0x19, suppress | 0x02, mask],
             5 | 6 => vec![0x19, suppress | 0x0A],
             7 | 8 => vec![0x19, suppress | 0x14],
+            9 | 10 => vec![0x19, suppress | 0x04, high, middle, low, number],
+            11 | 12 => vec![0x19, suppress | 0x06, high, middle, low, number],
             _ => vec![0x14, high, middle, low],
         };
         match self.random.below(30) {
@@ -275,9 +278,22 @@ impl Story<'_> {
         }
         let whole = 3 + 4 * self.config.events;
         let some = 3 + 4 * self.random.below(self.config.events + 1);
-        let room = self
-            .random
-            .pick(&[whole, whole, whole + 9, some, some + 1, 6, 5, 3, 2]);
+        let frame = 7 + self.config.frame;
+        let room = self.random.pick(&[
+            whole,
+            whole,
+            whole + 9,
+            some,
+            some + 1,
+            frame,
+            frame - 1,
+            11,
+            10,
+            6,
+            5,
+            3,
+            2,
+        ]);
         self.call(Call::Request { request, room })?;
         Some(())
     }

@@ -1,7 +1,20 @@
+use Rattle.manual.specs.State.{lent}
+use Rattle.diagnostics.proofs.ShowLaws.{may-read}
 use Rattle.diagnostics.proofs.RequestLaws.{replied-is, cleared-is}
 use borrow.Author.Needs.{needs}
 use Rattle.diagnostics.proofs.accept.Statement.{statement}
 use Rattle.diagnostics.proofs.accept.Tie as tie
+
+serve-requires : tie.Need-serve-requires
+serve-requires c κs =
+    let s = c .before .before .before .before .before .before .before .before in
+    let a = s .args in
+    record {
+      accepted = s .pre .0;
+      within =
+          may-read _ (lent (a .records .now) (a .debounce .now) (a .memory .now) (a .board)) (s .pre .0 .config)
+          (s .pre .1);
+    }
 
 returns : tie.Need-returns
 returns c =
@@ -21,7 +34,8 @@ pub accept-spec : {M : Type 1} → statement M
 accept-spec =
     tie.close
     (tie.spec
-    (λ c κs. search needs) (λ c. search needs) (λ c. search needs) (λ c κs. search needs) (λ c. search needs)
+    serve-requires
+    (λ c. search needs) (λ c. search needs) (λ c κs. search needs) (λ c. search needs)
     (λ c. search needs) (λ c. search needs) (λ c. search needs)
     returns
     (λ c. search needs) (λ c. search needs) (λ c. search needs) (λ c. search needs)

@@ -42,12 +42,29 @@ returns-5 c b =
     (sym (m .match .keys4) ∙ m .before .sub-function-of .ensures) (c .before .before .list-near .ensures b)
 
 returns-6 : tie.Need-returns-6
+unfolding firstOf
 returns-6 c b =
     let m = c .before .before .before .before in
     let a = m .before .before .before .before .before .before .before .args in
+    of-number _ (a .room .now) _ _ (m .before .before .if1 .left)
+    (sym (m .match .keys5) ∙ m .before .sub-function-of .ensures) (c .before .before .show .ensures b)
+
+returns-7 : tie.Need-returns-7
+unfolding firstOf
+returns-7 c b =
+    let m = c .before .before .before .before in
+    let a = m .before .before .before .before .before .before .before .args in
+    of-number _ (a .room .now) _ _ (m .before .before .if1 .left)
+    (sym (m .match .keys6) ∙ m .before .sub-function-of .ensures) (c .before .before .show2 .ensures b)
+
+returns-8 : tie.Need-returns-8
+returns-8 c b =
+    let m = c .before .before .before .before in
+    let a = m .before .before .before .before .before .before .before .args in
+    let r = m .match .rest .0 .0 in
     of-number _ (a .room .now) _ _ (m .before .before .if1 .left) (m .before .sub-function-of .ensures)
-    (no-such-number _ _ _ _ (m .match .rest .0 .0 .0 .1) (m .match .rest .0 .0 .1) (m .match .rest .0 .1)
-    (m .match .rest .1) (c .before .before .negative2 .ensures _ _))
+    (no-such-number _ _ _ _ (r .0 .0 .0 .1) (r .0 .0 .1) (r .0 .1) (r .1) (m .match .rest .0 .1) (m .match .rest .1)
+    (c .before .before .negative2 .ensures _ _))
 
 pub reply-19-spec : {M : Type 1} → statement M
 reply-19-spec =
@@ -56,7 +73,7 @@ reply-19-spec =
     (λ c κs. search needs) (λ c. search needs)
     returns
     (λ c κs. search needs) (λ c κs. search needs) (λ c κs. search needs) (λ c κs. search needs) (λ c κs. search needs)
-    (λ c κs. search needs) (λ c. search needs)
+    (λ c κs. search needs) (λ c κs. search needs) (λ c κs. search needs) (λ c. search needs)
     returns-2
     (λ c. search needs)
     returns-3
@@ -65,4 +82,8 @@ reply-19-spec =
     (λ c. search needs)
     returns-5
     (λ c. search needs)
-    returns-6)
+    returns-6
+    (λ c. search needs)
+    returns-7
+    (λ c. search needs)
+    returns-8)
