@@ -51,9 +51,16 @@ const NEEDED: [&str; 38] = [
 /// So many trouble codes are many: four halvings or more leave one of them.
 const MANY: usize = 16;
 
-#[derive(Default)]
 pub struct Happenings {
     counts: [u64; NEEDED.len()],
+}
+
+impl Default for Happenings {
+    fn default() -> Self {
+        Happenings {
+            counts: [0; NEEDED.len()],
+        }
+    }
 }
 
 impl Happenings {

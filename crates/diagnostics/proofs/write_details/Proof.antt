@@ -2,49 +2,26 @@ use Rattle.diagnostics.proofs.ShowLaws.{append-these, place-again, deta
 use borrow.Author.Needs.{needs}
 use Rattle.diagnostics.proofs.write_details.Statement.{statement}
 use Rattle.diagnostics.proofs.write_details.Tie as tie
-use Rattle.diagnostics.proofs.write_details.Reads as reads
-use Rattle.diagnostics.proofs.write_details.Lts as lts
-use Rattle.memory.proofs.count_at.Reads as count-at-reads
-use Rattle.memory.proofs.entry_frames.Reads as entry-frames-reads
-use Rattle.status.proofs.read_record.Reads as read-record-reads
-use Rattle.writing.proofs.write.Reads as write-reads
 
--- src/lib.rt:545:42
-entry-frames-requires : tie.Need-entry-frames-requires
-entry-frames-requires c κs = search needs
-
--- src/lib.rt:545:9
 count-at-requires : tie.Need-count-at-requires
-count-at-requires c κs = place-again _ (c .before .before .before .before .args .records .now) _ (c .before .before .before .before .args .event .0) _ (c .entry-frames .ensures) (c .before .before .before .before .pre .place-fits)
+count-at-requires c κs =
+    let s = c .before .before .before .before in
+    place-again _ (s .args .records .now) _ (s .args .event .0) _ (c .entry-frames .ensures) (s .pre .place-fits)
 
--- src/lib.rt:546:9
-read-record-requires : tie.Need-read-record-requires
-read-record-requires c κs = search needs
-
--- src/lib.rt:547:30
-slice-aggregate-write : tie.Need-slice-aggregate-write
-slice-aggregate-write c = search needs
-
--- src/lib.rt:547:5
-write-requires : tie.Need-write-requires
-write-requires c κs = search needs
-
--- src/lib.rt:529:1
-same-length : tie.Need-same-length
-same-length c = search needs
-
--- src/lib.rt:529:1
 returns : tie.Need-returns
-returns c = append-these _ (c .before .before .write .ensures) (details-are (c .before .before .before .before .before .before .before .before .before .before .before .args .cfg .now) (c .before .before .before .before .before .before .before .before .before .before .before .args .records .now) (c .before .before .before .before .before .before .before .before .before .before .before .args .memory .now) (c .before .before .before .before .before .before .before .before .before .before .before .args .event .0) (c .before .before .before .before .before .before .before .before .before .before .before .args .place .0) (c .before .before .before .before .before .before .before .entry-frames .ensures) (c .before .before .before .before .before .read-record .result) (c .before .before .before .before .before .before .count-at .ensures) (c .before .before .before .before .before .read-record .ensures))
+returns c =
+    let r = c .before .before .before .before .before in
+    let f = r .before .before in
+    let a = f .before .before .before .before .args in
+    append-these _ (c .before .before .write .ensures)
+    (details-are (a .cfg .now) (a .records .now) (a .memory .now) (a .event .0) (a .place .0)
+    (f .entry-frames .ensures) (r .read-record .result) (r .before .count-at .ensures) (r .read-record .ensures))
 
 pub write-details-spec : {M : Type 1} → statement M
 write-details-spec =
     tie.close
     (tie.spec
-    entry-frames-requires
+    (λ c κs. search needs)
     count-at-requires
-    read-record-requires
-    slice-aggregate-write
-    write-requires
-    same-length
+    (λ c κs. search needs) (λ c. search needs) (λ c κs. search needs) (λ c. search needs)
     returns)
