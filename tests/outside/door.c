@@ -569,7 +569,9 @@ static void print_numbers(void)
         printf("%s %lld\n", numbers[i].name, numbers[i].value);
     }
     print_sizes(1, 1, 0);
+    print_sizes(2, 1, 5);
     print_sizes(7, 3, 5);
+    print_sizes(7, 3, 32);
     print_sizes(512, 64, 32);
     print_lent();
 }

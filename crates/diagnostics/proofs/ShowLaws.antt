@@ -16,7 +16,7 @@ use Rattle.manual.specs.Configuration.{Configuration, mostPayload, events, entr
 use Rattle.manual.specs.State.{State, storedAt, statusByte}
 use Rattle.manual.specs.Memory.{Entry, bytesInUse, entriesOf, isOf, entryFor}
 use Rattle.manual.specs.WellFormed.{wellFormed}
-use Rattle.manual.specs.Answers.{lentRoom, Outcome}
+use Rattle.manual.specs.Answers.{Outcome}
 use Rattle.manual.specs.Diagnostics.{positive, negative, SubFunction, subFunction, fitted, line, isRecord, shownEvent}
 use Rattle.manual.specs.Diagnostics.{eventAsked, detailsTold, behindStatus, shownBytes, showing, suppresses}
 use Rattle.manual.specs.Diagnostics.{subFunctionReply}

@@ -1,19 +1,22 @@
 -- Each negative code is given exactly where a sentence of document 01 gives it, as the three bytes 7F, the request's
 -- first byte and the code; the answer is 0, the state stays, and so does the rest of the room. No other reply begins
--- with 7F.
+-- with 7F. FFFFFFh is an unknown code in `19 04` and `19 06`.
 use mathlib.Core.Path.{_≡_, refl, sym, ap, subst, _∙_}
 use mathlib.Core.Logic.{_≢_, _↔_}
+use mathlib.Core.Bool.{true}
 use mathlib.Core.List.{List, _++_}
 use Prim.Native.Nat.{ℕ}
 use native.Mathlib.Omega.{arith}
 use lib.ListN.{getD, drop, length}
-use Rattle.manual.specs.Configuration.{Configuration}
+use Rattle.manual.specs.Configuration.{Configuration, configOk}
 use Rattle.manual.specs.State.{State}
 use Rattle.manual.specs.Answers.{Beside, Outcome}
 use Rattle.manual.specs.Diagnostics.{requestReply}
 use Rattle.manual.specs.Replies.{Asks, Negative, Replies, refusedWith, number-by-mask, list-by-mask}
 use Rattle.manual.specs.Replies.{list-all, list-near, frame-of-entry, details-of-entry, frame-without-entry}
-use Rattle.manual.specs.Replies.{details-without-entry, negative, suppressed, positive, clears}
+use Rattle.manual.specs.Replies.{details-without-entry, askedCode, AsksForUnknown, unknown-code, negative}
+use Rattle.manual.specs.Replies.{suppressed, positive, clears}
+use Rattle.manual.proofs.ConfigurationLaws.{config-tells}
 use Rattle.manual.proofs.RepliesFollowTheSentences.{reply-said, reply-is}
 
 module _ (cfg : Configuration) (request : List ℕ) (b : Beside) (s : State) where
@@ -49,6 +52,11 @@ module _ (cfg : Configuration) (request : List ℕ) (b : Beside) (s : State) whe
       begins-59 (n .asks) (drop (length bytes) (b .room)) in
       absurd (let z : ⊥ = omega arith in z)
   begins-7F _ (clears a l k) v f = absurd (let z : ⊥ = omega arith in z)
+
+  -- document 02, W4: "FFFFFFh is an unknown code here.", under every accepted configuration
+  pub all-codes-is-unknown : configOk cfg ≡ true → askedCode cfg request s ≡ 0xFFFFFF → AsksForUnknown cfg request s
+  all-codes-is-unknown ok q =
+      unknown-code (λ e h c. let most = config-tells cfg ok .row e h .code-most in omega arith)
 
   module _ (answered : outcome .answer ≡ 0) where
     pub only-negative-begins-7F : outcome .value ≢ 0 → firstByte outcome ≡ 0x7F

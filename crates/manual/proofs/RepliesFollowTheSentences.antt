@@ -1,8 +1,8 @@
--- An accepted request has the outcome that the sentences of document 01 give it, and no other: the bytes that it is
+-- An accepted request has the outcome that the sentences of the documents give it, and no other: the bytes that it is
 -- sent, the answer 0, the rest of the room as found, and the state that it leaves.
 use mathlib.Core.Path.{_≡_, refl, sym, ap, subst, _∙_}
 use mathlib.Core.Logic.{_≢_, _↔_, _⊎_, inl, inr, ⊎-elim}
-use mathlib.Core.Bool.{Bool, true, false, not, _||_, cond}
+use mathlib.Core.Bool.{true, false, not, cond}
 use mathlib.Core.List.{List, [], _∷_, _++_, flatMap}
 use mathlib.Core.Option.{Option, none, some, Option·none-ne-some}
 use Prim.Native.Nat.{ℕ}
@@ -11,7 +11,7 @@ use lib.ListN.{length}
 use borrow.Author.Tests.{eqb-true, eqb-false, eq-eqb, ne-eqb, ltb-true, ltb-false, lt-ltb}
 use borrow.Author.Tests.{le-ltb, leb-true, leb-false, le-leb, lt-leb, not-true, not-false}
 use Rattle.manual.specs.Words.{firstOf, two}
-use Rattle.manual.specs.Configuration.{Configuration, events, firstWithCode}
+use Rattle.manual.specs.Configuration.{Configuration, events}
 use Rattle.manual.specs.State.{State}
 use Rattle.manual.specs.Memory.{Entry, entryFor}
 use Rattle.manual.specs.WellFormed.{entries}
@@ -186,7 +186,8 @@ module _ (cfg : Configuration) (request : List ℕ) (b : Beside) (s : State) whe
           go (some x) q = of-entry e h x q
           go none q = without e h q
 
-      showing-said : (AsksForUnknown → Negative 0x31) → Said19 (fitting (showing cfg k told (eventAsked cfg request s) s))
+      showing-said : (AsksForUnknown → Negative 0x31)
+          → Said19 (fitting (showing cfg k told (eventAsked cfg request s) s))
       unfolding showing fitted sent
       showing-said to31 = go (eventAsked cfg request s) refl
         where

@@ -1,4 +1,4 @@
--- In a room of 3 + 4n, of 7 + F and of 11 bytes, whichever is the most, no reply is refused with code 14: so long are
+-- In a room of at least 3 + 4n, 7 + F and 11 bytes no reply is refused with code 14: so long are
 -- the replies to `19 0A`, and to `19 04` and `19 06` where the event has an entry. The frame in the reply to `19 04`
 -- has F bytes.
 use mathlib.Core.Path.{_≡_, refl, subst}
@@ -51,11 +51,13 @@ module _ (cfg : Configuration) (request : List ℕ) (s : State) where
     frame-has-F-bytes e x q =
         let f = first-is (isOf e) (entries cfg s) x q in
         let each : All (Framed (entryFrames cfg)) (entries cfg s) =
-        frames (events cfg) (entryFrames cfg) (hasFailedBit cfg s) (entries cfg s) (sound cfg s formed .memory .good .each) in
+        frames (events cfg) (entryFrames cfg) (hasFailedBit cfg s) (entries cfg s)
+        (sound cfg s formed .memory .good .each) in
         all-middle (Framed (entryFrames cfg)) (f .older) x (f .newer)
         (subst (All (Framed (entryFrames cfg))) (f .there) each)
 
-    module _ (room : ℕ) (all : 3 + 4 * events cfg ≤ room) (frame : 7 + entryFrames cfg ≤ room) (details : 11 ≤ room) where
+    module _ (room : ℕ) (all : 3 + 4 * events cfg ≤ room) (frame : 7 + entryFrames cfg ≤ room)
+        (details : 11 ≤ room) where
       holds : {bytes : List ℕ} → Asks cfg request s bytes → length bytes ≤ room
       holds (number-by-mask n) = omega arith
       holds (list-by-mask n) =

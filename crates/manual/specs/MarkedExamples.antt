@@ -149,8 +149,8 @@ reportPreFailed = Report 0 3 []
 
 -- "Event: kind 1, P −4, Q 4, up 2, down 1, jumps 0, C 2, H 1, A 3, indicator 1. E1 start 50h; E2 pre-failed D 2, 50h;
 -- E3 pre-failed D 4, 27h; E4 stop 27h, D 0; E5 start 65h; E6 failed AFh; E7 passed AEh; E8 stop, start ECh; E9 passed,
--- stop 28h, g 1; E10 start, stop, start, stop with no report". Document 02, W2: "E10 now ends in 68h with the entry kept
--- and g still 1."
+-- stop 28h, g 1; E10 start, stop, start, stop with no report". Document 02, W2: "E10 now ends in 68h with the entry
+-- kept and g still 1."
 unfoldable pub e1ToE10 : List Row
 e1ToE10 =
     E 1 (Start 0 ∷ []) (shows None 0x50 (pos 0) 0 noEntry)

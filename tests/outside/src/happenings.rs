@@ -173,7 +173,10 @@ impl Happenings {
             let ended = running(before) && !running(after);
             let last = was[0] & CONFIRMED != 0 && i32::from(was[3]) + 1 == row.age;
             let untested = ended && last && was[0] & NOT_COMPLETED_THIS_CYCLE != 0;
-            self.met("an untested run ends where a clean one would age the event", untested);
+            self.met(
+                "an untested run ends where a clean one would age the event",
+                untested,
+            );
         }
     }
 

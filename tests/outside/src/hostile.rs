@@ -244,9 +244,9 @@ fn reply_room(random: &mut Random, config: &Configuration) -> usize {
     let some = 3 + 4 * random.below(n + 1);
     let all = 3 + 4 * n;
     let small = random.below(9);
-    // What shows one event takes 6 bytes, or 7 with its frame, or 11.
+    // What shows one event takes 6 bytes, or 7 + F with its frame, or 11.
     let one = random.pick(&[6, 7 + config.frame, 11]);
-    let near = one - random.below(2);
+    let just = one - random.below(2);
     random.pick(&[
         all,
         all,
@@ -256,8 +256,8 @@ fn reply_room(random: &mut Random, config: &Configuration) -> usize {
         some + 1,
         some - 1,
         small,
-        near,
-        near,
+        just,
+        just,
     ])
 }
 

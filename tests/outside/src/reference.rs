@@ -867,6 +867,17 @@ fn read_information(
     if sub_function == SUB_FUNCTION_14 {
         return near(config, state, room);
     }
+    by_status(config, state, sub_function, mask, room)
+}
+
+/// 01, 02 and 0A: the number of the events that match, or these events.
+fn by_status(
+    config: &Configuration,
+    state: &State,
+    sub_function: u8,
+    mask: Option<u8>,
+    room: &mut [u8],
+) -> Result<usize, u8> {
     let statuses = state.records.iter().step_by(4);
     let matching = statuses.filter(|status| matches(**status, mask)).count();
     let counted = sub_function == 0x01;

@@ -276,26 +276,21 @@ impl Story<'_> {
             4 => request.truncate(self.random.below(2)),
             _ => {}
         }
+        let room = self.reply_room();
+        self.call(Call::Request { request, room })?;
+        Some(())
+    }
+
+    fn reply_room(&mut self) -> usize {
         let whole = 3 + 4 * self.config.events;
         let some = 3 + 4 * self.random.below(self.config.events + 1);
         let frame = 7 + self.config.frame;
-        let room = self.random.pick(&[
-            whole,
-            whole,
-            whole + 9,
-            some,
-            some + 1,
-            frame,
-            frame - 1,
-            11,
-            10,
-            6,
-            5,
-            3,
-            2,
-        ]);
-        self.call(Call::Request { request, room })?;
-        Some(())
+        let lists = [whole, whole, whole + 9, some, some + 1];
+        let shows = [frame, frame - 1, 11, 10, 6, 5, 3, 2];
+        match self.random.below(lists.len() + shows.len()) < lists.len() {
+            true => self.random.pick(&lists),
+            false => self.random.pick(&shows),
+        }
     }
 
     /// Stops what runs, mostly, and saves; then brings the image back elsewhere.

@@ -9,7 +9,7 @@ returns c s =
     let r = c .before .before .before in
     let a = r .before .before .before .args in
     asked-by-code (a .cfg .now) (a .request .now) s (r .before .byte-of .ensures)
-    (sym (r .is-record .ensures _) ∙ c .before .before .if1 .taken) (c .before .code-in .ensures)
+    (sym (r .is-record .ensures (a .cfg .now)) ∙ c .before .before .if1 .taken) (c .before .code-in .ensures)
     (c .find-code .ensures)
 
 returns-2 : tie.Need-returns-2
@@ -17,7 +17,7 @@ returns-2 c s =
     let r = c .before in
     let a = r .before .before .before .args in
     asked-for-nothing (a .cfg .now) (a .request .now) s (r .before .byte-of .ensures)
-    (sym (r .is-record .ensures _) ∙ c .if1 .left)
+    (sym (r .is-record .ensures (a .cfg .now)) ∙ c .if1 .left)
 
 pub event-asked-spec : {M : Type 1} → statement M
 event-asked-spec =

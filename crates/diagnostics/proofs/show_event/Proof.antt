@@ -13,7 +13,9 @@ use Rattle.diagnostics.proofs.show_event.Statement.{statement}
 use Rattle.diagnostics.proofs.show_event.Tie as tie
 
 place-of-requires : tie.Need-place-of-requires
-place-of-requires c κs = rw (c .entry-frames .ensures) (c .before .before .before .before .before .pre .0 .within .entries-fit)
+place-of-requires c κs =
+    let p = c .before .before .before .before .before .pre .0 in
+    rw (c .entry-frames .ensures) (p .within .entries-fit)
 
 write-shown-requires : tie.Need-write-shown-requires
 write-shown-requires c κs =
