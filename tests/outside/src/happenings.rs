@@ -217,7 +217,8 @@ impl Happenings {
         let too_long = room.len() >= 6 && room[..3] == [0x7F, 0x19, 0x14];
         self.met("an event with an entry does not fit the room", too_long);
         let suppress = second & 0x80 != 0;
-        self.met("an event is shown, suppressed", suppress && room[0] == 0xA5);
+        let negative = room[..2] == [0x7F, 0x19];
+        self.met("an event is shown, suppressed", suppress && !negative);
         let unknown = room[..3] == [0x7F, 0x19, 0x31];
         self.met(
             "an unknown code or record is not suppressed",
