@@ -3,7 +3,7 @@
  *
  * To start: write a configuration (grelpicado_event), give grelpicado_begin your
  * arrays, and make the calls grelpicado_ctx_... on what it filled. They stand at
- * the end of this file, over the twelve plain calls that do the work.
+ * the end of this file, over the fifteen plain calls that do the work.
  *
  * The manager keeps nothing of its own. Everything it works on is lent by the
  * caller for the length of one call:
@@ -18,13 +18,13 @@
  * 0 when it is done, else one of the refusals below, the first that applies in
  * the order that stands above the call. A refused call has changed no lent
  * byte, and hands back the board that it was given; a status, count or length
- * beside a refusal is 0, a frame part empty, a verdict none.
+ * beside a refusal is 0, a frame part empty, a verdict none, a paint grey.
  *
  * What the caller owes, since no call can test it:
  *   - each pointer points to as many elements as the length beside it says,
  *     readable, and writable where it is not const; it is aligned for its type,
  *     and not NULL even where the length is 0 (the calls on a context take NULL
- *     with length 0 for a frame, an image, a request or a room);
+ *     with length 0 for a frame, an image, a request, a room or a list);
  *   - a block that a call may write overlaps no other block of that call, and
  *     nobody else reads or writes it meanwhile. Blocks that are const in a call
  *     may overlap one another.
@@ -44,10 +44,10 @@ extern "C" {
 #endif
 
 /*
- * Of this header: 2000 is 2.0. The thousands rise when a program that includes it must be changed
+ * Of this header: 2001 is 2.1. The thousands rise when a program that includes it must be changed
  * or compiled again, the rest when something is added.
  */
-#define GRELPICADO_HEADER_VERSION 2000
+#define GRELPICADO_HEADER_VERSION 2001
 
 /* A cast and a check in the words of either language, for this file. */
 #ifdef __cplusplus
@@ -84,6 +84,9 @@ extern "C" {
     GRELPICADO_LARGER_(GRELPICADO_SIZE_(3) + GRELPICADO_SIZE_(4) * GRELPICADO_SIZE_(n), \
         GRELPICADO_LARGER_(GRELPICADO_SIZE_(7) + GRELPICADO_SIZE_(F), GRELPICADO_SIZE_(11)))
 #define GRELPICADO_LARGER_(a, b) ((a) < (b) ? (b) : (a))
+
+/* Numbers of the longest list of grey events. */
+#define GRELPICADO_LIST_NUMBERS(n) GRELPICADO_SIZE_(n)
 
 /* An array by its name, not by a pointer to it, as a call takes it: the pointer and how many elements. */
 #define GRELPICADO_LEND(array) (array), sizeof (array) / sizeof (array)[0]
@@ -189,7 +192,7 @@ typedef struct grelpicado_event {
 #define GRELPICADO_NO_SUCH 4            /* no such event, cycle or trouble code */
 #define GRELPICADO_WRONG_CYCLE_STATE 5  /* report, stop: stopped; start: running; save: any running */
 #define GRELPICADO_NO_PRE_RESULT 6      /* a pre-result reported to an event of kind 0 */
-#define GRELPICADO_ROOM_TOO_SMALL 7     /* the output room is too small */
+#define GRELPICADO_ROOM_TOO_SMALL 7     /* the output room, or the list, is too small */
 #define GRELPICADO_BAD_IMAGE 8          /* the image is not acceptable */
 #define GRELPICADO_WRONG_FRAME 9        /* the lent frame is not F bytes */
 #define GRELPICADO_NO_ENTRY 10          /* the event has no memory entry */
@@ -217,6 +220,12 @@ typedef struct grelpicado_event {
 #define GRELPICADO_VERDICT_NONE 0
 #define GRELPICADO_VERDICT_PASSED 1
 #define GRELPICADO_VERDICT_FAILED 2
+
+/* ---- the paint of an event */
+
+#define GRELPICADO_PAINT_GREY 0 /* its cycle is stopped, or no result lies in this run after any clear */
+#define GRELPICADO_PAINT_RED 1  /* else, its last result is failed */
+#define GRELPICADO_PAINT_LIVE 2 /* else: its last result is passed */
 
 /* The trouble code that clears all events. */
 #define GRELPICADO_ALL_CODES 0xFFFFFFu
@@ -257,6 +266,18 @@ typedef struct grelpicado_counter_answer {
     int8_t counter;
 } grelpicado_counter_answer;
 
+/* counts[c][b]: how many events of cycle c have bit b of their status set; all 0 beside a refusal. */
+typedef struct grelpicado_table_answer {
+    uint8_t number;
+    uint16_t counts[GRELPICADO_CYCLES][8];
+} grelpicado_table_answer;
+
+/* Grey beside a refusal. */
+typedef struct grelpicado_paint_answer {
+    uint8_t number;
+    uint8_t paint; /* GRELPICADO_PAINT_... */
+} grelpicado_paint_answer;
+
 /* The frame is memory[start] to memory[start + length - 1], in the caller's own block. */
 typedef struct grelpicado_frame_answer {
     uint8_t number;
@@ -264,7 +285,7 @@ typedef struct grelpicado_frame_answer {
     size_t length;
 } grelpicado_frame_answer;
 
-/* The first length bytes of the room were written, and no other. */
+/* The first length bytes of the room, or numbers of the list, were written, and no other. */
 typedef struct grelpicado_length_answer {
     uint8_t number;
     size_t length;
@@ -276,7 +297,7 @@ typedef struct grelpicado_request_answer {
     grelpicado_board board;
 } grelpicado_request_answer;
 
-/* ---- the twelve calls */
+/* ---- the fifteen calls */
 
 /*
  * The fresh state: every status 50h, no entry, cycles stopped, overflow clear.
@@ -380,6 +401,46 @@ grelpicado_counter_answer grelpicado_read_counter(
     size_t event);
 
 /*
+ * For each of the four cycles and each of the eight bits of the status, how many events of that cycle
+ * have the bit set. Writes nothing.
+ * Refusals, in order: 2, 3.
+ */
+grelpicado_table_answer grelpicado_read_table(
+    const int32_t *config, size_t config_length,
+    const uint8_t *records, size_t records_length,
+    const int32_t *debounce, size_t debounce_length,
+    const uint8_t *memory, size_t memory_length,
+    grelpicado_board board);
+
+/*
+ * How a panel paints what an event tests: grey if bit 6 of the status is set or its cycle is stopped,
+ * else red if bit 0 is set, else live. Where blocks and board were changed by these calls only, it is
+ * live exactly when its cycle runs, a result lies in the present run after any clear, and the last one
+ * is passed. Writes nothing.
+ * Refusals, in order: 2, 3, 4 (event).
+ */
+grelpicado_paint_answer grelpicado_read_paint(
+    const int32_t *config, size_t config_length,
+    const uint8_t *records, size_t records_length,
+    const int32_t *debounce, size_t debounce_length,
+    const uint8_t *memory, size_t memory_length,
+    grelpicado_board board,
+    size_t event);
+
+/*
+ * Writes the numbers of all events that are painted grey to the front of the list, rising: at most
+ * GRELPICADO_LIST_NUMBERS(n).
+ * Refusals, in order: 2, 3, 7 (the list is too short; length 0 is enough where none is grey).
+ */
+grelpicado_length_answer grelpicado_list_grey(
+    const int32_t *config, size_t config_length,
+    const uint8_t *records, size_t records_length,
+    const int32_t *debounce, size_t debounce_length,
+    const uint8_t *memory, size_t memory_length,
+    grelpicado_board board,
+    uint16_t *list, size_t list_length);
+
+/*
  * Where the stored frame of an event lies in the memory block. Writes nothing.
  * Refusals, in order: 2, 3, 4 (event), 10.
  */
@@ -440,7 +501,7 @@ grelpicado_request_answer grelpicado_request(
  * keeps the board that it hands back, and answers the rest: the number where there is nothing else.
  * A refused call hands back the board it was given, so it changes nothing here either.
  *
- * A frame, an image, a request or a room of length 0 may be NULL: the plain call is then lent an
+ * A frame, an image, a request, a room or a list of length 0 may be NULL: the plain call is then lent an
  * address of this file's own.
  */
 typedef struct grelpicado {
@@ -562,6 +623,26 @@ static inline grelpicado_counter_answer grelpicado_ctx_read_counter(const grelpi
     return grelpicado_read_counter(GRELPICADO_LENT_(manager), event);
 }
 
+/* How many events of each cycle have each bit set. Refusals: 2, 3. */
+static inline grelpicado_table_answer grelpicado_ctx_read_table(const grelpicado *manager)
+{
+    return grelpicado_read_table(GRELPICADO_LENT_(manager));
+}
+
+/* How a panel paints what an event tests. Refusals: 2, 3, 4. */
+static inline grelpicado_paint_answer grelpicado_ctx_read_paint(const grelpicado *manager, size_t event)
+{
+    return grelpicado_read_paint(GRELPICADO_LENT_(manager), event);
+}
+
+/* The numbers of the events that are painted grey. Refusals: 2, 3, 7. */
+static inline grelpicado_length_answer grelpicado_ctx_list_grey(
+    const grelpicado *manager, uint16_t *list, size_t list_length)
+{
+    uint16_t none = 0;
+    return grelpicado_list_grey(GRELPICADO_LENT_(manager), list_length == 0 ? &none : list, list_length);
+}
+
 /* Where the stored frame of an event lies: at manager->memory + start. Refusals: 2, 3, 4, 10. */
 static inline grelpicado_frame_answer grelpicado_ctx_read_frame(const grelpicado *manager, size_t event)
 {
@@ -621,6 +702,10 @@ GRELPICADO_CHECK_(sizeof(grelpicado_status_answer) == 2 && offsetof(grelpicado_s
     && offsetof(grelpicado_status_answer, status) == 1, "layout of grelpicado_status_answer");
 GRELPICADO_CHECK_(sizeof(grelpicado_counter_answer) == 2 && offsetof(grelpicado_counter_answer, number) == 0
     && offsetof(grelpicado_counter_answer, counter) == 1, "layout of grelpicado_counter_answer");
+GRELPICADO_CHECK_(sizeof(grelpicado_table_answer) == 66 && offsetof(grelpicado_table_answer, number) == 0
+    && offsetof(grelpicado_table_answer, counts) == 2, "layout of grelpicado_table_answer");
+GRELPICADO_CHECK_(sizeof(grelpicado_paint_answer) == 2 && offsetof(grelpicado_paint_answer, number) == 0
+    && offsetof(grelpicado_paint_answer, paint) == 1, "layout of grelpicado_paint_answer");
 GRELPICADO_CHECK_(sizeof(grelpicado_frame_answer) == 24 && offsetof(grelpicado_frame_answer, number) == 0
     && offsetof(grelpicado_frame_answer, start) == 8
     && offsetof(grelpicado_frame_answer, length) == 16, "layout of grelpicado_frame_answer");

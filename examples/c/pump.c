@@ -5,10 +5,10 @@
  *   the link       tested every 100 ms by whether the sensor answers, timed
  *
  * While the link is silent no value arrives and the pressure is not tested. The
- * panel paints the value by the status bytes of both events: it is good only if
- * the cycle runs, both tests were completed in this run and neither has failed.
- * So a last value does not stay good on the glass after the link has dropped, nor
- * after the pump has stopped, when nothing is tested and the bytes stay.
+ * panel paints the value as the pressure is painted, but grey unless the link is
+ * live. So a last value does not stay live on the glass after the link has
+ * dropped, nor after the pump has stopped, when nothing is tested and the bytes
+ * stay.
  */
 #include <stdbool.h>
 #include <stdio.h>
@@ -90,7 +90,25 @@ static uint8_t status_of(const struct panel *panel, size_t event)
     return answer.status;
 }
 
+/* Grey, red or live; grey also of an event that the manager does not know. */
+static uint8_t paint_of(const struct panel *panel, size_t event)
+{
+    return grelpicado_ctx_read_paint(&panel->manager, event).paint;
+}
+
+/* The value on the glass. */
+static uint8_t paint_of_value(const struct panel *panel)
+{
+    return paint_of(panel, LINK) == GRELPICADO_PAINT_LIVE ? paint_of(panel, PRESSURE) : GRELPICADO_PAINT_GREY;
+}
+
 /* ---- printing */
+
+static const char *const paint_names[3] = {
+    [GRELPICADO_PAINT_GREY] = "grey",
+    [GRELPICADO_PAINT_RED] = "red",
+    [GRELPICADO_PAINT_LIVE] = "live",
+};
 
 static const char *const bit_names[8] = {
     "testFailed", "testFailedThisOperationCycle", "pending", "confirmed",
@@ -98,9 +116,10 @@ static const char *const bit_names[8] = {
     "testNotCompletedThisOperationCycle", "warningIndicatorRequested",
 };
 
-static void print_status(const char *name, uint8_t status)
+static void print_event(const struct panel *panel, const char *name, size_t event)
 {
-    printf("  %-9s%02Xh", name, (unsigned)status);
+    uint8_t status = status_of(panel, event);
+    printf("  %-9s%-5s%02Xh", name, paint_names[paint_of(panel, event)], (unsigned)status);
     for (unsigned bit = 0; bit < 8; bit++) {
         if (status >> bit & 1u) {
             printf(" %s", bit_names[bit]);
@@ -109,31 +128,12 @@ static void print_status(const char *name, uint8_t status)
     putchar('\n');
 }
 
-static const char *painted(const struct panel *panel, uint8_t pressure, uint8_t link)
-{
-    if (!panel->manager.board.running[PUMP]) {
-        return "grey: the pump is stopped";
-    }
-    if ((pressure | link) & GRELPICADO_TEST_NOT_COMPLETED_THIS_OPERATION_CYCLE) {
-        return "grey: not tested in this run";
-    }
-    if (link & GRELPICADO_TEST_FAILED) {
-        return "grey: the link is lost";
-    }
-    if (pressure & GRELPICADO_TEST_FAILED) {
-        return "red: failed";
-    }
-    return "good";
-}
-
 static void print_panel(const struct panel *panel, const char *moment)
 {
-    uint8_t pressure = status_of(panel, PRESSURE);
-    uint8_t link = status_of(panel, LINK);
     printf("%s\n", moment);
-    print_status("pressure", pressure);
-    print_status("link", link);
-    printf("  the value is painted %s\n", painted(panel, pressure, link));
+    print_event(panel, "pressure", PRESSURE);
+    print_event(panel, "link", LINK);
+    printf("  the value is painted %s\n", paint_names[paint_of_value(panel)]);
 }
 
 /* The value that the pressure failed with, read in the panel's own memory block. */

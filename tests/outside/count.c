@@ -35,6 +35,8 @@ struct world {
     int32_t debounce[GRELPICADO_DEBOUNCE_NUMBERS(MOST_EVENTS)];
     uint8_t memory[GRELPICADO_MEMORY_BYTES(MOST_PLACES, FRAME)];
     uint8_t room[GRELPICADO_IMAGE_BYTES(MOST_EVENTS, MOST_PLACES, FRAME)];
+    uint16_t list[GRELPICADO_LIST_NUMBERS(MOST_EVENTS)];
+    uint16_t counts[GRELPICADO_CYCLES][8];
     grelpicado_board board;
     uint8_t number;
     uint8_t value;
@@ -120,6 +122,9 @@ struct side {
     __typeof__(grelpicado_stop) *stop;
     __typeof__(grelpicado_clear) *clear;
     __typeof__(grelpicado_read_status) *read_status;
+    __typeof__(grelpicado_read_table) *read_table;
+    __typeof__(grelpicado_read_paint) *read_paint;
+    __typeof__(grelpicado_list_grey) *list_grey;
     __typeof__(grelpicado_read_frame) *read_frame;
     __typeof__(grelpicado_save) *save;
     __typeof__(grelpicado_restore) *restore;
@@ -128,12 +133,13 @@ struct side {
 
 static const struct side archive = {
     grelpicado_fresh, grelpicado_report, grelpicado_tick, grelpicado_start, grelpicado_stop, grelpicado_clear,
-    grelpicado_read_status, grelpicado_read_frame, grelpicado_save, grelpicado_restore, grelpicado_request,
+    grelpicado_read_status, grelpicado_read_table, grelpicado_read_paint, grelpicado_list_grey, grelpicado_read_frame,
+    grelpicado_save, grelpicado_restore, grelpicado_request,
 };
 
 static const struct side plain = {
     plain_fresh, plain_report, plain_tick, plain_start, plain_stop, plain_clear,
-    plain_read_status, plain_read_frame, plain_save, plain_restore, plain_request,
+    plain_read_status, plain_read_table, plain_read_paint, plain_list_grey, plain_read_frame, plain_save, plain_restore, plain_request,
 };
 
 /* ---- the calls */
@@ -235,6 +241,27 @@ static void read_status(const struct side *by, struct world *world)
     world->value = got.status;
 }
 
+static void read_table(const struct side *by, struct world *world)
+{
+    grelpicado_table_answer got = by->read_table(LENT);
+    world->number = got.number;
+    memcpy(world->counts, got.counts, sizeof got.counts);
+}
+
+static void read_paint(const struct side *by, struct world *world)
+{
+    grelpicado_paint_answer got = by->read_paint(LENT, middle());
+    world->number = got.number;
+    world->value = got.paint;
+}
+
+static void list_grey(const struct side *by, struct world *world)
+{
+    grelpicado_length_answer got = by->list_grey(LENT, GRELPICADO_LEND(world->list));
+    world->number = got.number;
+    world->length = got.length;
+}
+
 static void read_frame(const struct side *by, struct world *world)
 {
     grelpicado_frame_answer got = by->read_frame(LENT, middle());
@@ -297,6 +324,10 @@ static const struct scene {
     {"clear one", clear_one, true},
     {"clear all", clear_all, true},
     {"read status", read_status, true},
+    {"read table", read_table, true},
+    {"read paint", read_paint, true},
+    {"list grey, some", list_grey, true},
+    {"list grey, all", list_grey, false},
     {"read frame", read_frame, true},
     {"save", save, false},
     {"restore", restore, false},

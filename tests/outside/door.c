@@ -8,7 +8,8 @@
  *   door numbers   prints what the header's macros stand for
  *
  * A call is a struct head, then the contents of the six blocks in their order.
- * Its answer is a struct answer, then the six blocks as the call left them.
+ * Its answer is a struct answer, then the six blocks as the call left them. The
+ * room of list grey holds its 16-bit numbers; read table has one for its counts.
  * Numbers are little-endian: the archive is for x86-64.
  */
 #define _POSIX_C_SOURCE 200809L
@@ -27,7 +28,8 @@
 enum { CONFIG, RECORDS, DEBOUNCE, MEMORY, INPUT, ROOM, BLOCKS };
 
 enum {
-    FRESH, REPORT, TICK, START, STOP, CLEAR, READ_STATUS, READ_FRAME, SAVE, RESTORE, REQUEST, READ_COUNTER
+    FRESH, REPORT, TICK, START, STOP, CLEAR, READ_STATUS, READ_FRAME, SAVE, RESTORE, REQUEST, READ_COUNTER,
+    READ_TABLE, READ_PAINT, LIST_GREY
 };
 
 /* By the plain call; on a context; by grelpicado_begin, for a fresh state. */
@@ -46,7 +48,7 @@ struct head {
 
 struct answer {
     uint8_t number;
-    uint8_t value;  /* verdict or status */
+    uint8_t value;  /* verdict, status or paint */
     uint8_t broken; /* a bit for each block beside which a byte was written; 40h: the context's blocks changed */
     grelpicado_board board;
     uint64_t turn;
@@ -169,10 +171,11 @@ static bool guards_stand(const struct block *block)
     return stand;
 }
 
-/* Numbers lie on a multiple of 4 that is none of 8, bytes on an odd address: more is not promised. */
-static void make_room(struct block *block, size_t length, bool numbers)
+/* Numbers of 4 bytes lie on a multiple of 4 that is none of 8, those of 2 on one of 2 that is none of 4, bytes on an
+   odd address: more is not promised. */
+static void make_room(struct block *block, size_t length, size_t width)
 {
-    block->front = GUARD + (numbers ? 4u : 1u);
+    block->front = GUARD + width;
     block->length = length;
     size_t needed = block->front + length + GUARD;
     if (needed > block->capacity) {
@@ -189,7 +192,8 @@ static void make_room(struct block *block, size_t length, bool numbers)
 static void make_rooms(struct block blocks[BLOCKS], const struct head *head)
 {
     for (size_t i = 0; i < BLOCKS; i++) {
-        make_room(&blocks[i], (size_t)head->bytes[i], i == CONFIG || i == DEBOUNCE);
+        size_t width = i == CONFIG || i == DEBOUNCE ? 4 : i == ROOM && head->call == LIST_GREY ? 2 : 1;
+        make_room(&blocks[i], (size_t)head->bytes[i], width);
     }
 }
 
@@ -208,6 +212,11 @@ static size_t count_of(const struct block *block)
     return block->length / sizeof(int32_t);
 }
 
+static uint16_t *list_of(const struct block *block)
+{
+    return (uint16_t *)(void *)bytes_of(block);
+}
+
 /* On a context, no bytes are lent as NULL with length 0. */
 static uint8_t *bytes_or_null(const struct block *block)
 {
@@ -224,6 +233,7 @@ static uint8_t *bytes_or_null(const struct block *block)
 
 #define INPUT_BYTES bytes_of(&b[INPUT]), b[INPUT].length
 #define ROOM_BYTES bytes_of(&b[ROOM]), b[ROOM].length
+#define ROOM_LIST list_of(&b[ROOM]), b[ROOM].length / sizeof(uint16_t)
 
 static void take(struct answer *answer, grelpicado_answer got)
 {
@@ -248,6 +258,22 @@ static void take_counter(struct answer *answer, grelpicado_counter_answer got)
 {
     answer->number = got.number;
     answer->start = (uint64_t)(int64_t)got.counter; /* with its sign, as the header's type has it */
+}
+
+/* The counts go where they can be compared: into the room, which is as long as they are. */
+static void take_table(struct answer *answer, const struct block *room, grelpicado_table_answer got)
+{
+    answer->number = got.number;
+    if (room->length != sizeof got.counts) {
+        give_up("the room of read table is as long as its counts");
+    }
+    memcpy(bytes_of(room), got.counts, sizeof got.counts);
+}
+
+static void take_paint(struct answer *answer, grelpicado_paint_answer got)
+{
+    answer->number = got.number;
+    answer->value = got.paint;
 }
 
 static void take_frame(struct answer *answer, grelpicado_frame_answer got)
@@ -289,6 +315,9 @@ static void by_plain(const struct head *head, const struct block b[BLOCKS], stru
     case RESTORE: take(answer, grelpicado_restore(LENT, board, INPUT_BYTES)); break;
     case REQUEST: take_request(answer, grelpicado_request(LENT, board, INPUT_BYTES, ROOM_BYTES)); break;
     case READ_COUNTER: take_counter(answer, grelpicado_read_counter(LENT, board, event)); break;
+    case READ_TABLE: take_table(answer, &b[ROOM], grelpicado_read_table(LENT, board)); break;
+    case READ_PAINT: take_paint(answer, grelpicado_read_paint(LENT, board, event)); break;
+    case LIST_GREY: take_length(answer, grelpicado_list_grey(LENT, board, ROOM_LIST)); break;
     default: give_up("no such call");
     }
 }
@@ -297,6 +326,7 @@ static void by_plain(const struct head *head, const struct block b[BLOCKS], stru
 
 #define INPUT_OR_NULL bytes_or_null(&b[INPUT]), b[INPUT].length
 #define ROOM_OR_NULL bytes_or_null(&b[ROOM]), b[ROOM].length
+#define LIST_OR_NULL b[ROOM].length == 0 ? NULL : list_of(&b[ROOM]), b[ROOM].length / sizeof(uint16_t)
 
 static void take_verdict(struct answer *answer, grelpicado_verdict_answer got)
 {
@@ -323,6 +353,9 @@ static void on_context(
     case RESTORE: answer->number = grelpicado_ctx_restore(manager, INPUT_OR_NULL); break;
     case REQUEST: take_length(answer, grelpicado_ctx_request(manager, INPUT_OR_NULL, ROOM_OR_NULL)); break;
     case READ_COUNTER: take_counter(answer, grelpicado_ctx_read_counter(manager, event)); break;
+    case READ_TABLE: take_table(answer, &b[ROOM], grelpicado_ctx_read_table(manager)); break;
+    case READ_PAINT: take_paint(answer, grelpicado_ctx_read_paint(manager, event)); break;
+    case LIST_GREY: take_length(answer, grelpicado_ctx_list_grey(manager, LIST_OR_NULL)); break;
     default: give_up("no such call");
     }
 }
@@ -472,6 +505,12 @@ static void print_layout(void)
     SIZE(grelpicado_counter_answer);
     FIELD(grelpicado_counter_answer, number);
     FIELD(grelpicado_counter_answer, counter);
+    SIZE(grelpicado_table_answer);
+    FIELD(grelpicado_table_answer, number);
+    FIELD(grelpicado_table_answer, counts);
+    SIZE(grelpicado_paint_answer);
+    FIELD(grelpicado_paint_answer, number);
+    FIELD(grelpicado_paint_answer, paint);
     SIZE(grelpicado_frame_answer);
     FIELD(grelpicado_frame_answer, number);
     FIELD(grelpicado_frame_answer, start);
@@ -536,6 +575,9 @@ static const struct {
     NUMBER(GRELPICADO_VERDICT_NONE),
     NUMBER(GRELPICADO_VERDICT_PASSED),
     NUMBER(GRELPICADO_VERDICT_FAILED),
+    NUMBER(GRELPICADO_PAINT_GREY),
+    NUMBER(GRELPICADO_PAINT_RED),
+    NUMBER(GRELPICADO_PAINT_LIVE),
     NUMBER(GRELPICADO_ALL_CODES),
 };
 
@@ -549,6 +591,7 @@ static void print_sizes(size_t n, size_t places, size_t frame)
     printf("GRELPICADO_IMAGE_BYTES(%zu,%zu,%zu) %zu\n", n, places, frame,
         GRELPICADO_IMAGE_BYTES(n, places, frame));
     printf("GRELPICADO_REPLY_BYTES(%zu,%zu) %zu\n", n, frame, GRELPICADO_REPLY_BYTES(n, frame));
+    printf("GRELPICADO_LIST_NUMBERS(%zu) %zu\n", n, GRELPICADO_LIST_NUMBERS(n));
 }
 
 /* What the macros that lend make of arrays of known lengths, and what GRELPICADO_CONFIG lays out. */

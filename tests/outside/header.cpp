@@ -22,6 +22,7 @@ std::int32_t debounce[GRELPICADO_DEBOUNCE_NUMBERS(event_count)];
 std::uint8_t memory[GRELPICADO_MEMORY_BYTES(place_count, frame_length)];
 std::uint8_t image[GRELPICADO_IMAGE_BYTES(event_count, place_count, frame_length)];
 std::uint8_t reply[GRELPICADO_REPLY_BYTES(event_count, frame_length)];
+std::uint16_t list[GRELPICADO_LIST_NUMBERS(event_count)];
 
 bool a_run(grelpicado *manager)
 {
@@ -31,8 +32,13 @@ bool a_run(grelpicado *manager)
         && grelpicado_ctx_read_status(manager, 0).status == 0xAF
         && grelpicado_ctx_read_counter(manager, 0).counter == 127
         && grelpicado_ctx_read_frame(manager, 0).start == 4
+        && grelpicado_ctx_read_paint(manager, 0).paint == GRELPICADO_PAINT_RED
+        && grelpicado_ctx_read_table(manager).counts[0][7] == 1
+        && grelpicado_ctx_list_grey(manager, GRELPICADO_LEND(list)).length == 1
+        && list[0] == 1
         && grelpicado_ctx_report(manager, 0, GRELPICADO_PASSED, nullptr, 0).verdict == GRELPICADO_VERDICT_PASSED
         && grelpicado_ctx_read_counter(manager, 0).counter == -128
+        && grelpicado_ctx_read_paint(manager, 0).paint == GRELPICADO_PAINT_LIVE
         && grelpicado_ctx_report(manager, 0, GRELPICADO_FAILED, nullptr, 0).verdict == GRELPICADO_VERDICT_FAILED
         && grelpicado_ctx_stop(manager, GRELPICADO_CYCLE_0) == GRELPICADO_DONE;
 }

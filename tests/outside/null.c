@@ -46,6 +46,12 @@ grelpicado_length_answer grelpicado_save(LENT(const), uint8_t *room, size_t room
     return (grelpicado_length_answer){given_null(room, room_length), 0};
 }
 
+grelpicado_length_answer grelpicado_list_grey(LENT(const), uint16_t *list, size_t list_length)
+{
+    UNUSED, (void)board, (void)list_length;
+    return (grelpicado_length_answer){list == NULL ? 1 : 0, 0};
+}
+
 grelpicado_answer grelpicado_restore(LENT(), const uint8_t *image, size_t image_length)
 {
     UNUSED;
@@ -75,6 +81,7 @@ int main(void)
     int wrong = lends_null("report", grelpicado_ctx_report(&manager, 0, 0, NULL, 0).number)
         + lends_null("tick", grelpicado_ctx_tick(&manager, 0, NULL, 0))
         + lends_null("save", grelpicado_ctx_save(&manager, NULL, 0).number)
+        + lends_null("list grey", grelpicado_ctx_list_grey(&manager, NULL, 0).number)
         + lends_null("restore", grelpicado_ctx_restore(&manager, NULL, 0))
         + lends_null("request", grelpicado_ctx_request(&manager, NULL, 0, &byte, 1).number)
         + lends_null("room of a request", grelpicado_ctx_request(&manager, &byte, 1, NULL, 0).number);

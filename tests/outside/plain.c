@@ -695,6 +695,67 @@ grelpicado_counter_answer plain_read_counter(LENT(const), size_t event)
     return (grelpicado_counter_answer){GRELPICADO_DONE, (int8_t)counter};
 }
 
+/* Not tested in this run, or no run goes on. */
+static bool is_grey(const grelpicado_event *row, uint8_t status, const grelpicado_board *board)
+{
+    return (status & GRELPICADO_TEST_NOT_COMPLETED_THIS_OPERATION_CYCLE) != 0 || board->running[row->cycle] == 0;
+}
+
+grelpicado_table_answer plain_read_table(LENT(const))
+{
+    struct table table;
+    grelpicado_table_answer answer = {judge(&table, LENGTHS, BLOCKS, &board), {{0}}};
+    if (answer.number != GRELPICADO_DONE) {
+        return answer;
+    }
+    for (size_t e = 0; e < table.events; e++) {
+        uint16_t *counts = answer.counts[table.event[e].cycle];
+        uint8_t status = records[RECORD * e + STATUS];
+        for (unsigned bit = 0; bit < 8; bit++) {
+            counts[bit] = (uint16_t)(counts[bit] + (status >> bit & 1u));
+        }
+    }
+    return answer;
+}
+
+grelpicado_paint_answer plain_read_paint(LENT(const), size_t event)
+{
+    struct table table;
+    uint8_t number = judge(&table, LENGTHS, BLOCKS, &board);
+    if (number != GRELPICADO_DONE) {
+        return (grelpicado_paint_answer){number, GRELPICADO_PAINT_GREY};
+    }
+    if (event >= table.events) {
+        return (grelpicado_paint_answer){GRELPICADO_NO_SUCH, GRELPICADO_PAINT_GREY};
+    }
+    uint8_t status = records[RECORD * event + STATUS];
+    uint8_t tested = status & GRELPICADO_TEST_FAILED ? GRELPICADO_PAINT_RED : GRELPICADO_PAINT_LIVE;
+    return (grelpicado_paint_answer){
+        GRELPICADO_DONE, is_grey(&table.event[event], status, &board) ? GRELPICADO_PAINT_GREY : tested};
+}
+
+/* The grey events are gathered apart, so that a list that is too short stays as it is. */
+grelpicado_length_answer plain_list_grey(LENT(const), uint16_t *list, size_t list_length)
+{
+    struct table table;
+    uint16_t grey[GRELPICADO_MAX_EVENTS];
+    size_t number_of_grey = 0;
+    uint8_t number = judge(&table, LENGTHS, BLOCKS, &board);
+    if (number != GRELPICADO_DONE) {
+        return (grelpicado_length_answer){number, 0};
+    }
+    for (size_t e = 0; e < table.events; e++) {
+        if (is_grey(&table.event[e], records[RECORD * e + STATUS], &board)) {
+            grey[number_of_grey++] = (uint16_t)e;
+        }
+    }
+    if (list_length < number_of_grey) {
+        return (grelpicado_length_answer){GRELPICADO_ROOM_TOO_SMALL, 0};
+    }
+    memcpy(list, grey, number_of_grey * sizeof grey[0]);
+    return (grelpicado_length_answer){GRELPICADO_DONE, number_of_grey};
+}
+
 grelpicado_frame_answer plain_read_frame(LENT(const), size_t event)
 {
     struct table table;

@@ -1,16 +1,18 @@
-// Document 01, "Numbers a call answers with": the number of each answer, and the verdict, status, counter or length
-// beside it.
+// Document 01, "Numbers a call answers with": the number of each answer, and the verdict, status, counter, paint or
+// length beside it.
 use manual::Answer;
 use manual::CounterAnswer;
 use manual::FrameAnswer;
 use manual::LengthAnswer;
+use manual::Paint;
+use manual::PaintAnswer;
 use manual::Refusal;
 use manual::ReportAnswer;
 use manual::StatusAnswer;
 use manual::Verdict;
 ghost use mathlib.Core.Path.{_≡_};
 ghost use Rattle.manual.specs.Answers.{numberOf, ofAnswer, ofReport, ofStatus, ofCounter, counterAnswered, ofFrame};
-ghost use Rattle.manual.specs.Answers.{ofLength};
+ghost use Rattle.manual.specs.Answers.{ofPaint, paintAnswered, ofLength};
 
 pub fn refusal_number(r: Refusal) -> u8
     ensures { λ n. ⌜ n ≡ numberOf r ⌝ }
@@ -29,7 +31,7 @@ pub fn refusal_number(r: Refusal) -> u8
     }
 }
 
-// ---- fresh, tick, start, stop, clear and restore
+// ---- fresh, tick, start, stop, clear, restore and read table
 
 pub fn answer_number(a: Answer) -> u8
     ensures { λ n. ⌜ n ≡ ofAnswer a .number ⌝ }
@@ -100,6 +102,27 @@ pub fn counter(a: CounterAnswer) -> i8
     }
 }
 
+// ---- read paint
+
+pub fn paint_number(a: PaintAnswer) -> u8
+    ensures { λ n. ⌜ n ≡ ofPaint a .number ⌝ }
+{
+    match a {
+        PaintAnswer::Painted(_) => 0,
+        PaintAnswer::Refused(r) => refusal_number(r),
+    }
+}
+
+// "a refusal … paints grey"
+pub fn paint(a: PaintAnswer) -> Paint
+    ensures { λ p. ⌜ p ≡ paintAnswered a ⌝ }
+{
+    match a {
+        PaintAnswer::Painted(paint) => paint,
+        PaintAnswer::Refused(_) => Paint::Grey,
+    }
+}
+
 // ---- read frame
 
 pub fn frame_number(a: FrameAnswer) -> u8
@@ -111,7 +134,7 @@ pub fn frame_number(a: FrameAnswer) -> u8
     }
 }
 
-// ---- save and a diagnostic request
+// ---- save, a diagnostic request and list grey
 
 pub fn length_number(a: LengthAnswer) -> u8
     ensures { λ n. ⌜ n ≡ ofLength a .number ⌝ }

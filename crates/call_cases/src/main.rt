@@ -1,4 +1,4 @@
-// Runs the case files through the twelve calls, and prints the file and the line of each case that differs, and for
+// Runs the case files through the fifteen calls, and prints the file and the line of each case that differs, and for
 // each file how many calls ran and how many differed.
 //
 // A line of a case file begins with
@@ -13,6 +13,7 @@ use manual::EventNumber;
 use manual::FrameAnswer;
 use manual::FramePart;
 use manual::LengthAnswer;
+use manual::Paint;
 use manual::Returned;
 use manual::Verdict;
 ghost use Prim.Native.Nat.{_≤_};
@@ -76,6 +77,9 @@ enum Call {
 enum Reading {
     ReadStatus,
     ReadCounter,
+    ReadTable,
+    ReadPaint,
+    ListGrey,
     ReadFrame,
     Save,
 }
@@ -208,6 +212,15 @@ fn same_counter(says: &[u8], counter: i8) -> bool {
     text::integer(says, text::word(says, 2)) == counter as i32
 }
 
+fn same_paint(says: &[u8], paint: Paint) -> bool {
+    let at = text::word(says, 2);
+    match paint {
+        Paint::Grey => text::stands(says, at, b"grey"),
+        Paint::Red => text::stands(says, at, b"red"),
+        Paint::Live => text::stands(says, at, b"live"),
+    }
+}
+
 // Whether the frame stands where the line has it as from:to, and the part has the bytes that stand there in the memory
 // block.
 fn same_frame(says: &[u8], frame: FramePart, memory: &[u8], part: &[u8]) -> bool {
@@ -228,6 +241,12 @@ fn same_room(says: &[u8], answer: LengthAnswer, room: &[u8]) -> bool {
     same_number(says, answers::length_number(answer))
         & same_value(says, 2, answers::written_length(answer) as u64)
         & text::same_bytes(says, text::word(says, 3), room)
+}
+
+fn same_list(says: &[u8], answer: LengthAnswer, list: &[u16]) -> bool {
+    same_number(says, answers::length_number(answer))
+        & same_value(says, 2, answers::written_length(answer) as u64)
+        & text::same_counts(says, text::word(says, 3), list)
 }
 
 // ---- calls
@@ -320,6 +339,79 @@ fn run_read_counter(
     }
 }
 
+fn run_read_table(
+    says: &[u8],
+    cfg: &[i32],
+    records: &[u8],
+    debounce: &[i32],
+    memory: &[u8],
+    board: Board,
+) -> Given {
+    let returned = untested::read_table(cfg, records, debounce, memory, board);
+    let answer = returned.answer;
+    let counts = returned.counts;
+    Given {
+        agrees: same_number(says, answers::answer_number(answer))
+            & text::same_counts(says, text::word(says, 2), &counts),
+        board,
+    }
+}
+
+fn run_read_paint(
+    line: &[u8],
+    says: &[u8],
+    cfg: &[i32],
+    records: &[u8],
+    debounce: &[i32],
+    memory: &[u8],
+    board: Board,
+) -> Given {
+    let answer = untested::read_paint(cfg, records, debounce, memory, board, event_of(line));
+    Given {
+        agrees: same_number(says, answers::paint_number(answer))
+            & same_paint(says, answers::paint(answer)),
+        board,
+    }
+}
+
+fn list_into(
+    says: &[u8],
+    cfg: &[i32],
+    records: &[u8],
+    debounce: &[i32],
+    memory: &[u8],
+    board: Board,
+    list: &mut [u16],
+) -> Given {
+    let answer = untested::list_grey(cfg, records, debounce, memory, board, list);
+    Given {
+        agrees: same_list(says, answer, list),
+        board,
+    }
+}
+
+fn run_list_grey(
+    line: &[u8],
+    says: &[u8],
+    cfg: &[i32],
+    records: &[u8],
+    debounce: &[i32],
+    memory: &[u8],
+    board: Board,
+) -> Given {
+    let mut list = [0xA5A5u16; 1024];
+    let size = text::most_counts(room_of(line, 2), &list);
+    list_into(
+        says,
+        cfg,
+        records,
+        debounce,
+        memory,
+        board,
+        &mut list[..size],
+    )
+}
+
 fn run_read_frame(
     line: &[u8],
     says: &[u8],
@@ -390,6 +482,9 @@ fn run_reading(
     match call {
         Reading::ReadStatus => run_read_status(line, says, cfg, records, debounce, memory, board),
         Reading::ReadCounter => run_read_counter(line, says, cfg, records, debounce, memory, board),
+        Reading::ReadTable => run_read_table(says, cfg, records, debounce, memory, board),
+        Reading::ReadPaint => run_read_paint(line, says, cfg, records, debounce, memory, board),
+        Reading::ListGrey => run_list_grey(line, says, cfg, records, debounce, memory, board),
         Reading::ReadFrame => run_read_frame(line, says, cfg, records, debounce, memory, board),
         Reading::Save => run_save(line, says, cfg, records, debounce, memory, board),
     }
@@ -510,16 +605,21 @@ fn plain_call(line: &[u8]) -> Call {
     Call::Unknown
 }
 
-// The call of a line that begins with >.
-fn call_of(line: &[u8]) -> Call {
-    if text::stands(line, 2, b"report ") {
-        return Call::Report;
-    }
+fn reading_call(line: &[u8]) -> Call {
     if text::stands(line, 2, b"read_status ") {
         return Call::Reads(Reading::ReadStatus);
     }
     if text::stands(line, 2, b"read_counter ") {
         return Call::Reads(Reading::ReadCounter);
+    }
+    if text::stands(line, 2, b"table") {
+        return Call::Reads(Reading::ReadTable);
+    }
+    if text::stands(line, 2, b"paint ") {
+        return Call::Reads(Reading::ReadPaint);
+    }
+    if text::stands(line, 2, b"grey_list ") {
+        return Call::Reads(Reading::ListGrey);
     }
     if text::stands(line, 2, b"read_frame ") {
         return Call::Reads(Reading::ReadFrame);
@@ -527,10 +627,18 @@ fn call_of(line: &[u8]) -> Call {
     if text::stands(line, 2, b"save ") {
         return Call::Reads(Reading::Save);
     }
+    plain_call(line)
+}
+
+// The call of a line that begins with >.
+fn call_of(line: &[u8]) -> Call {
+    if text::stands(line, 2, b"report ") {
+        return Call::Report;
+    }
     if text::stands(line, 2, b"diagnose ") {
         return Call::Diagnose;
     }
-    plain_call(line)
+    reading_call(line)
 }
 
 // The word that has such a call's frame or image; word 0, which has none, for a call that takes neither.
@@ -968,4 +1076,5 @@ fn main() {
     run_file(b"document.txt");
     run_file(b"states.txt");
     run_file(b"stories.txt");
+    run_file(b"untested.txt");
 }

@@ -173,6 +173,25 @@ pub fn same_numbers(line: &[u8], at: usize, numbers: &[i32]) -> bool {
     !is_number(line, from)
 }
 
+fn wide(count: u16) -> u64 {
+    count as u64
+}
+
+// The same of numbers of 16 bits.
+pub fn same_counts(line: &[u8], at: usize, counts: &[u16]) -> bool {
+    let mut from = at;
+    for i in 0..counts.len() {
+        if !is_number(line, from) {
+            return false;
+        }
+        if decimal(line, from) != wide(counts[i]) {
+            return false;
+        }
+        from = next_number(line, from, b',');
+    }
+    !is_number(line, from)
+}
+
 // ---- hex bytes
 
 // A digit's worth; 16 for any other byte.
@@ -253,4 +272,11 @@ pub fn most_numbers(n: usize, numbers: &[i32]) -> usize
     ensures { λ r. ⌜ (r ≤ length (now (numbers .entry))) × (r ≡ length (take r (now (numbers .entry)))) ⌝ }
 {
     if n < numbers.len() { n } else { numbers.len() }
+}
+
+// The same of numbers of 16 bits.
+pub fn most_counts(n: usize, counts: &[u16]) -> usize
+    ensures { λ r. ⌜ (r ≤ length (now (counts .entry))) × (r ≡ length (take r (now (counts .entry)))) ⌝ }
+{
+    if n < counts.len() { n } else { counts.len() }
 }

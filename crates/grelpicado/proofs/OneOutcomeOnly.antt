@@ -1,4 +1,4 @@
--- The statement of each of the twelve calls allows one outcome only: one result, and of every block that the call may
+-- The statement of each of the fifteen calls allows one outcome only: one result, and of every block that the call may
 -- write one content, to the last byte.
 use mathlib.Core.Path.{_≡_, refl}
 use mathlib.Core.List.{List}
@@ -9,6 +9,7 @@ use Rattle.manual.specs.State.{State, lent}
 use Rattle.manual.specs.Answers.{lentRoom, alone}
 use Rattle.manual.specs.Calls.{fresh, report, tick, startCycle, stopCycle, clearCode, readStatus}
 use Rattle.manual.specs.Counter.{counterRead}
+use Rattle.manual.specs.Untested.{tableRead, paintRead, listGrey}
 use Rattle.manual.specs.Image.{save, restore}
 use Rattle.manual.specs.Diagnostics.{requestReply}
 use Rattle.manual.proofs.OneOutcomeOnly.{one-outcome}
@@ -18,12 +19,15 @@ use Rattle.grelpicado.specs.declared.PanelAnswer.{PanelAnswer}
 use Rattle.grelpicado.specs.declared.PanelReport.{PanelReport}
 use Rattle.grelpicado.specs.declared.PanelStatus.{PanelStatus}
 use Rattle.grelpicado.specs.declared.PanelCounter.{PanelCounter}
+use Rattle.grelpicado.specs.declared.PanelTable.{PanelTable}
+use Rattle.grelpicado.specs.declared.PanelPaint.{PanelPaint}
 use Rattle.grelpicado.specs.declared.PanelFrame.{PanelFrame}
 use Rattle.grelpicado.specs.declared.PanelLength.{PanelLength}
 use Rattle.grelpicado.specs.declared.PanelRequest.{PanelRequest}
 use Rattle.grelpicado.specs.Panel.{boardOf, Crossing, CounterCrossing, crosses, crossesWithoutBoard}
 use Rattle.grelpicado.specs.Panel.{crossesWithCounter, crossesWithFrame, withAnswer, withReport, withStatus}
 use Rattle.grelpicado.specs.Panel.{withCounter, withFrame, withLength, withRequest}
+use Rattle.grelpicado.specs.Panel.{TableCrossing, crossesWithTable, crossesWithPaint, withTable, withPaint}
 
 -- the blocks that cross
 same-blocks : {o y y′ : Crossing} → y ≡ o → y′ ≡ o
@@ -47,6 +51,12 @@ statusIn x = record { number = x .number; status = x .value }
 
 abbrev counterIn : CounterCrossing → PanelCounter
 counterIn x = record { number = x .rest .number; counter = x .counter }
+
+abbrev tableIn : TableCrossing → PanelTable
+tableIn x = record { number = x .rest .number; counts = x .counts }
+
+abbrev paintIn : Crossing → PanelPaint
+paintIn x = record { number = x .number; paint = x .value }
 
 abbrev frameIn : Crossing → PanelFrame
 frameIn x = record { number = x .number; start = x .start; length = x .value }
@@ -133,6 +143,18 @@ module _ (cfg : Configuration) (records₀ : List ℕ) (debounce₀ : List ℤ) 
       → r ≡ r′
   one-read-counter event r r′ p q = one-outcome counterIn refl refl p q
 
+  pub one-read-table : (r r′ : PanelTable)
+      → withTable records₀ debounce₀ memory₀ board r ≡ crossesWithTable (tableRead cfg alone given) board
+      → withTable records₀ debounce₀ memory₀ board r′ ≡ crossesWithTable (tableRead cfg alone given) board
+      → r ≡ r′
+  one-read-table r r′ p q = one-outcome tableIn refl refl p q
+
+  pub one-read-paint : (event : ℕ) (r r′ : PanelPaint)
+      → withPaint records₀ debounce₀ memory₀ board r ≡ crossesWithPaint (paintRead cfg event alone given) board
+      → withPaint records₀ debounce₀ memory₀ board r′ ≡ crossesWithPaint (paintRead cfg event alone given) board
+      → r ≡ r′
+  one-read-paint event r r′ p q = one-outcome paintIn refl refl p q
+
   pub one-read-frame : (event : ℕ) (r r′ : PanelFrame)
       → withFrame records₀ debounce₀ memory₀ board r ≡ crossesWithFrame (frameRead cfg event given) board
       → withFrame records₀ debounce₀ memory₀ board r′ ≡ crossesWithFrame (frameRead cfg event given) board
@@ -147,3 +169,12 @@ module _ (cfg : Configuration) (records₀ : List ℕ) (debounce₀ : List ℤ) 
       ≡ crossesWithoutBoard (save cfg (lentRoom before) given) board
       → (r ≡ r′) × (room ≡ room′)
   one-save before room room′ r r′ p q = (one-outcome lengthIn refl refl p q, same-room p q)
+
+  -- list grey writes the list
+  pub one-list-grey : (before list list′ : List ℕ) (r r′ : PanelLength)
+      → withLength records₀ debounce₀ memory₀ list board r
+      ≡ crossesWithoutBoard (listGrey cfg (lentRoom before) given) board
+      → withLength records₀ debounce₀ memory₀ list′ board r′
+      ≡ crossesWithoutBoard (listGrey cfg (lentRoom before) given) board
+      → (r ≡ r′) × (list ≡ list′)
+  one-list-grey before list list′ r r′ p q = (one-outcome lengthIn refl refl p q, same-room p q)

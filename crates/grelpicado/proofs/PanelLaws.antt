@@ -14,17 +14,22 @@ use Rattle.manual.specs.declared.FrameAnswer.{FrameAnswer}
 use Rattle.manual.specs.declared.FrameAnswer.the-variants.{At}
 use Rattle.manual.specs.declared.LengthAnswer.{LengthAnswer}
 use Rattle.manual.specs.declared.LengthAnswer.the-variants.{Written}
+use Rattle.manual.specs.declared.PaintAnswer.{PaintAnswer}
+use Rattle.manual.specs.declared.PaintAnswer.the-variants.{Painted}
 use Rattle.manual.specs.declared.ReportAnswer.{ReportAnswer}
 use Rattle.manual.specs.declared.ReportAnswer.the-variants.{Accepted}
 use Rattle.manual.specs.declared.StatusAnswer.{StatusAnswer}
 use Rattle.manual.specs.declared.StatusAnswer.the-variants.{Status}
+use Rattle.manual.specs.declared.TableReturned.{TableReturned}
 use Rattle.manual.specs.State.{State}
 use Rattle.manual.specs.Answers.{lentRoom, Answered, ofAnswer, ofReport, ofStatus, ofCounter, counterAnswered}
-use Rattle.manual.specs.Answers.{ofFrame, ofLength, leaves}
+use Rattle.manual.specs.Answers.{ofPaint, paintAnswered, ofFrame, ofLength, leaves}
 use Rattle.queries.specs.Reading.{tells, startIn, lengthIn, says}
+use Rattle.untested.specs.Page.{tableTold, paintTold}
 use Rattle.grelpicado.specs.declared.PanelBoard.{PanelBoard}
 use Rattle.grelpicado.specs.Panel.{boardOf, bytesOf, verdictNumber, crosses}
 use Rattle.grelpicado.specs.Panel.{crossesWithoutBoard, crossesWithCounter, crossesWithFrame, made}
+use Rattle.grelpicado.specs.Panel.{paintNumber, crossesWithTable, crossesWithPaint}
 
 -- ---- what an answer does not have is 0
 
@@ -47,6 +52,10 @@ status-verdict (StatusAnswer.Refused r) = refl
 pub counter-verdict : (a : CounterAnswer) → 0 ≡ verdictNumber (ofCounter a .verdict)
 counter-verdict (Counter z) = refl
 counter-verdict (CounterAnswer.Refused r) = refl
+
+pub paint-verdict : (a : PaintAnswer) → 0 ≡ verdictNumber (ofPaint a .verdict)
+paint-verdict (Painted p) = refl
+paint-verdict (PaintAnswer.Refused r) = refl
 
 pub frame-verdict : (a : FrameAnswer) → 0 ≡ verdictNumber (ofFrame a .verdict)
 frame-verdict (At part) = refl
@@ -86,6 +95,23 @@ crossed-with-counter a s found number counter =
       rest = made (number i) (counter-verdict a i) 0 0 (s .records) (s .debounce) (s .memory) [] found;
       counter = counter i;
     }
+
+pub crossed-with-table : (t : TableReturned) (s : State) (found : PanelBoard) {n : ℕ} → n ≡ ofAnswer (t .answer) .number
+    → record { rest = made n 0 0 0 (s .records) (s .debounce) (s .memory) [] found; counts = t .counts }
+    ≡ crossesWithTable (tableTold t s) found
+unfolding crossesWithTable
+crossed-with-table t s found number =
+    λ i. record {
+      rest = made (number i) (answer-verdict (t .answer) i) 0 0 (s .records) (s .debounce) (s .memory) [] found;
+      counts = t .counts;
+    }
+
+pub crossed-with-paint : (a : PaintAnswer) (s : State) (found : PanelBoard) {n p : ℕ} → n ≡ ofPaint a .number
+    → p ≡ paintNumber (paintAnswered a)
+    → made n 0 p 0 (s .records) (s .debounce) (s .memory) [] found ≡ crossesWithPaint (paintTold a s) found
+unfolding crossesWithPaint
+crossed-with-paint a s found number paint =
+    λ i. made (number i) (paint-verdict a i) (paint i) 0 (s .records) (s .debounce) (s .memory) [] found
 
 pub crossed-with-frame : (a : FrameAnswer) (s : State) (found : PanelBoard) {n start size : ℕ} → n ≡ ofFrame a .number
     → start ≡ startIn a → size ≡ lengthIn a

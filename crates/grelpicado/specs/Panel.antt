@@ -7,17 +7,22 @@ use lib.Dec.{eqb}
 use lib.IntN.{ℤ}
 use lib.ListN.{getD}
 use Rattle.manual.specs.declared.Board.{Board}
+use Rattle.manual.specs.declared.Paint.{Paint}
+use Rattle.manual.specs.declared.Paint.the-variants.{Grey, Red, Live}
 use Rattle.manual.specs.declared.Verdict.{Verdict}
 use Rattle.manual.specs.declared.Verdict.the-variants.{None, Passed, Failed}
 use Rattle.manual.specs.State.{runs}
 use Rattle.manual.specs.Answers.{Outcome}
 use Rattle.manual.specs.Counter.{CounterRead}
+use Rattle.manual.specs.Untested.{TableRead, PaintRead}
 use Rattle.queries.specs.Reading.{FrameRead}
 use Rattle.grelpicado.specs.declared.PanelBoard.{PanelBoard}
 use Rattle.grelpicado.specs.declared.PanelAnswer.{PanelAnswer}
 use Rattle.grelpicado.specs.declared.PanelReport.{PanelReport}
 use Rattle.grelpicado.specs.declared.PanelStatus.{PanelStatus}
 use Rattle.grelpicado.specs.declared.PanelCounter.{PanelCounter}
+use Rattle.grelpicado.specs.declared.PanelTable.{PanelTable}
+use Rattle.grelpicado.specs.declared.PanelPaint.{PanelPaint}
 use Rattle.grelpicado.specs.declared.PanelFrame.{PanelFrame}
 use Rattle.grelpicado.specs.declared.PanelLength.{PanelLength}
 use Rattle.grelpicado.specs.declared.PanelRequest.{PanelRequest}
@@ -56,8 +61,14 @@ verdictNumber None = 0
 verdictNumber Passed = 1
 verdictNumber Failed = 2
 
--- All that crosses, back to the caller: the answer's number; a report's verdict; the status or length; where the frame
--- part starts; every lent block as the call leaves it; the output room; the board.
+-- "grey if …, else red if …, else live": 0, 1, 2
+abbrev pub paintNumber : Paint → ℕ
+paintNumber Grey = 0
+paintNumber Red = 1
+paintNumber Live = 2
+
+-- All that crosses, back to the caller: the answer's number; a report's verdict; the status, paint or length; where the
+-- frame part starts; every lent block as the call leaves it; the output room; the board.
 pub record Crossing : Type 0 where
   pub number : ℕ
   pub verdict : ℕ
@@ -114,6 +125,18 @@ pub record CounterCrossing : Type 0 where
 unfoldable pub crossesWithCounter : CounterRead → PanelBoard → CounterCrossing
 crossesWithCounter c found = record { rest = crossing (c .outcome) 0 0 found; counter = c .counter }
 
+-- the same of read paint: the value is the paint
+unfoldable pub crossesWithPaint : PaintRead → PanelBoard → Crossing
+crossesWithPaint p found = crossing (p .outcome) (paintNumber (p .paint)) 0 found
+
+-- the same of read table: beside all that, the counts
+pub record TableCrossing : Type 0 where
+  pub rest : Crossing
+  pub counts : List ℕ
+
+unfoldable pub crossesWithTable : TableRead → PanelBoard → TableCrossing
+crossesWithTable t found = record { rest = crossing (t .outcome) 0 0 found; counts = t .counts }
+
 -- ---- a result, with the blocks as they are at the end of the call; what a result does not have is 0, or empty
 
 module _ (records : List ℕ) (debounce : List ℤ) (memory : List ℕ) where
@@ -134,11 +157,19 @@ module _ (records : List ℕ) (debounce : List ℤ) (memory : List ℕ) where
   withCounter board r =
       record { rest = made (r .number) 0 0 0 records debounce memory [] board; counter = r .counter }
 
+  -- read table: the board is the caller's
+  abbrev pub withTable : PanelBoard → PanelTable → TableCrossing
+  withTable board r = record { rest = made (r .number) 0 0 0 records debounce memory [] board; counts = r .counts }
+
+  -- read paint: the value is the paint, the board the caller's
+  abbrev pub withPaint : PanelBoard → PanelPaint → Crossing
+  withPaint board r = made (r .number) 0 (r .paint) 0 records debounce memory [] board
+
   -- read frame: the value is the length, the board the caller's
   abbrev pub withFrame : PanelBoard → PanelFrame → Crossing
   withFrame board r = made (r .number) 0 (r .length) (r .start) records debounce memory [] board
 
-  -- save: the value is the length, the board the caller's
+  -- save and list grey: the value is the length, the board the caller's
   abbrev pub withLength : List ℕ → PanelBoard → PanelLength → Crossing
   withLength room board r = made (r .number) 0 (r .length) 0 records debounce memory room board
 

@@ -1,4 +1,4 @@
-// The twelve calls for a caller in C, as grelpicado.h declares them. Each reads the board's bytes, makes the call, and
+// The fifteen calls for a caller in C, as grelpicado.h declares them. Each reads the board's bytes, makes the call, and
 // hands back its numbers and the board.
 use diagnostics::RequestReturned;
 use manual::Board;
@@ -6,9 +6,12 @@ use manual::CounterAnswer;
 use manual::EventNumber;
 use manual::FrameAnswer;
 use manual::LengthAnswer;
+use manual::Paint;
+use manual::PaintAnswer;
 use manual::ReportReturned;
 use manual::Returned;
 use manual::StatusAnswer;
+use manual::TableReturned;
 use manual::Verdict;
 ghost use mathlib.Core.Path.{_≡_};
 ghost use mathlib.Core.Bool.{cond};
@@ -20,11 +23,14 @@ ghost use Rattle.manual.specs.State.{State, lent};
 ghost use Rattle.manual.specs.Answers.{alone, lentRoom, ofAnswer, ofReport, ofStatus, ofLength, leaves};
 ghost use Rattle.manual.specs.Calls.{fresh, report, tick, startCycle, stopCycle, clearCode, readStatus};
 ghost use Rattle.manual.specs.Counter.{counterRead};
+ghost use Rattle.manual.specs.Untested.{tableRead, paintRead, listGrey};
 ghost use Rattle.manual.specs.Image.{save, restore};
 ghost use Rattle.manual.specs.Diagnostics.{requestReply};
 ghost use Rattle.queries.specs.Reading.{tells, startIn, lengthIn, says, frameRead};
+ghost use Rattle.untested.specs.Page.{tableTold, paintTold};
 ghost use Rattle.grelpicado.specs.Panel.{yes, flagByte, boardOf, bytesOf, verdictNumber, crosses};
 ghost use Rattle.grelpicado.specs.Panel.{crossesWithoutBoard, crossesWithCounter, crossesWithFrame, withAnswer};
+ghost use Rattle.grelpicado.specs.Panel.{paintNumber, crossesWithTable, crossesWithPaint, withTable, withPaint};
 ghost use Rattle.grelpicado.specs.Panel.{withReport, withStatus, withCounter, withFrame, withLength, withRequest};
 
 // ---- what crosses by value
@@ -65,6 +71,20 @@ pub struct PanelCounter {
     pub counter: i8,
 }
 
+// The answer of read table: cycle by cycle, bit 0 first.
+#[repr(C)]
+pub struct PanelTable {
+    pub number: u8,
+    pub counts: [u16; manual::CYCLES * manual::BITS],
+}
+
+// The answer of read paint. The paint: 0 grey, 1 red, 2 live.
+#[repr(C)]
+pub struct PanelPaint {
+    pub number: u8,
+    pub paint: u8,
+}
+
 // The answer of read frame: where the frame starts in the caller's own memory block, and its length.
 #[repr(C)]
 pub struct PanelFrame {
@@ -73,7 +93,7 @@ pub struct PanelFrame {
     pub length: usize,
 }
 
-// The answer of save: how many bytes of the room were written.
+// The answer of save and of list grey: how many bytes of the room, or numbers of the list, were written.
 #[repr(C)]
 pub struct PanelLength {
     pub number: u8,
@@ -156,6 +176,17 @@ fn verdict_number(verdict: Verdict) -> u8
         Verdict::None => 0,
         Verdict::Passed => 1,
         Verdict::Failed => 2,
+    }
+}
+
+// "grey if …, else red if …, else live"
+fn paint_number(paint: Paint) -> u8
+    ensures { λ r. ⌜ r ≡ paintNumber paint ⌝ }
+{
+    match paint {
+        Paint::Grey => 0,
+        Paint::Red => 1,
+        Paint::Live => 2,
     }
 }
 
@@ -255,6 +286,30 @@ pub(crate) fn counter_of(answer: CounterAnswer) -> PanelCounter
     }
 }
 
+// Read table hands back no board.
+pub(crate) fn table_of(returned: TableReturned) -> PanelTable
+    ensures { λ r. ⌜ ((s : State) (found : PanelBoard)
+        → withTable (s .records) (s .debounce) (s .memory) found r ≡ crossesWithTable (tableTold returned s) found) ⌝ }
+{
+    let answer = returned.answer;
+    let counts = returned.counts;
+    PanelTable {
+        number: answers::answer_number(answer),
+        counts,
+    }
+}
+
+// Read paint hands back no board.
+pub(crate) fn paint_of(answer: PaintAnswer) -> PanelPaint
+    ensures { λ r. ⌜ ((s : State) (found : PanelBoard)
+        → withPaint (s .records) (s .debounce) (s .memory) found r ≡ crossesWithPaint (paintTold answer s) found) ⌝ }
+{
+    PanelPaint {
+        number: answers::paint_number(answer),
+        paint: paint_number(answers::paint(answer)),
+    }
+}
+
 // Read frame hands back no board.
 pub(crate) fn frame_of(answer: FrameAnswer) -> PanelFrame
     ensures { λ r. ⌜ ((s : State) (found : PanelBoard)
@@ -267,7 +322,7 @@ pub(crate) fn frame_of(answer: FrameAnswer) -> PanelFrame
     }
 }
 
-// Save hands back no board.
+// Save and list grey hand back no board.
 pub(crate) fn length_of(answer: LengthAnswer) -> PanelLength
     ensures { λ r. ⌜ ((s : State) (room : List ℕ) (found : PanelBoard)
         → withLength (s .records) (s .debounce) (s .memory) room found r
@@ -279,7 +334,7 @@ pub(crate) fn length_of(answer: LengthAnswer) -> PanelLength
     }
 }
 
-// ---- the twelve calls
+// ---- the fifteen calls
 
 // "Fresh: status 50h, K = h = g = 0, D = 0, memory empty (all bytes 0), cycles stopped, overflow clear."
 #[no_mangle]
@@ -458,6 +513,70 @@ pub extern "C" fn grelpicado_read_counter(
     let given = board_of(board);
     let answer = queries::read_counter(cfg, records, debounce, memory, given, EventNumber(event));
     counter_of(answer)
+}
+
+// Document 02, W10: "for each of the four cycles and each of the eight bits, the events of that cycle with the bit
+// set".
+#[no_mangle]
+pub extern "C" fn grelpicado_read_table(
+    cfg: &[i32],
+    records: &[u8],
+    debounce: &[i32],
+    memory: &[u8],
+    board: PanelBoard,
+) -> PanelTable
+    ensures { λ r. ⌜ withTable (now (records .entry)) (now (debounce .entry)) (now (memory .entry)) board r
+        ≡ crossesWithTable
+        (tableRead (now (cfg .entry)) alone
+        (lent (now (records .entry)) (now (debounce .entry)) (now (memory .entry)) (boardOf board)))
+        board ⌝ }
+{
+    let given = board_of(board);
+    let returned = untested::read_table(cfg, records, debounce, memory, given);
+    table_of(returned)
+}
+
+// Document 02, W10: "grey if bit 6 is set or its cycle is stopped, else red if bit 0 is set, else live".
+#[no_mangle]
+pub extern "C" fn grelpicado_read_paint(
+    cfg: &[i32],
+    records: &[u8],
+    debounce: &[i32],
+    memory: &[u8],
+    board: PanelBoard,
+    event: usize,
+) -> PanelPaint
+    ensures { λ r. ⌜ withPaint (now (records .entry)) (now (debounce .entry)) (now (memory .entry)) board r
+        ≡ crossesWithPaint
+        (paintRead (now (cfg .entry)) event alone
+        (lent (now (records .entry)) (now (debounce .entry)) (now (memory .entry)) (boardOf board)))
+        board ⌝ }
+{
+    let given = board_of(board);
+    let answer = untested::read_paint(cfg, records, debounce, memory, given, EventNumber(event));
+    paint_of(answer)
+}
+
+// Document 02, W10: "List the grey events in rising order, complete, into a lent slice of 16-bit numbers".
+#[no_mangle]
+pub extern "C" fn grelpicado_list_grey(
+    cfg: &[i32],
+    records: &[u8],
+    debounce: &[i32],
+    memory: &[u8],
+    board: PanelBoard,
+    list: &mut [u16],
+) -> PanelLength
+    ensures { λ r. ⌜
+        withLength (now (records .entry)) (now (debounce .entry)) (now (memory .entry)) (now (list .exit)) board r
+        ≡ crossesWithoutBoard
+        (listGrey (now (cfg .entry)) (lentRoom (now (list .entry)))
+        (lent (now (records .entry)) (now (debounce .entry)) (now (memory .entry)) (boardOf board)))
+        board ⌝ }
+{
+    let given = board_of(board);
+    let answer = untested::list_grey(cfg, records, debounce, memory, given, list);
+    length_of(answer)
 }
 
 // "The stored frame is read as a part of the caller's own memory block, no copy."

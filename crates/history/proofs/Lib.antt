@@ -4,6 +4,7 @@ pub mod WordsLaws
 pub mod StatusByteLaws
 pub mod Results
 pub mod Runs
+pub mod LastResult
 pub mod Standing
 pub mod Counts
 pub mod ByteIsReading

@@ -3,3 +3,4 @@ pub mod StatusByte
 pub mod WellFormed
 pub mod History
 pub mod Legal
+pub mod Untested

@@ -13,10 +13,12 @@ use Rattle.manual.specs.State.{State}
 use Rattle.manual.specs.Answers.{Beside, Outcome, refused, Rule, firstThatApplies}
 use Rattle.manual.specs.Answers.{judged, Given, done-by, refusal-by}
 use Rattle.manual.specs.Counter.{readCounter}
+use Rattle.manual.specs.Untested.{readTable, readPaint, listGrey}
 use Rattle.manual.specs.Calls.{fresh, report, tick, startCycle, stopCycle, clearCode, readStatus, readFrame}
 use Rattle.manual.specs.Image.{save, restore}
 use Rattle.manual.specs.Diagnostics.{sent, requestReply}
-use Rattle.manual.specs.Sequences.{Query, ReadStatus, ReadFrame, ReadCounter, Save, Call, Fresh, Report, Tick}
+use Rattle.manual.specs.Sequences.{Query, ReadStatus, ReadFrame, ReadCounter, ReadTable, ReadPaint, ListGrey}
+use Rattle.manual.specs.Sequences.{Save, Call, Fresh, Report, Tick}
 use Rattle.manual.specs.Sequences.{Start, Stop, Clear, Read, Restore, Request, outcome, rulesOf}
 use Rattle.manual.proofs.AnswersLaws.{left-alone}
 use Rattle.manual.proofs.WordsLaws.{clash}
@@ -69,10 +71,13 @@ module _ (cfg : Configuration) where
     is : outcome cfg c b s ≡ judged (rulesOf cfg c b s) b s accepts
 
   judges-query : (q : Query) (b : Beside) (s : State) → Judged (Read q) b s
-  unfolding readStatus readFrame readCounter save
+  unfolding readStatus readFrame readCounter readTable readPaint listGrey save
   judges-query (ReadStatus k) b s = record { accepts = _; zero = refl; is = refl }
   judges-query (ReadFrame k) b s = record { accepts = _; zero = refl; is = refl }
   judges-query (ReadCounter k) b s = record { accepts = _; zero = refl; is = refl }
+  judges-query ReadTable b s = record { accepts = _; zero = refl; is = refl }
+  judges-query (ReadPaint k) b s = record { accepts = _; zero = refl; is = refl }
+  judges-query ListGrey b s = record { accepts = _; zero = refl; is = refl }
   judges-query Save b s = record { accepts = _; zero = refl; is = refl }
 
   judges : (c : Call) (b : Beside) (s : State) → Judged c b s

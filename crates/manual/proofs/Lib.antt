@@ -20,6 +20,7 @@ pub mod EntriesInACallLaws
 pub mod RepliesLaws
 pub mod BelowLaws
 pub mod ListedRepliesLaws
+pub mod UntestedLaws
 pub mod AnswerIsFirstThatApplies
 pub mod OneOutcomeOnly
 pub mod StaysWellFormed
@@ -41,5 +42,8 @@ pub mod HistoriesAreLegal
 pub mod WellFormedInEverySequence
 pub mod ByteIsReadingInEverySequence
 pub mod NoCallLeftOut
+pub mod TheTableCountsEachEvent
+pub mod TheGreyListIsComplete
+pub mod PaintIsReadOffTheHistory
 pub mod Examples
 pub mod ExamplesAreASequence

@@ -121,7 +121,7 @@ module _ {A : Type 0} (of : A → Answered) (from : Answered → A) (back : (a :
       one-outcome (λ (y : Outcome). from (answered (y .answer) (y .verdict) (y .value))) (back a) (back a′) p q
 
 module _ {o : Outcome} {part part′ : List ℕ} {b b′ : Beside} {s s′ : State} where
-  same-answer : (a a′ : Answer) → leaves (ofAnswer a) part b s ≡ o → leaves (ofAnswer a′) part′ b′ s′ ≡ o → a ≡ a′
+  pub same-answer : (a a′ : Answer) → leaves (ofAnswer a) part b s ≡ o → leaves (ofAnswer a′) part′ b′ s′ ≡ o → a ≡ a′
   same-answer = same-numbers ofAnswer answerOf answer-back
 
   -- report

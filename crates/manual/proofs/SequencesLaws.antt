@@ -19,10 +19,12 @@ use Rattle.manual.specs.Counter.{readCounter}
 use Rattle.manual.specs.Calls.{fresh, reportRules, applied, debouncedBy, report, tickRules, timeRuns, ticks}
 use Rattle.manual.specs.Calls.{tick, ofCycle, startRules, startCycle, stopRules, stopCycle, covers, unknownCode}
 use Rattle.manual.specs.Calls.{cleared, clearRules, clearCode, readStatus, readFrame}
+use Rattle.manual.specs.Untested.{readTable, readPaint, listGrey}
 use Rattle.manual.specs.Image.{save, restore}
 use Rattle.manual.specs.Diagnostics.{positive, negative, Served, served, service14}
 use Rattle.manual.specs.Diagnostics.{servedBy, sent, requestRules, requestReply}
-use Rattle.manual.specs.Sequences.{Query, ReadStatus, ReadFrame, ReadCounter, Save}
+use Rattle.manual.specs.Sequences.{Query, ReadStatus, ReadFrame, ReadCounter, ReadTable, ReadPaint, ListGrey}
+use Rattle.manual.specs.Sequences.{Save}
 use Rattle.manual.specs.Sequences.{Call, Fresh, Report, Tick, Start, Stop}
 use Rattle.manual.specs.Sequences.{Clear, Read, Restore, Request, answerTo, onlyIf, outcome, asksClear, gives}
 use Rattle.manual.specs.Sequences.{tokens, tokensAt, goesOn}
@@ -151,10 +153,13 @@ module _ (cfg : Configuration) where
 
   -- a call that only reads leaves the state as it was, accepted or refused
   pub query-leaves : (q : Query) (b : Beside) (s : State) → answerTo cfg q b s .state ≡ s
-  unfolding readStatus readFrame readCounter save
+  unfolding readStatus readFrame readCounter readTable readPaint listGrey save
   query-leaves (ReadStatus k) b s = judged-leaves _ b s _ refl
   query-leaves (ReadFrame k) b s = judged-leaves _ b s _ refl
   query-leaves (ReadCounter k) b s = judged-leaves _ b s _ refl
+  query-leaves ReadTable b s = judged-leaves _ b s _ refl
+  query-leaves (ReadPaint k) b s = judged-leaves _ b s _ refl
+  query-leaves ListGrey b s = judged-leaves _ b s _ refl
   query-leaves Save b s = judged-leaves _ b s _ refl
 
   query-does : (q : Query) (b : Beside) (s : State) → Either (Does s (Read q)) s (answerTo cfg q b s)

@@ -20,14 +20,18 @@ use Rattle.manual.specs.declared.StatusAnswer.{StatusAnswer}
 use Rattle.manual.specs.declared.StatusAnswer.the-variants.{Status}
 use Rattle.manual.specs.declared.CounterAnswer.{CounterAnswer}
 use Rattle.manual.specs.declared.CounterAnswer.the-variants.{Counter}
+use Rattle.manual.specs.declared.Paint.{Paint}
+use Rattle.manual.specs.declared.Paint.the-variants.{Grey}
+use Rattle.manual.specs.declared.PaintAnswer.{PaintAnswer}
+use Rattle.manual.specs.declared.PaintAnswer.the-variants.{Painted}
 use Rattle.manual.specs.declared.FrameAnswer.{FrameAnswer}
 use Rattle.manual.specs.declared.FrameAnswer.the-variants.{At}
 use Rattle.manual.specs.declared.LengthAnswer.{LengthAnswer}
 use Rattle.manual.specs.declared.LengthAnswer.the-variants.{Written}
 use Rattle.manual.specs.State.{State}
 
--- What is lent beside the blocks and the board for a call to write: the output room. A call that is not lent it leaves
--- it as it is.
+-- What is lent beside the blocks and the board for a call to write: the output room, of bytes or, to list the grey
+-- events, of 16-bit numbers. A call that is not lent it leaves it as it is.
 pub record Beside : Type 0 where
   pub room : List ℕ
 
@@ -130,6 +134,15 @@ ofCounter (CounterAnswer.Refused r) = answered (numberOf r) None 0
 abbrev pub counterAnswered : CounterAnswer → ℤ
 counterAnswered (Counter z) = z
 counterAnswered (CounterAnswer.Refused r) = pos 0
+
+-- the paint is said beside it; "a refusal … paints grey"
+abbrev pub ofPaint : PaintAnswer → Answered
+ofPaint (Painted p) = answered 0 None 0
+ofPaint (PaintAnswer.Refused r) = answered (numberOf r) None 0
+
+abbrev pub paintAnswered : PaintAnswer → Paint
+paintAnswered (Painted p) = p
+paintAnswered (PaintAnswer.Refused r) = Grey
 
 -- the part is said of the caller's block beside it
 abbrev pub ofFrame : FrameAnswer → Answered

@@ -11,6 +11,7 @@ pub mod Calls
 pub mod Counter
 pub mod Diagnostics
 pub mod Replies
+pub mod Untested
 pub mod Image
 pub mod Sequences
 pub mod EntriesInACall

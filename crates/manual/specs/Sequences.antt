@@ -19,15 +19,16 @@ use Rattle.manual.specs.Calls.{freshRules, reportRules, tickRules, start
 use Rattle.manual.specs.Calls.{readStatusRules, readFrameRules, fresh, report, tick, startCycle, stopCycle}
 use Rattle.manual.specs.Calls.{clearCode, readStatus, readFrame, timeRuns, ofCycle, covers, unknownCode}
 use Rattle.manual.specs.Counter.{readCounterRules, readCounter}
+use Rattle.manual.specs.Untested.{readTableRules, readPaintRules, listGreyRules, readTable, readPaint, listGrey}
 use Rattle.manual.specs.Image.{saveRules, restoreRules, save, restore}
 use Rattle.manual.specs.Diagnostics.{requestRules, requestReply}
 
 -- the calls that only read the blocks and the board, with any arguments whatever
 pub data Query : Type 0 where
-  ReadStatus ReadFrame ReadCounter : ℕ → Query
-  Save : Query
+  ReadStatus ReadFrame ReadCounter ReadPaint : ℕ → Query
+  ReadTable ListGrey Save : Query
 
--- all twelve calls, with any arguments whatever
+-- all fifteen calls, with any arguments whatever
 pub data Call : Type 0 where
   Fresh : Call
   Report : ℕ → ℕ → List ℕ → Call
@@ -66,6 +67,9 @@ module _ (cfg : Configuration) where
   answerTo (ReadStatus k) b s = readStatus cfg k b s
   answerTo (ReadFrame k) b s = readFrame cfg k b s
   answerTo (ReadCounter k) b s = readCounter cfg k b s
+  answerTo ReadTable b s = readTable cfg b s
+  answerTo (ReadPaint k) b s = readPaint cfg k b s
+  answerTo ListGrey b s = listGrey cfg b s
   answerTo Save b s = save cfg b s
 
   abbrev pub outcome : Call → Beside → State → Outcome
@@ -84,6 +88,9 @@ module _ (cfg : Configuration) where
   queryRules (ReadStatus k) b s = readStatusRules cfg k s
   queryRules (ReadFrame k) b s = readFrameRules cfg k s
   queryRules (ReadCounter k) b s = readCounterRules cfg k s
+  queryRules ReadTable b s = readTableRules cfg s
+  queryRules (ReadPaint k) b s = readPaintRules cfg k s
+  queryRules ListGrey b s = listGreyRules cfg b s
   queryRules Save b s = saveRules cfg b s
 
   abbrev pub rulesOf : Call → Beside → State → List Rule

@@ -37,6 +37,9 @@ pub const MOST_MEMORY: usize = 1 + MOST_PLACES * (3 + MOST_PAYLOAD);
 // "which of the four cycles run"
 pub const CYCLES: usize = 4;
 
+// "The eight bits have the names and weights of ISO 14229-1."
+pub const BITS: usize = 8;
+
 // "Board: which of the four cycles run, and an overflow flag."
 pub struct Board {
     pub running: [bool; CYCLES],
@@ -92,6 +95,19 @@ pub enum CounterAnswer {
     Refused(Refusal),
 }
 
+// Document 02, W10: "each event gets a paint".
+pub enum Paint {
+    Grey,
+    Red,
+    Live,
+}
+
+// The answer of read paint.
+pub enum PaintAnswer {
+    Painted(Paint),
+    Refused(Refusal),
+}
+
 // A stored frame, as a part of the caller's own memory block: where it starts, and its length.
 pub struct FramePart {
     pub start: usize,
@@ -104,7 +120,8 @@ pub enum FrameAnswer {
     Refused(Refusal),
 }
 
-// The answer of save and of a diagnostic request: how many bytes of the room were written.
+// The answer of save and of a diagnostic request: how many bytes of the room were written; and of list grey: how many
+// numbers.
 pub enum LengthAnswer {
     Written(usize),
     Refused(Refusal),
@@ -120,4 +137,10 @@ pub struct Returned {
 pub struct ReportReturned {
     pub answer: ReportAnswer,
     pub board: Board,
+}
+
+// What read table hands back: its answer, and "a four by eight table of counts", cycle by cycle, bit 0 first.
+pub struct TableReturned {
+    pub answer: Answer,
+    pub counts: [u16; CYCLES * BITS],
 }

@@ -35,8 +35,8 @@ fn four(no_such: bool) -> Check
     Check::Go
 }
 
-// 2, 3, then 4: with these the three calls begin.
-fn judge(
+// 2, 3, then 4: with these every call that reads something of one event begins.
+pub fn judge(
     cfg: &[i32],
     records: &[u8],
     debounce: &[i32],

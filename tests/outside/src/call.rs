@@ -1,6 +1,6 @@
 //! One call with its arguments, what it answers, and how the reference takes it.
 
-use crate::reference::{self, State, Verdict, DONE};
+use crate::reference::{self, Paint, State, Verdict, DONE};
 use std::fmt;
 
 #[derive(Clone, PartialEq, Eq, Debug)]
@@ -44,6 +44,15 @@ pub enum Call {
     ReadCounter {
         event: usize,
     },
+    /// Its counts stand in the room.
+    ReadTable,
+    ReadPaint {
+        event: usize,
+    },
+    /// The list by how many numbers it holds; they stand in the room.
+    ListGrey {
+        numbers: usize,
+    },
 }
 
 /// What a call answers beside its number and the board.
@@ -54,6 +63,8 @@ pub enum Values {
     Verdict(u8),
     Status(u8),
     Counter(i64),
+    /// 0 grey, 1 red, 2 live.
+    Paint(u8),
     Frame {
         start: usize,
         length: usize,
@@ -67,8 +78,8 @@ pub struct Outcome {
     pub values: Values,
 }
 
-/// The twelve calls, and the numbers each can answer with.
-pub const ANSWERS: [(&str, &[u8]); 12] = [
+/// The fifteen calls, and the numbers each can answer with.
+pub const ANSWERS: [(&str, &[u8]); 15] = [
     ("fresh", &[0, 2, 3]),
     ("report", &[0, 2, 3, 4, 1, 6, 9, 5]),
     ("tick", &[0, 2, 3, 1, 9]),
@@ -81,6 +92,9 @@ pub const ANSWERS: [(&str, &[u8]); 12] = [
     ("restore", &[0, 2, 3, 8]),
     ("request", &[0, 2, 3, 7, 1]),
     ("read counter", &[0, 2, 3, 4]),
+    ("read table", &[0, 2, 3]),
+    ("read paint", &[0, 2, 3, 4]),
+    ("list grey", &[0, 2, 3, 7]),
 ];
 
 impl Call {
@@ -99,13 +113,18 @@ impl Call {
             Call::Restore { .. } => 9,
             Call::Request { .. } => 10,
             Call::ReadCounter { .. } => 11,
+            Call::ReadTable => 12,
+            Call::ReadPaint { .. } => 13,
+            Call::ListGrey { .. } => 14,
         }
     }
 
-    /// The length of the room that is lent; 0 for a call that takes none.
+    /// The bytes of the room that is lent; 0 for a call that takes none.
     pub fn room(&self) -> usize {
         match self {
             Call::Save { room } | Call::Request { room, .. } => *room,
+            Call::ReadTable => 2 * reference::COUNTS,
+            Call::ListGrey { numbers } => 2 * numbers,
             _ => 0,
         }
     }
@@ -126,7 +145,8 @@ impl Call {
             Call::Report { event, code, .. } => (*event, *code),
             Call::ReadStatus { event }
             | Call::ReadFrame { event }
-            | Call::ReadCounter { event } => (*event, 0),
+            | Call::ReadCounter { event }
+            | Call::ReadPaint { event } => (*event, 0),
             Call::Tick { ms, .. } => (*ms as usize, 0),
             Call::Start { cycle } | Call::Stop { cycle } => (*cycle as usize, 0),
             Call::Clear { code } => (*code as usize, 0),
@@ -134,13 +154,16 @@ impl Call {
         }
     }
 
-    /// Read status, read frame, read counter and save cannot change the board, and hand none back.
+    /// The calls that only read cannot change the board, and hand none back.
     pub fn hands_back_board(&self) -> bool {
         !matches!(
             self,
             Call::ReadStatus { .. }
                 | Call::ReadFrame { .. }
                 | Call::ReadCounter { .. }
+                | Call::ReadTable
+                | Call::ReadPaint { .. }
+                | Call::ListGrey { .. }
                 | Call::Save { .. }
         )
     }
@@ -163,6 +186,11 @@ impl Call {
                 length(reference::request(config, state, request, room))
             }
             Call::ReadCounter { event } => counter(reference::read_counter(config, state, *event)),
+            Call::ReadTable => table(reference::read_table(config, state), room),
+            Call::ReadPaint { event } => paint(reference::read_paint(config, state, *event)),
+            Call::ListGrey { .. } => list(room, |list| {
+                length(reference::list_grey(config, state, list))
+            }),
         }
     }
 }
@@ -206,6 +234,38 @@ fn counter(answered: Result<i8, u8>) -> Outcome {
     })
 }
 
+/// "any status, count or length it answers is 0"
+fn table(answered: Result<[u16; reference::COUNTS], u8>, room: &mut [u8]) -> Outcome {
+    put_numbers(room, &answered.unwrap_or([0; reference::COUNTS]));
+    outcome(answered, Values::Nothing, |_| Values::Nothing)
+}
+
+/// "A refusal … paints grey".
+fn paint(answered: Result<Paint, u8>) -> Outcome {
+    outcome(answered, Values::Paint(0), |paint| {
+        Values::Paint(match paint {
+            Paint::Grey => 0,
+            Paint::Red => 1,
+            Paint::Live => 2,
+        })
+    })
+}
+
+/// A room as the 16-bit numbers of a list, low byte first, as x86-64 has them.
+fn list(room: &mut [u8], call: impl Fn(&mut [u16]) -> Outcome) -> Outcome {
+    let (pairs, _) = room.as_chunks::<2>();
+    let mut numbers: Vec<u16> = pairs.iter().map(|pair| u16::from_le_bytes(*pair)).collect();
+    let outcome = call(&mut numbers);
+    put_numbers(room, &numbers);
+    outcome
+}
+
+pub fn put_numbers(room: &mut [u8], numbers: &[u16]) {
+    for (pair, number) in room.chunks_exact_mut(2).zip(numbers) {
+        pair.copy_from_slice(&number.to_le_bytes());
+    }
+}
+
 fn frame(answered: Result<(usize, usize), u8>) -> Outcome {
     let empty = Values::Frame {
         start: 0,
@@ -225,7 +285,7 @@ impl fmt::Display for Call {
     fn fmt(&self, f: &mut fmt::Formatter) -> fmt::Result {
         let name = ANSWERS[self.index()].0;
         match self {
-            Call::Fresh => write!(f, "{name}"),
+            Call::Fresh | Call::ReadTable => write!(f, "{name}"),
             Call::Report { event, code, frame } => {
                 write!(f, "{name} event {event} code {code} frame {}", hex(frame))
             }
@@ -234,9 +294,11 @@ impl fmt::Display for Call {
             Call::Clear { code } => write!(f, "{name} code {code}"),
             Call::ReadStatus { event }
             | Call::ReadFrame { event }
-            | Call::ReadCounter { event } => {
+            | Call::ReadCounter { event }
+            | Call::ReadPaint { event } => {
                 write!(f, "{name} event {event}")
             }
+            Call::ListGrey { numbers } => write!(f, "{name} of {numbers} numbers"),
             Call::Save { room } => write!(f, "{name} room {room}"),
             Call::Restore { image } => write!(f, "{name} image {}", hex(image)),
             Call::Request { request, room } => {
@@ -254,6 +316,7 @@ impl fmt::Display for Outcome {
             Values::Verdict(verdict) => write!(f, " verdict {verdict}"),
             Values::Status(status) => write!(f, " status {status:02X}h"),
             Values::Counter(counter) => write!(f, " counter {counter}"),
+            Values::Paint(paint) => write!(f, " paint {paint}"),
             Values::Frame { start, length } => write!(f, " frame at {start}, {length} long"),
             Values::Length(length) => write!(f, " length {length}"),
         }

@@ -133,7 +133,7 @@ pub struct Lengths {
 /// All that comes back.
 pub struct Answer {
     pub number: u8,
-    /// Verdict or status.
+    /// Verdict, status or paint.
     pub value: u8,
     /// A bit for each block beside which a byte was written, and one for the context.
     pub broken: u8,

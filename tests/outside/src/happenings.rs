@@ -3,11 +3,11 @@
 
 use crate::call::Call;
 use crate::reference::{
-    Configuration, State, CONFIRMED, FAILED_THIS_CYCLE, NOT_COMPLETED_THIS_CYCLE, PENDING,
-    TEST_FAILED, WARNING,
+    grey_events, Configuration, State, CONFIRMED, FAILED_THIS_CYCLE, NOT_COMPLETED_THIS_CYCLE,
+    PENDING, TEST_FAILED, WARNING,
 };
 
-const NEEDED: [&str; 38] = [
+const NEEDED: [&str; 45] = [
     "an event confirms",
     "an event asks for the indicator",
     "an event fails by a tick",
@@ -44,6 +44,13 @@ const NEEDED: [&str; 38] = [
     "an event with an entry does not fit the room",
     "an event is shown, suppressed",
     "an unknown code or record is not suppressed",
+    "an event is painted live",
+    "an event is painted red",
+    "an event is painted grey by bit 6 alone",
+    "an event is painted grey by its cycle alone",
+    "some events are listed as grey, and some are not",
+    "no event is listed as grey",
+    "a table with bits in two cycles",
     "a restore with entries",
     "a restore with overflow",
 ];
@@ -101,6 +108,18 @@ impl Happenings {
                 self.met("a clear of all clears overflow", cleared);
             }
             Call::Request { request, room: 3.. } => self.replies(request, room, before == after),
+            Call::ReadPaint { event } => self.paints(config, *event, after),
+            Call::ListGrey { .. } => {
+                let grey = grey_events(config, after).len();
+                let some = 0 < grey && grey < config.events;
+                self.met("some events are listed as grey, and some are not", some);
+                self.met("no event is listed as grey", grey == 0);
+            }
+            Call::ReadTable => {
+                let cycles = room.chunks_exact(16);
+                let counted = cycles.filter(|counts| counts.iter().any(|byte| *byte != 0));
+                self.met("a table with bits in two cycles", counted.count() > 1);
+            }
             Call::Restore { .. } => {
                 self.met("a restore with entries", after.memory[0] > 0);
                 self.met("a restore with overflow", after.board.overflow);
@@ -118,6 +137,20 @@ impl Happenings {
         self.met("a code below the first of many is unknown", below);
         self.met("a code between two of many is unknown", between);
         self.met("a code above the last of many is unknown", above);
+    }
+
+    fn paints(&mut self, config: &Configuration, event: usize, state: &State) {
+        let status = state.records[4 * event];
+        let runs = state.board.running[config.row(event).cycle as usize];
+        let tested = status & NOT_COMPLETED_THIS_CYCLE == 0;
+        let failed = status & TEST_FAILED != 0;
+        self.met("an event is painted live", runs && tested && !failed);
+        self.met("an event is painted red", runs && tested && failed);
+        self.met("an event is painted grey by bit 6 alone", runs && !tested);
+        self.met(
+            "an event is painted grey by its cycle alone",
+            !runs && tested,
+        );
     }
 
     fn failures(&mut self, before: &State, after: &State, by_tick: bool) {

@@ -11,12 +11,14 @@ const CRATE: &str = include_str!("../../../crates/grelpicado/src/lib.rt");
 const MANUAL: &str = include_str!("../../../crates/manual/src/lib.rt");
 
 /// The header's structs under the crate's names.
-const STRUCTS: [(&str, &str); 8] = [
+const STRUCTS: [(&str, &str); 10] = [
     ("PanelBoard", "grelpicado_board"),
     ("PanelAnswer", "grelpicado_answer"),
     ("PanelReport", "grelpicado_report_answer"),
     ("PanelStatus", "grelpicado_status_answer"),
     ("PanelCounter", "grelpicado_counter_answer"),
+    ("PanelTable", "grelpicado_table_answer"),
+    ("PanelPaint", "grelpicado_paint_answer"),
     ("PanelFrame", "grelpicado_frame_answer"),
     ("PanelLength", "grelpicado_length_answer"),
     ("PanelRequest", "grelpicado_request_answer"),
@@ -110,6 +112,7 @@ fn size_of(kind: &str) -> (usize, usize) {
         "u8" | "i8" => (1, 1),
         "usize" => (8, 8),
         "[u8; manual::CYCLES]" => (cycles(), 1),
+        "[u16; manual::CYCLES * manual::BITS]" => (2 * cycles() * bits(), 2),
         name => {
             let parts = fields(name);
             let sizes = parts.iter().map(|(_, kind)| size_of(kind));
@@ -126,9 +129,17 @@ fn round_up(at: usize, alignment: usize) -> usize {
 }
 
 fn cycles() -> usize {
+    constant("CYCLES")
+}
+
+fn bits() -> usize {
+    constant("BITS")
+}
+
+fn constant(name: &str) -> usize {
     let (_, behind) = MANUAL
-        .split_once("pub const CYCLES: usize = ")
-        .expect("manual has the number of cycles");
+        .split_once(&format!("pub const {name}: usize = "))
+        .expect("manual has the constant");
     let (number, _) = behind.split_once(';').expect("a constant ends");
     number.parse().expect("a number")
 }
@@ -152,7 +163,7 @@ fn numbers() -> Vec<String> {
     lines
 }
 
-fn sizes(n: usize, m: usize, f: usize) -> [String; 6] {
+fn sizes(n: usize, m: usize, f: usize) -> [String; 7] {
     let memory = 1 + m * (3 + f);
     let image = 20 + 4 * n + memory + 1;
     let reply = (3 + 4 * n).max(7 + f).max(11);
@@ -163,11 +174,12 @@ fn sizes(n: usize, m: usize, f: usize) -> [String; 6] {
         format!("GRELPICADO_MEMORY_BYTES({m},{f}) {memory}"),
         format!("GRELPICADO_IMAGE_BYTES({n},{m},{f}) {image}"),
         format!("GRELPICADO_REPLY_BYTES({n},{f}) {reply}"),
+        format!("GRELPICADO_LIST_NUMBERS({n}) {n}"),
     ]
 }
 
-const NAMED: [(&str, u32); 45] = [
-    ("HEADER_VERSION", 2000),
+const NAMED: [(&str, u32); 48] = [
+    ("HEADER_VERSION", 2001),
     ("MAX_EVENTS", 512),
     ("MAX_PLACES", 64),
     ("MAX_FRAME", 32),
@@ -220,6 +232,9 @@ const NAMED: [(&str, u32); 45] = [
     ("VERDICT_NONE", 0),
     ("VERDICT_PASSED", 1),
     ("VERDICT_FAILED", 2),
+    ("PAINT_GREY", 0),
+    ("PAINT_RED", 1),
+    ("PAINT_LIVE", 2),
     ("ALL_CODES", r::ALL_CODES),
 ];
 
@@ -240,7 +255,7 @@ fn all_macros(tally: &mut Tally, found: &str) {
     }
 }
 
-// ---- the twelve calls
+// ---- the fifteen calls
 
 /// Each function that the crate exports stands in the header, word for word as its types in C.
 fn declarations(tally: &mut Tally) {
@@ -289,6 +304,7 @@ fn parameter(name: &str, kind: &str) -> String {
         "&mut [i32]" => lent("int32_t"),
         "&[u8]" => lent("const uint8_t"),
         "&mut [u8]" => lent("uint8_t"),
+        "&mut [u16]" => lent("uint16_t"),
         _ => format!("{} {name}", c_type(kind)),
     }
 }

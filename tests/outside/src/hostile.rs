@@ -6,7 +6,7 @@ use crate::damage;
 use crate::door::{self, Program};
 use crate::making;
 use crate::random::Random;
-use crate::reference::{Board, Configuration, State, ALL_CODES};
+use crate::reference::{self, Board, Configuration, State, ALL_CODES};
 use crate::tally::Tally;
 
 /// The test fails when some answer of document 01's table was not given in so many calls.
@@ -124,6 +124,10 @@ fn call(random: &mut Random, config: &Configuration, state: &State) -> Call {
             request: request(random, config),
             room: reply_room(random, config),
         },
+        12 => Call::ReadTable,
+        14 => Call::ListGrey {
+            numbers: list(random, config, state),
+        },
         which => reading(which, event(random, config)),
     }
 }
@@ -133,7 +137,8 @@ fn reading(which: usize, event: usize) -> Call {
     match which {
         6 => Call::ReadStatus { event },
         7 => Call::ReadFrame { event },
-        _ => Call::ReadCounter { event },
+        11 => Call::ReadCounter { event },
+        _ => Call::ReadPaint { event },
     }
 }
 
@@ -259,6 +264,14 @@ fn reply_room(random: &mut Random, config: &Configuration) -> usize {
         just,
         just,
     ])
+}
+
+/// How many numbers a list holds: as many as there are grey events, or near, or any.
+fn list(random: &mut Random, config: &Configuration, state: &State) -> usize {
+    let exact = reference::grey_events(config, state).len();
+    let any = random.below(config.events + 1);
+    let short = exact.saturating_sub(1);
+    random.pick(&[exact, exact, short, exact + 1, config.events, any, 0])
 }
 
 /// The image of some state of stopped cycles, whole or damaged, or no image at all.

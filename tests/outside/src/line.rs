@@ -98,8 +98,9 @@ fn outcome(call: &Call, answer: &Answer) -> Outcome {
         Call::Report { .. } => Values::Verdict(answer.value),
         Call::ReadStatus { .. } => Values::Status(answer.value),
         Call::ReadCounter { .. } => Values::Counter(answer.start as i64),
+        Call::ReadPaint { .. } => Values::Paint(answer.value),
         Call::ReadFrame { .. } => Values::Frame { start, length },
-        Call::Save { .. } | Call::Request { .. } => Values::Length(length),
+        Call::Save { .. } | Call::Request { .. } | Call::ListGrey { .. } => Values::Length(length),
         _ => Values::Nothing,
     };
     Outcome {

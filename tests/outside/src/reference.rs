@@ -715,6 +715,71 @@ fn counter_of(row: &Row, d: i32, status: u8) -> i8 {
     counter.try_into().expect("D lies in its range")
 }
 
+/// Document 02: "four by eight", cycle by cycle, bit 0 first.
+pub const COUNTS: usize = 4 * 8;
+
+/// Document 02: for each cycle and each bit, the events of that cycle with the bit set.
+pub fn read_table(config: &[i32], state: &State) -> Result<[u16; COUNTS], u8> {
+    let config = judge(config, state)?;
+    Ok(std::array::from_fn(|at| {
+        let (cycle, bit) = (at / 8, at % 8);
+        let statuses = state.records.iter().step_by(4);
+        let counted = config
+            .rows()
+            .zip(statuses)
+            .filter(|(row, status)| row.cycle as usize == cycle && **status & (1 << bit) != 0);
+        counted.count() as u16
+    }))
+}
+
+/// Document 02: how a panel paints an event.
+#[derive(Clone, Copy, PartialEq, Eq, Debug)]
+pub enum Paint {
+    Grey,
+    Red,
+    Live,
+}
+
+fn paint_of(row: &Row, status: u8, board: &Board) -> Paint {
+    let runs = board.running[row.cycle as usize];
+    match (
+        runs,
+        status & NOT_COMPLETED_THIS_CYCLE,
+        status & TEST_FAILED,
+    ) {
+        (true, 0, 0) => Paint::Live,
+        (true, 0, _) => Paint::Red,
+        _ => Paint::Grey,
+    }
+}
+
+pub fn read_paint(config: &[i32], state: &State, event: usize) -> Result<Paint, u8> {
+    let config = judge(config, state)?;
+    if event >= config.events {
+        return Err(NO_SUCH);
+    }
+    let status = state.records[4 * event];
+    Ok(paint_of(&config.row(event), status, &state.board))
+}
+
+/// The events that are painted grey, rising.
+pub fn grey_events(config: &Configuration, state: &State) -> Vec<u16> {
+    let rows = config.rows().zip(state.records.iter().step_by(4));
+    let grey = rows
+        .zip(0..)
+        .filter(|((row, status), _)| paint_of(row, **status, &state.board) == Paint::Grey);
+    grey.map(|(_, event)| event).collect()
+}
+
+/// Document 02: lists them, and answers how many.
+pub fn list_grey(config: &[i32], state: &State, list: &mut [u16]) -> Result<usize, u8> {
+    let config = judge(config, state)?;
+    let grey = grey_events(&config, state);
+    let front = list.get_mut(..grey.len()).ok_or(ROOM_TOO_SMALL)?;
+    front.copy_from_slice(&grey);
+    Ok(grey.len())
+}
+
 /// The frame's start in the memory block, and its length.
 pub fn read_frame(config: &[i32], state: &State, event: usize) -> Result<(usize, usize), u8> {
     let config = judge(config, state)?;

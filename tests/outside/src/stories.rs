@@ -8,8 +8,8 @@ use crate::happenings::Happenings;
 use crate::making;
 use crate::random::Random;
 use crate::reference::{
-    Board, Configuration, State, ALL_CODES, DONE, FAILED, KIND_INTERNAL, KIND_TIME, NO_SUCH,
-    PASSED, PRE_FAILED, PRE_PASSED,
+    grey_events, Board, Configuration, State, ALL_CODES, DONE, FAILED, KIND_INTERNAL, KIND_TIME,
+    NO_SUCH, PASSED, PRE_FAILED, PRE_PASSED,
 };
 use crate::tally::Tally;
 
@@ -143,11 +143,14 @@ impl Story<'_> {
         match self.random.below(100) {
             0..60 => return self.report(),
             60..72 => return self.tick(),
-            72..84 => return self.request(),
-            84..90 => return self.save(),
-            90..92 => self.call(Call::ReadStatus { event }),
-            92..94 => self.call(Call::ReadFrame { event }),
-            94..96 => self.call(Call::ReadCounter { event }),
+            72..82 => return self.request(),
+            82..87 => return self.save(),
+            87..88 => self.call(Call::ReadStatus { event }),
+            88..90 => self.call(Call::ReadFrame { event }),
+            90..92 => self.call(Call::ReadCounter { event }),
+            92..93 => self.call(Call::ReadTable),
+            93..95 => self.call(Call::ReadPaint { event }),
+            95..96 => return self.list(),
             96..99 => {
                 let code = self.trouble_code();
                 self.call(Call::Clear { code })
@@ -291,6 +294,15 @@ impl Story<'_> {
             true => self.random.pick(&lists),
             false => self.random.pick(&shows),
         }
+    }
+
+    /// A list that just holds the grey events, or is longer, or one too short.
+    fn list(&mut self) -> Option<()> {
+        let exact = grey_events(&self.config, &self.state).len();
+        let short = exact.saturating_sub(1);
+        let numbers = self.random.pick(&[exact, exact, exact + 3, short]);
+        self.call(Call::ListGrey { numbers })?;
+        Some(())
     }
 
     /// Stops what runs, mostly, and saves; then brings the image back elsewhere.

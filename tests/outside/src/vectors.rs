@@ -8,7 +8,7 @@ use crate::reference::{self, Board, Configuration, State, DONE};
 use crate::tally::{first_difference, Tally};
 
 /// The files, which the program `call_cases` runs too.
-const FILES: [(&str, &str); 4] = [
+const FILES: [(&str, &str); 5] = [
     (
         "calls.txt",
         include_str!("../../../crates/call_cases/data/calls.txt"),
@@ -24,6 +24,10 @@ const FILES: [(&str, &str); 4] = [
     (
         "stories.txt",
         include_str!("../../../crates/call_cases/data/stories.txt"),
+    ),
+    (
+        "untested.txt",
+        include_str!("../../../crates/call_cases/data/untested.txt"),
     ),
 ];
 
@@ -258,6 +262,14 @@ fn bytes(word: &str) -> Vec<u8> {
         .collect()
 }
 
+/// 16-bit numbers as a room has them, `-` for none.
+fn pairs(word: &str) -> Vec<u8> {
+    let numbers = word.split(',').filter(|word| *word != "-");
+    numbers
+        .flat_map(|word| number::<u16>(word).to_le_bytes())
+        .collect()
+}
+
 /// `RECORDS DEBOUNCE MEMORY CYCLES OVERFLOW`.
 fn state_of(text: &str) -> State {
     let words: Vec<&str> = text.split_whitespace().collect();
@@ -305,6 +317,11 @@ fn call_of(text: &str) -> Call {
         ["read_status", event] => read(event, |event| Call::ReadStatus { event }),
         ["read_frame", event] => read(event, |event| Call::ReadFrame { event }),
         ["read_counter", event] => read(event, |event| Call::ReadCounter { event }),
+        ["table"] => Call::ReadTable,
+        ["paint", event] => read(event, |event| Call::ReadPaint { event }),
+        ["grey_list", length] => Call::ListGrey {
+            numbers: number(length.trim_start_matches("room16=")),
+        },
         ["save", length] => Call::Save { room: room(length) },
         ["restore", image] => Call::Restore {
             image: bytes(image),
@@ -338,6 +355,17 @@ fn answer_of(call: &Call, text: &str) -> (Outcome, Vec<u8>) {
                 start,
                 length: end - start,
             }
+        }
+        (Call::ReadTable, [counts]) => {
+            room = pairs(counts);
+            Values::Nothing
+        }
+        (Call::ReadPaint { .. }, ["grey"]) => Values::Paint(0),
+        (Call::ReadPaint { .. }, ["red"]) => Values::Paint(1),
+        (Call::ReadPaint { .. }, ["live"]) => Values::Paint(2),
+        (Call::ListGrey { .. }, [length, after]) => {
+            room = pairs(after);
+            Values::Length(number(length))
         }
         (Call::Save { .. } | Call::Request { .. }, [length, after]) => {
             room = bytes(after);
