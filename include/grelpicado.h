@@ -44,10 +44,10 @@ extern "C" {
 #endif
 
 /*
- * Of this header: 2001 is 2.1. The thousands rise when a program that includes it must be changed
+ * Of this header: 2002 is 2.2. The thousands rise when a program that includes it must be changed
  * or compiled again, the rest when something is added.
  */
-#define GRELPICADO_HEADER_VERSION 2001
+#define GRELPICADO_HEADER_VERSION 2002
 
 /* A cast and a check in the words of either language, for this file. */
 #ifdef __cplusplus
@@ -491,6 +491,118 @@ grelpicado_request_answer grelpicado_request(
     const uint8_t *request, size_t request_length,
     uint8_t *room, size_t room_length);
 
+/* ---- replies over CAN: ISO 15765-2, 8-byte frames, normal addressing */
+
+/*
+ * A sender and a receiver stand on nothing of the manager: a message is any bytes. They are values that
+ * the caller keeps, an idle one all zeros; the next call takes what the last one handed back. The
+ * driver sends and receives the frames, with their identifiers, and watches the time: docs/CAN.md.
+ *
+ * A call takes any sender, receiver, message, room and frame. One that no sequence of calls makes is
+ * answered as if no frame were due.
+ */
+#define GRELPICADO_CAN_REFUSED 13       /* the number for all that a sender or a receiver refuses */
+#define GRELPICADO_CAN_LONGEST 4095u    /* bytes of the longest message; the shortest has 1 */
+
+typedef struct grelpicado_can_frame {
+    uint8_t bytes[8];
+} grelpicado_can_frame;
+
+#define GRELPICADO_CAN_IDLE 0       /* of a sender or a receiver; so is any state that is not named here */
+#define GRELPICADO_CAN_WAITING 1    /* of a sender: flow control is due */
+#define GRELPICADO_CAN_RUNNING 2    /* of a sender: frames are due */
+#define GRELPICADO_CAN_COLLECTING 1 /* of a receiver: frames are due */
+
+typedef struct grelpicado_can_sender {
+    uint8_t state; /* GRELPICADO_CAN_IDLE, _WAITING, _RUNNING */
+    uint8_t left;  /* frames until flow control is due, 0 for no limit */
+    size_t next;   /* the number of the next consecutive frame, from 1 on */
+} grelpicado_can_sender;
+
+typedef struct grelpicado_can_receiver {
+    uint8_t state; /* GRELPICADO_CAN_IDLE, _COLLECTING */
+    uint8_t left;  /* frames until flow control is sent, 0 for no limit */
+    size_t next;   /* the number of the next consecutive frame, from 1 on */
+    size_t size;   /* bytes of the message */
+} grelpicado_can_receiver;
+
+/* On 13 there is no frame to send, and the caller keeps the sender that it has. */
+typedef struct grelpicado_can_start_answer {
+    uint8_t number;
+    grelpicado_can_frame frame;
+    grelpicado_can_sender sender;
+} grelpicado_can_start_answer;
+
+#define GRELPICADO_CAN_GO 1      /* frames are due, this separation time apart */
+#define GRELPICADO_CAN_WAIT 2    /* more flow control is to come */
+#define GRELPICADO_CAN_ABORTED 3 /* the message is given up */
+
+/* On 13 it says 0, and the sender is the one that was given. */
+typedef struct grelpicado_can_flow_answer {
+    uint8_t number;
+    uint8_t says; /* GRELPICADO_CAN_GO, _WAIT, _ABORTED */
+    uint8_t separation; /* of GRELPICADO_CAN_GO: the byte as it was received */
+    grelpicado_can_sender sender;
+} grelpicado_can_flow_answer;
+
+/* That nothing is due is no refusal: the sender is then the one that was given. */
+typedef struct grelpicado_can_next_answer {
+    uint8_t due; /* 1: send the frame; 0: nothing is due */
+    grelpicado_can_frame frame;
+    grelpicado_can_sender sender;
+} grelpicado_can_next_answer;
+
+#define GRELPICADO_CAN_GOING 1    /* more frames are to come */
+#define GRELPICADO_CAN_CONTROL 2  /* send this flow control */
+#define GRELPICADO_CAN_COMPLETE 3 /* a message of this length stands at the front of the room */
+
+/* On 13 it says 0, nothing was written, and the receiver is idle: a message under way is dropped. */
+typedef struct grelpicado_can_take_answer {
+    uint8_t number;
+    uint8_t says; /* GRELPICADO_CAN_GOING, _CONTROL, _COMPLETE */
+    grelpicado_can_frame frame;
+    size_t length;
+    grelpicado_can_receiver receiver;
+} grelpicado_can_take_answer;
+
+/*
+ * Begins a message: the single or the first frame, which is to be sent, and the sender. A message
+ * under way is given up.
+ * Refused: a length outside 1 to 4,095.
+ */
+grelpicado_can_start_answer grelpicado_can_start(
+    const uint8_t *message, size_t message_length);
+
+/*
+ * A frame that was received as flow control: 30h lets the sender go on, 31h waits, any other first
+ * byte aborts.
+ * Refused: in any state where no flow control is due.
+ */
+grelpicado_can_flow_answer grelpicado_can_flow(
+    grelpicado_can_sender sender,
+    grelpicado_can_frame frame);
+
+/*
+ * The next consecutive frame of the message, which is the one that was started, if one is due.
+ */
+grelpicado_can_next_answer grelpicado_can_next(
+    grelpicado_can_sender sender,
+    const uint8_t *message, size_t message_length);
+
+/*
+ * A frame that was received, but for flow control. Its bytes go into the room, which must be the same
+ * one until the message is complete. block and separation are what flow control is to tell the sender:
+ * how many frames before the next flow control, 0 for no limit, and the separation time.
+ * Refused: a wrong number of the frame, a single frame's length of 0 or above 7, a first frame's below
+ * 8, a length above the room, any frame that is not due.
+ */
+grelpicado_can_take_answer grelpicado_can_take(
+    grelpicado_can_receiver receiver,
+    uint8_t *room, size_t room_length,
+    uint8_t block,
+    uint8_t separation,
+    grelpicado_can_frame frame);
+
 /* ---- the context: the same calls on what one object holds */
 
 /*
@@ -714,6 +826,28 @@ GRELPICADO_CHECK_(sizeof(grelpicado_length_answer) == 16 && offsetof(grelpicado_
 GRELPICADO_CHECK_(sizeof(grelpicado_request_answer) == 24 && offsetof(grelpicado_request_answer, number) == 0
     && offsetof(grelpicado_request_answer, length) == 8
     && offsetof(grelpicado_request_answer, board) == 16, "layout of grelpicado_request_answer");
+
+GRELPICADO_CHECK_(sizeof(grelpicado_can_frame) == 8 && offsetof(grelpicado_can_frame, bytes) == 0,
+    "layout of grelpicado_can_frame");
+GRELPICADO_CHECK_(sizeof(grelpicado_can_sender) == 16 && offsetof(grelpicado_can_sender, state) == 0
+    && offsetof(grelpicado_can_sender, left) == 1
+    && offsetof(grelpicado_can_sender, next) == 8, "layout of grelpicado_can_sender");
+GRELPICADO_CHECK_(sizeof(grelpicado_can_receiver) == 24 && offsetof(grelpicado_can_receiver, state) == 0
+    && offsetof(grelpicado_can_receiver, left) == 1 && offsetof(grelpicado_can_receiver, next) == 8
+    && offsetof(grelpicado_can_receiver, size) == 16, "layout of grelpicado_can_receiver");
+GRELPICADO_CHECK_(sizeof(grelpicado_can_start_answer) == 32 && offsetof(grelpicado_can_start_answer, number) == 0
+    && offsetof(grelpicado_can_start_answer, frame) == 1
+    && offsetof(grelpicado_can_start_answer, sender) == 16, "layout of grelpicado_can_start_answer");
+GRELPICADO_CHECK_(sizeof(grelpicado_can_flow_answer) == 24 && offsetof(grelpicado_can_flow_answer, number) == 0
+    && offsetof(grelpicado_can_flow_answer, says) == 1 && offsetof(grelpicado_can_flow_answer, separation) == 2
+    && offsetof(grelpicado_can_flow_answer, sender) == 8, "layout of grelpicado_can_flow_answer");
+GRELPICADO_CHECK_(sizeof(grelpicado_can_next_answer) == 32 && offsetof(grelpicado_can_next_answer, due) == 0
+    && offsetof(grelpicado_can_next_answer, frame) == 1
+    && offsetof(grelpicado_can_next_answer, sender) == 16, "layout of grelpicado_can_next_answer");
+GRELPICADO_CHECK_(sizeof(grelpicado_can_take_answer) == 48 && offsetof(grelpicado_can_take_answer, number) == 0
+    && offsetof(grelpicado_can_take_answer, says) == 1 && offsetof(grelpicado_can_take_answer, frame) == 2
+    && offsetof(grelpicado_can_take_answer, length) == 16
+    && offsetof(grelpicado_can_take_answer, receiver) == 24, "layout of grelpicado_can_take_answer");
 
 #ifdef __cplusplus
 }

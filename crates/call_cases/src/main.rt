@@ -18,8 +18,6 @@ use manual::Returned;
 use manual::Verdict;
 ghost use Prim.Native.Nat.{_≤_};
 
-mod text;
-
 // How much of each block is lent, and the board.
 struct Lent {
     config: usize,
@@ -94,12 +92,6 @@ enum Plain {
     Restore,
 }
 
-// The next byte of a file.
-enum Next {
-    Byte(u8),
-    End,
-}
-
 fn one_more(count: u32) -> u32 {
     if count < 1_000_000_000 {
         count + 1
@@ -113,29 +105,6 @@ fn count_if(count: u32, test: bool) -> u32 {
 }
 
 // ---- reading the file
-
-fn read_byte(fd: i32) -> Next {
-    let mut one = [0u8; 1];
-    if io::read_full(fd, &mut one) == 0 {
-        Next::End
-    } else {
-        Next::Byte(one[0])
-    }
-}
-
-// The next line with its newline, at the front; its length, 0 at the end of the file.
-fn read_line(fd: i32, line: &mut [u8]) -> usize {
-    for i in 0..line.len() {
-        let Next::Byte(byte) = read_byte(fd) else {
-            return i;
-        };
-        line[i] = byte;
-        if byte == b'\n' {
-            return i + 1;
-        }
-    }
-    line.len()
-}
 
 // Puts a line at the front, and 0 behind it.
 fn copy(from: &[u8], to: &mut [u8]) {
@@ -970,7 +939,7 @@ fn take_line(
 // The line behind a call; of any other line, nothing.
 fn read_answer(fd: i32, line: &[u8], says: &mut [u8]) -> usize {
     if text::byte_at(line, 0) == b'>' {
-        read_line(fd, says)
+        text::read_line(fd, says)
     } else {
         0
     }
@@ -988,7 +957,7 @@ fn next_line(
     debounce: &mut [i32; 528],
     memory: &mut [u8; 2304],
 ) -> Story {
-    let n = read_line(fd, line);
+    let n = text::read_line(fd, line);
     let k = read_answer(fd, line, says);
     take_line(
         now,

@@ -1,5 +1,5 @@
 // The fifteen calls for a caller in C, as grelpicado.h declares them. Each reads the board's bytes, makes the call, and
-// hands back its numbers and the board.
+// hands back its numbers and the board. Those of replies over CAN stand in can.rt.
 use diagnostics::RequestReturned;
 use manual::Board;
 use manual::CounterAnswer;
@@ -32,6 +32,8 @@ ghost use Rattle.grelpicado.specs.Panel.{yes, flagByte, boardOf, bytesOf
 ghost use Rattle.grelpicado.specs.Panel.{crossesWithoutBoard, crossesWithCounter, crossesWithFrame, withAnswer};
 ghost use Rattle.grelpicado.specs.Panel.{paintNumber, crossesWithTable, crossesWithPaint, withTable, withPaint};
 ghost use Rattle.grelpicado.specs.Panel.{withReport, withStatus, withCounter, withFrame, withLength, withRequest};
+
+mod can;
 
 // ---- what crosses by value
 

@@ -8,10 +8,12 @@ use std::collections::BTreeSet;
 
 const HEADER: &str = include_str!("../../../include/grelpicado.h");
 const CRATE: &str = include_str!("../../../crates/grelpicado/src/lib.rt");
+const CAN_CALLS: &str = include_str!("../../../crates/grelpicado/src/can.rt");
+const CAN_STRUCTS: &str = include_str!("../../../crates/can_panel/src/lib.rt");
 const MANUAL: &str = include_str!("../../../crates/manual/src/lib.rt");
 
 /// The header's structs under the crate's names.
-const STRUCTS: [(&str, &str); 10] = [
+const STRUCTS: [(&str, &str); 17] = [
     ("PanelBoard", "grelpicado_board"),
     ("PanelAnswer", "grelpicado_answer"),
     ("PanelReport", "grelpicado_report_answer"),
@@ -22,6 +24,13 @@ const STRUCTS: [(&str, &str); 10] = [
     ("PanelFrame", "grelpicado_frame_answer"),
     ("PanelLength", "grelpicado_length_answer"),
     ("PanelRequest", "grelpicado_request_answer"),
+    ("PanelCanFrame", "grelpicado_can_frame"),
+    ("PanelSender", "grelpicado_can_sender"),
+    ("PanelReceiver", "grelpicado_can_receiver"),
+    ("PanelStarted", "grelpicado_can_start_answer"),
+    ("PanelFlowed", "grelpicado_can_flow_answer"),
+    ("PanelNext", "grelpicado_can_next_answer"),
+    ("PanelTaken", "grelpicado_can_take_answer"),
 ];
 
 /// The thirteen columns of document 01, in its order.
@@ -41,13 +50,14 @@ const COLUMNS: [&str; r::ROW] = [
     "indicator",
 ];
 
-pub fn run(program: &Program) -> Tally {
+pub fn run(program: &Program, can: &Program) -> Tally {
     let mut tally = Tally::new("grelpicado.h");
-    match program.ask("layout") {
+    let both = |word: &str| Ok(program.ask(word)? + &can.ask(word)?);
+    match both("layout") {
         Ok(found) => same_lines(&mut tally, "layout", &found, &layout()),
         Err(error) => tally.differ(error),
     }
-    match program.ask("numbers") {
+    match both("numbers") {
         Ok(found) => {
             same_lines(&mut tally, "macro", &found, &numbers());
             all_macros(&mut tally, &found);
@@ -95,7 +105,8 @@ fn layout() -> Vec<String> {
 /// Names and types of a struct of the crate.
 fn fields(name: &str) -> Vec<(String, String)> {
     let start = format!("#[repr(C)]\npub struct {name} {{\n");
-    let (_, behind) = CRATE.split_once(&start).expect("the crate has the struct");
+    let crates = CRATE.split_once(&start).or(CAN_STRUCTS.split_once(&start));
+    let (_, behind) = crates.expect("a crate has the struct");
     let (body, _) = behind.split_once("\n}").expect("a struct ends");
     let pairs = body.lines().map(|line| {
         let line = line.trim().trim_start_matches("pub ").trim_end_matches(',');
@@ -113,6 +124,7 @@ fn size_of(kind: &str) -> (usize, usize) {
         "usize" => (8, 8),
         "[u8; manual::CYCLES]" => (cycles(), 1),
         "[u16; manual::CYCLES * manual::BITS]" => (2 * cycles() * bits(), 2),
+        "[u8; 8]" => (8, 1),
         name => {
             let parts = fields(name);
             let sizes = parts.iter().map(|(_, kind)| size_of(kind));
@@ -178,8 +190,8 @@ fn sizes(n: usize, m: usize, f: usize) -> [String; 7] {
     ]
 }
 
-const NAMED: [(&str, u32); 48] = [
-    ("HEADER_VERSION", 2001),
+const NAMED: [(&str, u32); 60] = [
+    ("HEADER_VERSION", 2002),
     ("MAX_EVENTS", 512),
     ("MAX_PLACES", 64),
     ("MAX_FRAME", 32),
@@ -236,6 +248,18 @@ const NAMED: [(&str, u32); 48] = [
     ("PAINT_RED", 1),
     ("PAINT_LIVE", 2),
     ("ALL_CODES", r::ALL_CODES),
+    ("CAN_REFUSED", 13),
+    ("CAN_LONGEST", 4095),
+    ("CAN_IDLE", 0),
+    ("CAN_WAITING", 1),
+    ("CAN_RUNNING", 2),
+    ("CAN_COLLECTING", 1),
+    ("CAN_GO", 1),
+    ("CAN_WAIT", 2),
+    ("CAN_ABORTED", 3),
+    ("CAN_GOING", 1),
+    ("CAN_CONTROL", 2),
+    ("CAN_COMPLETE", 3),
 ];
 
 /// No macro of the header may go without being compared, but the guard of the file and those
@@ -255,13 +279,14 @@ fn all_macros(tally: &mut Tally, found: &str) {
     }
 }
 
-// ---- the fifteen calls
+// ---- the calls
 
 /// Each function that the crate exports stands in the header, word for word as its types in C.
 fn declarations(tally: &mut Tally) {
     let header = one_space(HEADER);
     let mut exported = 0;
-    for text in CRATE.split("pub extern \"C\" fn ").skip(1) {
+    let exports = |text: &'static str| text.split("pub extern \"C\" fn ").skip(1);
+    for text in exports(CRATE).chain(exports(CAN_CALLS)) {
         let wanted = declaration(text);
         exported += 1;
         tally.ran += 1;
@@ -289,8 +314,8 @@ fn declaration(text: &str) -> String {
     let (parameters, behind) = behind.split_once(") -> ").expect("an answer follows");
     let answer = behind.lines().next().expect("its type");
     let parameters: Vec<String> = parameters
-        .lines()
-        .filter_map(|line| line.trim().trim_end_matches(',').split_once(": "))
+        .split(',')
+        .filter_map(|parameter| parameter.trim().split_once(": "))
         .map(|(name, kind)| parameter(name, kind))
         .collect();
     format!("{} {name}({});", c_type(answer), parameters.join(", "))
@@ -312,6 +337,7 @@ fn parameter(name: &str, kind: &str) -> String {
 fn c_type(kind: &str) -> &str {
     match kind {
         "usize" => "size_t",
+        "u8" => "uint8_t",
         "u32" => "uint32_t",
         _ => {
             let known = STRUCTS.iter().find(|(name, _)| *name == kind);

@@ -2,8 +2,8 @@
 //! implementation of document 01. The door is a C program that includes
 //! grelpicado.h; `tests/outside/run` builds both and runs them.
 //!
-//!     outside --door PROGRAM [--plain PROGRAM] [--runner COMMAND] [--rounds N] [--seed S] [--counts]
-//!         the header, the stored calls, stories, hostile calls; and the calls by plain C
+//!     outside --door PROGRAM --can PROGRAM [--plain PROGRAM] [--runner COMMAND] [--rounds N] [--seed S] [--counts]
+//!         the header, the stored calls, stories, hostile calls; replies over CAN; and the calls by plain C
 //!     outside bench --door PROGRAM [--runner COMMAND --emulated]
 //!         time and instructions of a call on both sides
 //!     outside reference
@@ -11,6 +11,7 @@
 
 mod bench;
 mod call;
+mod can;
 mod compare;
 mod damage;
 mod door;
@@ -31,7 +32,9 @@ use tally::Tally;
 
 struct Settings {
     program: Program,
-    /// The same C program with plain C in the archive's place.
+    /// The C program of replies over CAN.
+    can: Program,
+    /// The same C program as the door with plain C in the archive's place.
     plain: Option<String>,
     rounds: u64,
     seed: u64,
@@ -56,7 +59,7 @@ fn main() -> ExitCode {
 fn settings(words: &[&str]) -> Option<Settings> {
     let read = read_settings(words);
     if read.is_none() {
-        eprintln!("outside [reference | bench] --door PROGRAM [--plain PROGRAM] [--runner COMMAND] [--rounds N] [--seed S] [--counts]");
+        eprintln!("outside [reference | bench] --door PROGRAM [--can PROGRAM] [--plain PROGRAM] [--runner COMMAND] [--rounds N] [--seed S] [--counts]");
     }
     read
 }
@@ -64,6 +67,10 @@ fn settings(words: &[&str]) -> Option<Settings> {
 fn read_settings(words: &[&str]) -> Option<Settings> {
     let mut settings = Settings {
         program: Program {
+            path: String::new(),
+            runner: None,
+        },
+        can: Program {
             path: String::new(),
             runner: None,
         },
@@ -77,6 +84,7 @@ fn read_settings(words: &[&str]) -> Option<Settings> {
     while let Some(word) = words.next() {
         match *word {
             "--door" => settings.program.path = words.next()?.to_string(),
+            "--can" => settings.can.path = words.next()?.to_string(),
             "--plain" => settings.plain = Some(words.next()?.to_string()),
             "--runner" => settings.program.runner = Some(words.next()?.to_string()),
             "--rounds" => settings.rounds = words.next()?.parse().ok()?,
@@ -86,6 +94,7 @@ fn read_settings(words: &[&str]) -> Option<Settings> {
             _ => return None,
         }
     }
+    settings.can.runner.clone_from(&settings.program.runner);
     (!settings.program.path.is_empty()).then_some(settings)
 }
 
@@ -97,7 +106,7 @@ fn print(tallies: &[Tally], word: &str) -> bool {
 
 fn all(settings: &Settings) -> bool {
     let (program, rounds, seed) = (&settings.program, settings.rounds, settings.seed);
-    let header = header::run(program).print("lines compared");
+    let header = header::run(program, &settings.can).print("lines compared");
     let vectors = print(&vectors::run_both(program), "ran");
     let stories = stories::run(program, rounds, seed).print("calls");
     let (hostile, counts) = hostile::run(program, rounds, seed);
@@ -105,8 +114,17 @@ fn all(settings: &Settings) -> bool {
     if settings.counts {
         hostile::print(&counts);
     }
+    let can = replies_over_can(settings);
     let plain = plain_c(settings);
-    header && vectors && stories && hostile && plain
+    header && vectors && stories && hostile && can && plain
+}
+
+/// A sender and a receiver, which stand on nothing of the manager.
+fn replies_over_can(settings: &Settings) -> bool {
+    let stored = can::run_stored(&settings.can).print("ran");
+    let random = can::run_random(&settings.can, settings.rounds, settings.seed).print("calls");
+    let looped = can::run_loop(&settings.can);
+    stored && random && looped
 }
 
 /// Of the calls that are made at random, plain C is given one in so many.

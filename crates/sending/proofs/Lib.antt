@@ -1,0 +1,2 @@
+pub mod FramedLaws
+pub mod OneOutcomeOnly

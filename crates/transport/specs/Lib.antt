@@ -1,0 +1,5 @@
+pub mod Frames
+pub mod Sending
+pub mod Receiving
+pub mod Segments
+pub mod Exchange
