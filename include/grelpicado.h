@@ -498,8 +498,9 @@ grelpicado_request_answer grelpicado_request(
  * the caller keeps, an idle one all zeros; the next call takes what the last one handed back. The
  * driver sends and receives the frames, with their identifiers, and watches the time: docs/CAN.md.
  *
- * A call takes any sender, receiver, message, room and frame. One that no sequence of calls makes is
- * answered as if no frame were due.
+ * A call takes any sender, receiver, message, room and frame. A sender or receiver that no sequence of
+ * calls makes is answered as if no frame were due. What is said of calls at the top of this file is
+ * said of the manager's.
  */
 #define GRELPICADO_CAN_REFUSED 13       /* the number for all that a sender or a receiver refuses */
 #define GRELPICADO_CAN_LONGEST 4095u    /* bytes of the longest message; the shortest has 1 */

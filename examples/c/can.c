@@ -1,7 +1,7 @@
 /*
  * A tester asks the panel for its trouble codes over CAN. The request goes in a single frame. The reply
  * is longer than that: the panel sends it in a first frame and consecutive frames, the tester lets it
- * go on by flow control after each, and puts it together again.
+ * go on by flow control after each but the last, and puts it together again.
  *
  * The line is this file: what one side sends, the other is given, and every frame is printed with its
  * identifier. docs/CAN.md says what a driver does beside.
@@ -18,7 +18,8 @@ enum { TO_PANEL = 0x7E0, TO_TESTER = 0x7E8 };
 /* ---- the panel: three events that were never tested */
 
 #define TEST(code) \
-    {.trouble_code = (code), .priority = 1, .debounce_kind = GRELPICADO_KIND_INTERNAL, .confirm = 1, .heal = 1, .age = 1}
+    {.trouble_code = (code), .priority = 1, .debounce_kind = GRELPICADO_KIND_INTERNAL, \
+     .confirm = 1, .heal = 1, .age = 1}
 
 static const GRELPICADO_CONFIG(EVENTS) config = {
     .events = EVENTS, .places = PLACES, .frame_bytes = FRAME,
@@ -124,7 +125,7 @@ static void tester_sends(grelpicado_can_frame frame)
     panel_takes(frame);
 }
 
-/* The tester asks for flow control after each frame, 10 ms apart. */
+/* The tester sends flow control after each frame but the last, 10 ms apart. */
 static void tester_takes(grelpicado_can_frame frame)
 {
     grelpicado_can_take_answer taken =

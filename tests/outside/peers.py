@@ -122,6 +122,7 @@ def to_scapy(module, ours, message, block):
             assert ours.flow(control) == (True, separation), "Scapy's flow control does not let our sender go on"
         wire.sent = []
         frame = ours.next()
+    assert not peer.rx_queue.empty(), "Scapy put nothing together"
     got, _ = peer.rx_queue.recv()
     assert bytes(got) == message, "Scapy put together something else"
     assert ours.sender == IDLE_SENDER and peer.rx_state == module.ISOTP_IDLE
@@ -147,11 +148,13 @@ def from_scapy(module, ours, message, block):
 
 def scapy(command):
     try:
-        from scapy.contrib.isotp import isotp_soft_socket as module
-        from scapy.layers.can import CAN
+        import scapy as present
     except ImportError:
         print("CAN: Scapy's ISO-TP was not tried: this machine lacks Debian's python3-scapy")
         return
+    del present
+    from scapy.contrib.isotp import isotp_soft_socket as module
+    from scapy.layers.can import CAN
     module.CAN = CAN
     module.TimeoutScheduler = NoTimer
     ours = Ours(command)

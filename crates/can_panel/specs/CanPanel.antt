@@ -4,7 +4,6 @@ use mathlib.Core.Bool.{cond}
 use mathlib.Core.List.{List, [], _∷_}
 use Prim.Native.Nat.{ℕ}
 use lib.Dec.{eqb}
-use lib.ListN.{replicate}
 use Rattle.transport.specs.declared.CanFrame.{CanFrame}
 use Rattle.transport.specs.declared.Sender.{Sender}
 use Rattle.transport.specs.declared.Sender.the-variants.{Waiting, Running}

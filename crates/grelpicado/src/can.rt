@@ -1,5 +1,5 @@
-// Document 02, W13, for a caller in C, as grelpicado.h declares it: a sender and a receiver of ISO 15765-2. They stand on
-// nothing of the manager.
+// Document 02, W13, for a caller in C, as grelpicado.h declares it: a sender and a receiver of ISO 15765-2. They stand
+// on nothing of the manager.
 use can_panel::PanelCanFrame;
 use can_panel::PanelFlowed;
 use can_panel::PanelNext;

@@ -2,7 +2,7 @@
 use mathlib.Core.Path.{_≡_, refl, sym, ap, _∙_}
 use mathlib.Core.Bool.{Bool, true, false, _&&_}
 use mathlib.Core.List.{List, [], _∷_, _++_}
-use Prim.Native.Nat.{ℕ, zero, suc, _+_, _-_, _*_, _/_, _%_, _≤_, min}
+use Prim.Native.Nat.{ℕ, zero, suc, _+_, _-_, _/_, _%_, _≤_, min}
 use native.Mathlib.Omega.{arith}
 use lib.ListN.{length, getD, take, drop, replicate, length-append, length-take, length-drop}
 use lib.ListN.{take-append-drop, length-replicate, drop-of-length-le}
@@ -28,7 +28,7 @@ pub has-so : (size k : ℕ) → 8 ≤ size → size ≤ longest → 1 ≤ k → 
 unfolding has
 has-so size k a b c d = rw (le-leb 8 size a, le-leb size longest b, le-leb 1 k c, le-leb k (lastNumber size) d)
 
--- a frame of a message is a frame of the longest
+-- what it tells that a message of this length has consecutive frame k
 pub has-tells : (size k : ℕ) → has size k ≡ true → (8 ≤ size) × (size ≤ longest) × (1 ≤ k) × (k ≤ lastNumber size)
 unfolding has
 has-tells size k h =

@@ -3,7 +3,7 @@
 use mathlib.Core.Path.{_≡_, refl, sym, ap, _∙_}
 use mathlib.Core.Bool.{Bool, true, false, _&&_, cond}
 use mathlib.Core.List.{List, [], _∷_, _++_}
-use Prim.Native.Nat.{ℕ, zero, suc, _+_, _-_, _*_, _/_, _%_, _≤_, _<_, min}
+use Prim.Native.Nat.{ℕ, zero, suc, _+_, _-_, _/_, _%_, _≤_, _<_, min}
 use native.Mathlib.Nat.{zero-add, add-zero, add-suc}
 use native.Mathlib.Numerals.{add-one, one-add}
 use native.Mathlib.Omega.{arith}
@@ -19,12 +19,12 @@ use Rattle.transport.specs.declared.Stage.the-variants.{Coming, Arrived,
 use Rattle.transport.specs.Frames.{padded, bytesOf, single, first, place, consecutive}
 use Rattle.transport.specs.Frames.{lastNumber, longest, has, control}
 use Rattle.transport.specs.Sending.{allowed, start, flow, controlled, waiting, goesOn, sent, running}
-use Rattle.transport.specs.Receiving.{Took, took, going, asks, announced, takesSingle, takesFirst, takesNext}
-use Rattle.transport.specs.Receiving.{beginning, awaits, received, collecting, takeFrame}
+use Rattle.transport.specs.Receiving.{took, going, asks, announced, takesSingle, takesFirst, takesNext}
+use Rattle.transport.specs.Receiving.{beginning, awaits, received, collecting}
 use Rattle.transport.specs.Segments.{frameCount}
 use Rattle.transport.specs.Exchange.{Exchange, onLine, exchange, waited, offered, asked, toldBy, told}
 use Rattle.transport.specs.Exchange.{answeredBy, answered, turn, begun, turns, endedAt, ended, loopedBack}
-use Rattle.transport.proofs.FramesLaws.{and-left, and-right, has-so, mixed, length-mixed, mixed-more}
+use Rattle.transport.proofs.FramesLaws.{has-so, mixed, length-mixed, mixed-more}
 use Rattle.transport.proofs.ReceiverRefuses.{above-room-refused, single-above-room-refused}
 use Rattle.transport.proofs.FramesLaws.{single-length, first-byte, single-body, first-body, consecutive-body}
 
@@ -288,7 +288,8 @@ module _ (blocks separations waits : ℕ → ℕ) (m room : List ℕ) where
 
 -- With any block size and separation time at each frame, and any number of waits before each flow control: after as
 -- many turns as the message has frames, or more, it is complete and stands at the front of the room, what follows it is
--- as found, and both ends are idle. Nothing was refused on the way, since what is refused never arrives.
+-- as found, and both ends are idle. No frame was refused on the way, since what is refused never arrives; that a wait is
+-- taken, and changes nothing, is `wait-changes-nothing`.
 pub message-arrives : (blocks separations waits : ℕ → ℕ) (m room : List ℕ) (n : ℕ) → frameCount (length m) ≤ n
     → 1 ≤ length m → length m ≤ longest → length m ≤ length room
     → turns blocks separations waits m n (begun m room)

@@ -3,23 +3,21 @@
 use mathlib.Core.Path.{_≡_, refl, sym, ap, subst, _∙_}
 use mathlib.Core.Bool.{Bool, true, false, _&&_, _||_, cond}
 use mathlib.Core.List.{List, [], _∷_, _++_, append-nil}
-use Prim.Native.Nat.{ℕ, zero, suc, _+_, _-_, _≤_, _<_}
-use native.Mathlib.Numerals.{add-one}
+use Prim.Native.Nat.{ℕ, zero, suc, _+_, _-_, _≤_}
 use native.Mathlib.Omega.{arith}
 use lib.ListN.{length}
 use lib.Dec.{eqb, leb}
-use borrow.Author.Tests.{le-leb, lt-leb, eqb-true, eqb-false, leb-true, leb-false}
+use borrow.Author.Tests.{le-leb, eqb-true, eqb-false, leb-false}
 use Rattle.transport.specs.declared.CanFrame.{CanFrame}
 use Rattle.transport.specs.declared.Sender.{Sender}
 use Rattle.transport.specs.declared.Sender.the-variants.{Idle, Waiting, Running}
-use Rattle.transport.specs.declared.Started.{Started}
 use Rattle.transport.specs.declared.Flowed.{Flowed}
 use Rattle.transport.specs.declared.FlowAnswer.the-variants.{Go, Wait, Aborted}
-use Rattle.transport.specs.Frames.{single, first, consecutive, lastNumber, longest, has}
-use Rattle.transport.specs.Sending.{start, flowed, controlled, waiting, flow, goesOn, sent, running, nextFrame}
+use Rattle.transport.specs.Frames.{first, consecutive, lastNumber, longest, has}
+use Rattle.transport.specs.Sending.{start, flowed, controlled, waiting, flow, goesOn, sent, running}
 use Rattle.transport.specs.Segments.{consecutives, segments, Step, controls, asks, after, handed, calm, isIdle}
 use Rattle.transport.specs.Segments.{senderAfter, sends}
-use Rattle.transport.proofs.FramesLaws.{and-left, and-right, has-so}
+use Rattle.transport.proofs.FramesLaws.{has-so}
 
 -- these frames are a beginning of those, and all of them where this is so
 abbrev Begins : Bool → List CanFrame → List CanFrame → Type 0
@@ -146,7 +144,8 @@ pub sends-a-beginning : (m : List ℕ) → 1 ≤ length m → length m ≤ longe
     → (rest : List CanFrame) × (sends m l ++ rest ≡ segments m)
 sends-a-beginning m least most l = let b = both m least most l in (b .0, b .1)
 
--- once it is idle and nothing aborted it, it has handed over all of them, in their order, and nothing else
+-- once it is idle, and where every frame that it was given as flow control begins with `30` or `31`, it has handed over
+-- all of them, in their order, and nothing else
 pub sends-all : (m : List ℕ) → 1 ≤ length m → length m ≤ longest → (l : List Step) → calm l ≡ true
     → isIdle (senderAfter m l) ≡ true → sends m l ≡ segments m
 sends-all m least most l still idle =

@@ -83,7 +83,7 @@ isIdle Sender.Idle = true
 isIdle (Sender.Waiting k) = false
 isIdle (Sender.Running k left) = false
 
--- no frame that is given aborts: "`32` or any other first byte aborts"
+-- every frame that is given as flow control begins with `30` or `31`: "`32` or any other first byte aborts"
 unfoldable pub calm : List Step → Bool
 calm [] = true
 calm (controls f ∷ l) = (eqb (f .b0) 0x30 || eqb (f .b0) 0x31) && calm l
