@@ -37,7 +37,7 @@ static struct {
     grelpicado_can_sender sender;
     grelpicado_can_receiver receiver;
     uint8_t request[8];
-    uint8_t reply[GRELPICADO_REPLY_BYTES(EVENTS)];
+    uint8_t reply[GRELPICADO_REPLY_BYTES(EVENTS, FRAME)];
     size_t reply_length;
 } panel;
 
