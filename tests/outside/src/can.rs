@@ -517,8 +517,8 @@ fn any_frame(random: &mut Random, likely: u8) -> Frame {
     frame
 }
 
-fn any_step(random: &mut Random, story: &mut Story) -> Step {
-    let left = random.pick(&[0, 0, 1, 2, 3, 255]);
+/// Sometimes a sender, receiver, room or message that nobody made.
+fn disturb(random: &mut Random, story: &mut Story, left: u8) {
     if random.one_in(20) {
         let (state, next) = (random.below(4) as u8, any_number(random));
         story.sender = Sender { state, left, next };
@@ -541,6 +541,11 @@ fn any_step(random: &mut Random, story: &mut Story) -> Step {
         let length = any_length(random);
         story.message = random.bytes(length);
     }
+}
+
+fn any_step(random: &mut Random, story: &mut Story) -> Step {
+    let left = random.pick(&[0, 0, 1, 2, 3, 255]);
+    disturb(random, story, left);
     match random.below(10) {
         0 => {
             let length = any_length(random);

@@ -97,16 +97,7 @@ impl Happenings {
             }
             Call::Tick { .. } => self.failures(before, after, true),
             Call::Stop { .. } => self.stops(config, before, after),
-            Call::Clear { code } => {
-                let (first, last) = config.first_and_last_code();
-                let many = config.events >= MANY;
-                self.met("the first of many codes is cleared", many && *code == first);
-                self.met("the last of many codes is cleared", many && *code == last);
-                let left = before.memory[0] == after.memory[0] + 1;
-                self.met("a clear of one takes an entry out", left);
-                let cleared = before.board.overflow && !after.board.overflow;
-                self.met("a clear of all clears overflow", cleared);
-            }
+            Call::Clear { code } => self.clears(config, *code, before, after),
             Call::Request { request, room: 3.. } => self.replies(request, room, before == after),
             Call::ReadPaint { event } => self.paints(config, *event, after),
             Call::ListGrey { .. } => {
@@ -126,6 +117,17 @@ impl Happenings {
             }
             _ => {}
         }
+    }
+
+    fn clears(&mut self, config: &Configuration, code: u32, before: &State, after: &State) {
+        let (first, last) = config.first_and_last_code();
+        let many = config.events >= MANY;
+        self.met("the first of many codes is cleared", many && code == first);
+        self.met("the last of many codes is cleared", many && code == last);
+        let left = before.memory[0] == after.memory[0] + 1;
+        self.met("a clear of one takes an entry out", left);
+        let cleared = before.board.overflow && !after.board.overflow;
+        self.met("a clear of all clears overflow", cleared);
     }
 
     /// Looks at a clear that was refused, since no event has this trouble code.
