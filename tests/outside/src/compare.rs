@@ -98,23 +98,38 @@ impl Comparison {
             room: &self.room,
         });
         let outcome = call.by_reference(config, state, &mut self.room);
+        // Where no board is handed back, the caller's stays.
+        let left = match outcome.number == DONE && call.hands_back_board() {
+            true => as_bytes(&state.board),
+            false => given,
+        };
+        let expected = self.expected(config, state, left, call, way, outcome);
+        self.line.send(expected);
+        outcome
+    }
+
+    /// What the door must answer and leave, where the reference left this state.
+    fn expected(
+        &self,
+        config: &[i32],
+        state: &State,
+        board: door::Board,
+        call: &Call,
+        way: Way,
+        outcome: Outcome,
+    ) -> Expected {
         let front = &config[..config.len().min(3)];
-        self.line.send(Expected {
+        Expected {
             place: format!("call {} (n, M, F {front:?}): {call}", self.tally.ran),
             way,
             call: call.clone(),
             config: config.to_vec(),
             outcome,
-            // Where no board is handed back, the caller's stays.
-            board: match outcome.number == DONE && call.hands_back_board() {
-                true => as_bytes(&state.board),
-                false => given,
-            },
+            board,
             after: state.clone(),
             room: self.room.clone(),
             frame: stored_frame(config, state, call),
-        });
-        outcome
+        }
     }
 
     /// Waits for the last answer.

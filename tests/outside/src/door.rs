@@ -40,7 +40,13 @@ impl Program {
             Ok(output) if output.status.success() => {
                 String::from_utf8(output.stdout).map_err(|error| error.to_string())
             }
-            Ok(output) => Err(format!("asked for {word}, it ended: {}", output.status)),
+            Ok(output) => {
+                let said = String::from_utf8_lossy(&output.stdout);
+                let ended = output.status;
+                Err(format!(
+                    "asked for {word}, it ended: {ended}; it said: {said}"
+                ))
+            }
             Err(error) => Err(format!("{} does not start: {error}", self.path)),
         }
     }
