@@ -1,0 +1,4 @@
+pub mod TextLaws
+pub mod EscapeLaws
+pub mod NamesStayInPlace
+pub mod Examples
