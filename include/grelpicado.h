@@ -3,12 +3,12 @@
  *
  * To start: write a configuration (grelpicado_event), give grelpicado_begin your
  * arrays, and make the calls grelpicado_ctx_... on what it filled. They stand at
- * the end of this file, over the fifteen plain calls that do the work.
+ * the end of this file, over the sixteen plain calls that do the work.
  *
  * The manager keeps nothing of its own. Everything it works on is lent by the
  * caller for the length of one call:
  *
- *   config     signed 32-bit numbers, 3 in front and 13 for each event, read only
+ *   config     signed 32-bit numbers, 3 in front and 14 for each event, read only
  *   records    4 bytes for each event: status, failed cycles, healing, ageing
  *   debounce   one signed 32-bit number for each event
  *   memory     the number of entries, then the entries, the oldest first
@@ -44,10 +44,10 @@ extern "C" {
 #endif
 
 /*
- * Of this header: 2002 is 2.2. The thousands rise when a program that includes it must be changed
+ * Of this header: 3000 is 3.0. The thousands rise when a program that includes it must be changed
  * or compiled again, the rest when something is added.
  */
-#define GRELPICADO_HEADER_VERSION 2002
+#define GRELPICADO_HEADER_VERSION 3000
 
 /* A cast and a check in the words of either language, for this file. */
 #ifdef __cplusplus
@@ -65,7 +65,7 @@ extern "C" {
 #define GRELPICADO_MAX_FRAME 32u
 
 /* Numbers of the configuration. */
-#define GRELPICADO_CONFIG_NUMBERS(n) (GRELPICADO_SIZE_(3) + GRELPICADO_SIZE_(13) * GRELPICADO_SIZE_(n))
+#define GRELPICADO_CONFIG_NUMBERS(n) (GRELPICADO_SIZE_(3) + GRELPICADO_SIZE_(14) * GRELPICADO_SIZE_(n))
 /* Bytes of the records. */
 #define GRELPICADO_RECORDS_BYTES(n) (GRELPICADO_SIZE_(4) * GRELPICADO_SIZE_(n))
 /* Debounce numbers. */
@@ -94,7 +94,7 @@ extern "C" {
 /* ---- the configuration */
 
 /*
- * Three numbers in front, then thirteen for each event, event 0 first. Any other length, or any
+ * Three numbers in front, then fourteen for each event, event 0 first. Any other length, or any
  * number that this table does not allow, and every call answers GRELPICADO_BAD_CONFIGURATION.
  *
  *      in front       meaning                                        allowed
@@ -125,6 +125,8 @@ extern "C" {
  *  12  age            A: after how many clean runs it is confirmed   1 to 255
  *                     no more, and its entry leaves
  *  13  indicator      whether it warns when confirmed: 1 yes, 0 no   0 or 1
+ *  14  needed         the set of conditions without which it is      0 to 2,147,483,647
+ *                     not tested, 0 for none
  *
  * A run is clean for an event if its test was completed in it and never failed.
  */
@@ -142,6 +144,7 @@ typedef struct grelpicado_event {
     int32_t heal;
     int32_t age;
     int32_t indicator;
+    int32_t needed;        /* GRELPICADO_CONDITION(k), or several with | between them */
 } grelpicado_event;
 
 #define GRELPICADO_MAX_TROUBLE_CODE 0xFFFFFE
@@ -162,11 +165,19 @@ typedef struct grelpicado_event {
 #define GRELPICADO_JUMP_BOTH 3
 
 /*
+ * There are 31 conditions, 0 to 30. What each stands for, as that the pump is on, is the caller's to
+ * say. A set of them has a bit for each: the set that an event needs, and the set that is present.
+ */
+#define GRELPICADO_CONDITIONS 31
+#define GRELPICADO_CONDITION(k) (1u << (k))
+#define GRELPICADO_ALL_PRESENT 0x7FFFFFFFu
+
+/*
  * The type of a whole configuration of n events, laid out as the numbers that a call takes:
  *
  *     static const GRELPICADO_CONFIG(1) config = {
  *         1, 4, 0,
- *         {{0x1234, 1, GRELPICADO_CYCLE_0, GRELPICADO_KIND_INTERNAL, 0, 0, 0, 0, 0, 1, 1, 1, 1}},
+ *         {{0x1234, 1, GRELPICADO_CYCLE_0, GRELPICADO_KIND_INTERNAL, 0, 0, 0, 0, 0, 1, 1, 1, 1, 0}},
  *     };
  *
  * In C the fields may be named, as .trouble_code = 0x1234; in C++ n may not be a constant with the
@@ -196,6 +207,7 @@ typedef struct grelpicado_event {
 #define GRELPICADO_BAD_IMAGE 8          /* the image is not acceptable */
 #define GRELPICADO_WRONG_FRAME 9        /* the lent frame is not F bytes */
 #define GRELPICADO_NO_ENTRY 10          /* the event has no memory entry */
+#define GRELPICADO_MISSING_CONDITION 11 /* a condition that the event needs is not present */
 
 /* ---- the status byte, ISO 14229-1 */
 
@@ -233,6 +245,9 @@ typedef struct grelpicado_event {
 /* The longest tick, in milliseconds. */
 #define GRELPICADO_MAX_TICK 60000u
 
+/* The lowest missing condition where none is missing. */
+#define GRELPICADO_NONE_MISSING 32u
+
 /* ---- what crosses by value */
 
 /*
@@ -266,6 +281,13 @@ typedef struct grelpicado_counter_answer {
     int8_t counter;
 } grelpicado_counter_answer;
 
+/* How many needed conditions are missing, and the lowest of their numbers; 0 and 0 beside a refusal. */
+typedef struct grelpicado_missing_answer {
+    uint8_t number;
+    uint32_t count;
+    uint32_t lowest; /* GRELPICADO_NONE_MISSING where the count is 0 */
+} grelpicado_missing_answer;
+
 /* counts[c][b]: how many events of cycle c have bit b of their status set; all 0 beside a refusal. */
 typedef struct grelpicado_table_answer {
     uint8_t number;
@@ -297,7 +319,7 @@ typedef struct grelpicado_request_answer {
     grelpicado_board board;
 } grelpicado_request_answer;
 
-/* ---- the fifteen calls */
+/* ---- the sixteen calls */
 
 /*
  * The fresh state: every status 50h, no entry, cycles stopped, overflow clear.
@@ -311,9 +333,10 @@ grelpicado_answer grelpicado_fresh(
     grelpicado_board board);
 
 /*
- * A test's result for one event: code GRELPICADO_PASSED to GRELPICADO_PRE_FAILED, and the frame,
- * of F bytes, that is stored should this be a fresh failure.
- * Refusals, in order: 2, 3, 4 (event), 1 (code), 6, 9, 5 (cycle stopped).
+ * A test's result for one event: code GRELPICADO_PASSED to GRELPICADO_PRE_FAILED, the frame, of F bytes,
+ * that is stored should this be a fresh failure, and the set of conditions that are present, of which
+ * bit 31 is ignored: GRELPICADO_ALL_PRESENT where there are none to watch.
+ * Refusals, in order: 2, 3, 4 (event), 1 (code), 6, 9, 5 (cycle stopped), 11 (one it needs is missing).
  */
 grelpicado_report_answer grelpicado_report(
     const int32_t *config, size_t config_length,
@@ -322,10 +345,12 @@ grelpicado_report_answer grelpicado_report(
     uint8_t *memory, size_t memory_length,
     grelpicado_board board,
     size_t event, uint32_t code,
-    const uint8_t *frame, size_t frame_length);
+    const uint8_t *frame, size_t frame_length,
+    uint32_t present);
 
 /*
- * ms milliseconds have passed, 0 to 60,000. Every event that fails by it takes the frame.
+ * ms milliseconds have passed, 0 to 60,000, with these conditions present. Every event that fails by it
+ * takes the frame. The debounce number of an event that needs another one too stays where it is.
  * Refusals, in order: 2, 3, 1 (ms), 9.
  */
 grelpicado_answer grelpicado_tick(
@@ -335,7 +360,8 @@ grelpicado_answer grelpicado_tick(
     uint8_t *memory, size_t memory_length,
     grelpicado_board board,
     uint32_t ms,
-    const uint8_t *frame, size_t frame_length);
+    const uint8_t *frame, size_t frame_length,
+    uint32_t present);
 
 /*
  * Starts a cycle, 0 to 3.
@@ -399,6 +425,20 @@ grelpicado_counter_answer grelpicado_read_counter(
     const uint8_t *memory, size_t memory_length,
     grelpicado_board board,
     size_t event);
+
+/*
+ * What keeps an event from being tested: how many of the conditions that it needs are missing from those
+ * present, and the lowest of their numbers, 32 where none is. Writes nothing.
+ * Refusals, in order: 2, 3, 4 (event).
+ */
+grelpicado_missing_answer grelpicado_read_missing(
+    const int32_t *config, size_t config_length,
+    const uint8_t *records, size_t records_length,
+    const int32_t *debounce, size_t debounce_length,
+    const uint8_t *memory, size_t memory_length,
+    grelpicado_board board,
+    size_t event,
+    uint32_t present);
 
 /*
  * For each of the four cycles and each of the eight bits of the status, how many events of that cycle
@@ -687,23 +727,26 @@ static inline uint8_t grelpicado_begin(
     return grelpicado_ctx_fresh(manager);
 }
 
-/* A test's result for one event, with the frame of F bytes. Refusals: 2, 3, 4, 1, 6, 9, 5. */
+/*
+ * A test's result for one event, with the frame of F bytes and the conditions that are present.
+ * Refusals: 2, 3, 4, 1, 6, 9, 5, 11.
+ */
 static inline grelpicado_verdict_answer grelpicado_ctx_report(
-    grelpicado *manager, size_t event, uint32_t code, const uint8_t *frame, size_t frame_length)
+    grelpicado *manager, size_t event, uint32_t code, const uint8_t *frame, size_t frame_length, uint32_t present)
 {
     const grelpicado_report_answer answer = grelpicado_report(
-        GRELPICADO_LENT_(manager), event, code, grelpicado_bytes_(frame, frame_length), frame_length);
+        GRELPICADO_LENT_(manager), event, code, grelpicado_bytes_(frame, frame_length), frame_length, present);
     const grelpicado_verdict_answer rest = {answer.number, answer.verdict};
     manager->board = answer.board;
     return rest;
 }
 
-/* So many milliseconds have passed. Refusals: 2, 3, 1, 9. */
+/* So many milliseconds have passed, with these conditions present. Refusals: 2, 3, 1, 9. */
 static inline uint8_t grelpicado_ctx_tick(
-    grelpicado *manager, uint32_t ms, const uint8_t *frame, size_t frame_length)
+    grelpicado *manager, uint32_t ms, const uint8_t *frame, size_t frame_length, uint32_t present)
 {
     return grelpicado_keep_(manager, grelpicado_tick(
-        GRELPICADO_LENT_(manager), ms, grelpicado_bytes_(frame, frame_length), frame_length));
+        GRELPICADO_LENT_(manager), ms, grelpicado_bytes_(frame, frame_length), frame_length, present));
 }
 
 /* Starts a cycle. Refusals: 2, 3, 4, 5. */
@@ -734,6 +777,13 @@ static inline grelpicado_status_answer grelpicado_ctx_read_status(const grelpica
 static inline grelpicado_counter_answer grelpicado_ctx_read_counter(const grelpicado *manager, size_t event)
 {
     return grelpicado_read_counter(GRELPICADO_LENT_(manager), event);
+}
+
+/* How many conditions that an event needs are missing, and the lowest. Refusals: 2, 3, 4. */
+static inline grelpicado_missing_answer grelpicado_ctx_read_missing(
+    const grelpicado *manager, size_t event, uint32_t present)
+{
+    return grelpicado_read_missing(GRELPICADO_LENT_(manager), event, present);
 }
 
 /* How many events of each cycle have each bit set. Refusals: 2, 3. */
@@ -797,8 +847,8 @@ static inline grelpicado_length_answer grelpicado_ctx_request(
 typedef GRELPICADO_CONFIG(2) grelpicado_config_of_two_;
 
 GRELPICADO_CHECK_(sizeof(size_t) == 8, "lengths have 64 bits");
-GRELPICADO_CHECK_(sizeof(grelpicado_event) == 13 * sizeof(int32_t), "an event is thirteen numbers");
-GRELPICADO_CHECK_(offsetof(grelpicado_event, indicator) == 12 * sizeof(int32_t), "the indicator is the last");
+GRELPICADO_CHECK_(sizeof(grelpicado_event) == 14 * sizeof(int32_t), "an event is fourteen numbers");
+GRELPICADO_CHECK_(offsetof(grelpicado_event, needed) == 13 * sizeof(int32_t), "the needed set is the last");
 GRELPICADO_CHECK_(offsetof(grelpicado_config_of_two_, events) == 0, "n is the first number");
 GRELPICADO_CHECK_(offsetof(grelpicado_config_of_two_, event) == 3 * sizeof(int32_t),
     "the events follow three numbers");
@@ -815,6 +865,9 @@ GRELPICADO_CHECK_(sizeof(grelpicado_status_answer) == 2 && offsetof(grelpicado_s
     && offsetof(grelpicado_status_answer, status) == 1, "layout of grelpicado_status_answer");
 GRELPICADO_CHECK_(sizeof(grelpicado_counter_answer) == 2 && offsetof(grelpicado_counter_answer, number) == 0
     && offsetof(grelpicado_counter_answer, counter) == 1, "layout of grelpicado_counter_answer");
+GRELPICADO_CHECK_(sizeof(grelpicado_missing_answer) == 12 && offsetof(grelpicado_missing_answer, number) == 0
+    && offsetof(grelpicado_missing_answer, count) == 4
+    && offsetof(grelpicado_missing_answer, lowest) == 8, "layout of grelpicado_missing_answer");
 GRELPICADO_CHECK_(sizeof(grelpicado_table_answer) == 66 && offsetof(grelpicado_table_answer, number) == 0
     && offsetof(grelpicado_table_answer, counts) == 2, "layout of grelpicado_table_answer");
 GRELPICADO_CHECK_(sizeof(grelpicado_paint_answer) == 2 && offsetof(grelpicado_paint_answer, number) == 0

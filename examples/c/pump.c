@@ -1,14 +1,17 @@
 /*
- * A panel's loop for one pump, with two events of its one cycle:
+ * A panel's loop for one pump, with two events of its one cycle, a run of the machine:
  *
- *   the pressure   tested on each value that arrives, counted up and down
+ *   the pressure   tested on each value that arrives while the pump is on, counted up and down
  *   the link       tested every 100 ms by whether the sensor answers, timed
  *
- * While the link is silent no value arrives and the pressure is not tested. The
- * panel paints the value as the pressure is painted, but grey unless the link is
- * live. So a last value does not stay live on the glass after the link has
- * dropped, nor after the pump has stopped, when nothing is tested and the bytes
- * stay.
+ * The pump may be switched off in a run. The sensor then answers 0.00 bar, and that is no fault: the
+ * pressure needs the condition that the pump is on. The panel reports what it reads all the same. Without
+ * the condition the report is refused, nothing happens, and the panel asks what is missing.
+ *
+ * While the link is silent no value arrives, and the pressure is not tested either. The panel paints the
+ * value as the pressure is painted, but grey unless the link is live and the pump is on. So a last value
+ * does not stay live on the glass after the link has dropped, the pump was switched off or the run has
+ * ended, when nothing is tested and the bytes stay.
  */
 #include <stdbool.h>
 #include <stdio.h>
@@ -19,7 +22,8 @@
 
 enum { EVENTS = 2, PLACES = 2, FRAME = 2 };
 enum { PRESSURE = 0, LINK = 1 };
-enum { PUMP = 0 };  /* the cycle of both events */
+enum { RUN = 0 };      /* the cycle of both events */
+enum { PUMP_ON = 0 };  /* the condition that the pressure needs */
 enum { STEP_MS = 100 };
 enum { LOWEST = 150, HIGHEST = 400 };  /* the good pressures, in 0.01 bar */
 enum { SILENT = -1 };  /* no value arrived */
@@ -32,7 +36,7 @@ static const GRELPICADO_CONFIG(EVENTS) config = {
         [PRESSURE] = {
             .trouble_code = 0x0A11,
             .priority = 1,
-            .cycle = PUMP,
+            .cycle = RUN,
             .debounce_kind = GRELPICADO_KIND_COUNTER,
             .p = -2,
             .q = 2,
@@ -43,11 +47,12 @@ static const GRELPICADO_CONFIG(EVENTS) config = {
             .heal = 1,
             .age = 3,
             .indicator = 1,
+            .needed = GRELPICADO_CONDITION(PUMP_ON),
         },
         [LINK] = {
             .trouble_code = 0x0A12,
             .priority = 2,
-            .cycle = PUMP,
+            .cycle = RUN,
             .debounce_kind = GRELPICADO_KIND_TIME,
             .p = -200,
             .q = 500,
@@ -65,6 +70,7 @@ struct panel {
     int32_t debounce[GRELPICADO_DEBOUNCE_NUMBERS(EVENTS)];
     uint8_t memory[GRELPICADO_MEMORY_BYTES(PLACES, FRAME)];
     grelpicado manager;
+    uint32_t present; /* the set of conditions that are present */
 };
 
 static void must_be_done(uint8_t number, const char *call)
@@ -75,12 +81,18 @@ static void must_be_done(uint8_t number, const char *call)
     }
 }
 
+static void switch_pump(struct panel *panel, bool on)
+{
+    panel->present = on ? GRELPICADO_CONDITION(PUMP_ON) : 0;
+}
+
 static void begin(struct panel *panel)
 {
     uint8_t number = grelpicado_begin(
         &panel->manager, GRELPICADO_LEND_CONFIG(config), GRELPICADO_LEND(panel->records),
         GRELPICADO_LEND(panel->debounce), GRELPICADO_LEND(panel->memory));
     must_be_done(number, "begin");
+    switch_pump(panel, true);
 }
 
 static uint8_t status_of(const struct panel *panel, size_t event)
@@ -96,10 +108,20 @@ static uint8_t paint_of(const struct panel *panel, size_t event)
     return grelpicado_ctx_read_paint(&panel->manager, event).paint;
 }
 
+/* Which conditions keep the pressure from being tested. */
+static grelpicado_missing_answer missing_of(const struct panel *panel)
+{
+    grelpicado_missing_answer answer =
+        grelpicado_ctx_read_missing(&panel->manager, PRESSURE, panel->present);
+    must_be_done(answer.number, "read missing");
+    return answer;
+}
+
 /* The value on the glass. */
 static uint8_t paint_of_value(const struct panel *panel)
 {
-    return paint_of(panel, LINK) == GRELPICADO_PAINT_LIVE ? paint_of(panel, PRESSURE) : GRELPICADO_PAINT_GREY;
+    bool tested = paint_of(panel, LINK) == GRELPICADO_PAINT_LIVE && missing_of(panel).count == 0;
+    return tested ? paint_of(panel, PRESSURE) : GRELPICADO_PAINT_GREY;
 }
 
 /* ---- printing */
@@ -128,12 +150,18 @@ static void print_event(const struct panel *panel, const char *name, size_t even
     putchar('\n');
 }
 
+static const char *const reasons[] = {[PUMP_ON] = "the pump is off"};
+
 static void print_panel(const struct panel *panel, const char *moment)
 {
     printf("%s\n", moment);
     print_event(panel, "pressure", PRESSURE);
     print_event(panel, "link", LINK);
     printf("  the value is painted %s\n", paint_names[paint_of_value(panel)]);
+    grelpicado_missing_answer missing = missing_of(panel);
+    if (missing.count > 0) {
+        printf("  the pressure is not tested: %s\n", reasons[missing.lowest]);
+    }
 }
 
 /* The value that the pressure failed with, read in the panel's own memory block. */
@@ -152,9 +180,14 @@ static void print_frame(const struct panel *panel)
 
 /* ---- the loop */
 
+/* Without a condition that the event needs, it is not tested now: refused, and nothing has changed. */
 static void report(struct panel *panel, size_t event, uint32_t code, const uint8_t *frame)
 {
-    must_be_done(grelpicado_ctx_report(&panel->manager, event, code, frame, FRAME).number, "report");
+    uint8_t number =
+        grelpicado_ctx_report(&panel->manager, event, code, frame, FRAME, panel->present).number;
+    if (number != GRELPICADO_MISSING_CONDITION) {
+        must_be_done(number, "report");
+    }
 }
 
 /* One step: the link answers with a value or is silent, and 100 ms pass. */
@@ -169,20 +202,25 @@ static void step(struct panel *panel, int value)
         report(panel, PRESSURE, good ? GRELPICADO_PRE_PASSED : GRELPICADO_PRE_FAILED, frame);
     }
     report(panel, LINK, answers ? GRELPICADO_PRE_PASSED : GRELPICADO_PRE_FAILED, frame);
-    must_be_done(grelpicado_ctx_tick(&panel->manager, STEP_MS, frame, FRAME), "tick");
+    must_be_done(grelpicado_ctx_tick(&panel->manager, STEP_MS, frame, FRAME, panel->present), "tick");
 }
 
-static void run(struct panel *panel, const int *values, size_t steps)
+static void go_on(struct panel *panel, const int *values, size_t steps)
 {
-    must_be_done(grelpicado_ctx_start(&panel->manager, PUMP), "start");
     for (size_t i = 0; i < steps; i++) {
         step(panel, values[i]);
     }
 }
 
+static void run(struct panel *panel, const int *values, size_t steps)
+{
+    must_be_done(grelpicado_ctx_start(&panel->manager, RUN), "start");
+    go_on(panel, values, steps);
+}
+
 static void stop(struct panel *panel)
 {
-    must_be_done(grelpicado_ctx_stop(&panel->manager, PUMP), "stop");
+    must_be_done(grelpicado_ctx_stop(&panel->manager, RUN), "stop");
 }
 
 /* ---- power off and on */
@@ -199,6 +237,23 @@ static void lose_power(struct panel *panel)
     must_be_done(grelpicado_ctx_restore(&panel->manager, image, saved.length), "restore");
 }
 
+/* ---- the pump is switched off and on, in one run */
+
+static void switch_off_and_on(struct panel *panel)
+{
+    static const int good[] = {210, 209, 210};
+    static const int nothing[] = {0, 0, 0};
+    run(panel, GRELPICADO_LEND(good));
+    switch_pump(panel, false);
+    go_on(panel, GRELPICADO_LEND(nothing));
+    print_panel(panel, "Fifth run: 2.10 bar, then the pump is switched off, and the sensor answers 0.00 bar.");
+    switch_pump(panel, true);
+    go_on(panel, GRELPICADO_LEND(nothing));
+    print_panel(panel, "The pump is switched on, and the sensor still answers 0.00 bar.");
+    print_frame(panel);
+    stop(panel);
+}
+
 int main(void)
 {
     static const int no_answer[] = {SILENT, SILENT, SILENT, SILENT, SILENT, SILENT};
@@ -208,11 +263,11 @@ int main(void)
     struct panel panel;
     begin(&panel);
 
-    run(&panel, no_answer, sizeof no_answer / sizeof no_answer[0]);
+    run(&panel, GRELPICADO_LEND(no_answer));
     print_panel(&panel, "First run: the sensor never answers.");
     stop(&panel);
 
-    run(&panel, falling, sizeof falling / sizeof falling[0]);
+    run(&panel, GRELPICADO_LEND(falling));
     print_panel(&panel, "Second run: the link is back, then the pressure falls.");
     print_frame(&panel);
     stop(&panel);
@@ -220,14 +275,16 @@ int main(void)
     lose_power(&panel);
     print_panel(&panel, "Power on: the state is as it was saved.");
 
-    run(&panel, good, sizeof good / sizeof good[0]);
+    run(&panel, GRELPICADO_LEND(good));
     print_panel(&panel, "Third run: the pressure is good again.");
     stop(&panel);
     print_panel(&panel, "Stopped: a clean run has healed the warning.");
     print_frame(&panel);
 
-    run(&panel, dropping, sizeof dropping / sizeof dropping[0]);
+    run(&panel, GRELPICADO_LEND(dropping));
     print_panel(&panel, "Fourth run: 2.10 bar, then the link drops.");
     stop(&panel);
+
+    switch_off_and_on(&panel);
     return EXIT_SUCCESS;
 }

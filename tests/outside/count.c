@@ -3,7 +3,8 @@
  * equal copies of one state, with mark() before, between and behind. Both must be done and leave the same.
  *
  * It prints where mark lies, and a line for each call: its name, n and M. The state, F = 32 throughout:
- *   - kinds in turn: time, counter, internal; all events in cycle 0, priorities 1 to 8 in turn;
+ *   - kinds in turn: time, counter, internal; all events in cycle 0, priorities 1 to 8 in turn; each needs
+ *     condition 0, and all are present;
  *   - memory is full, or holds an entry of every event where there are fewer events than places; event 0
  *     has the oldest;
  *   - one event in two is confirmed and warns, one in eight ages at the next stop; one in four is fresh
@@ -70,6 +71,7 @@ static void configure(void)
         row->heal = 3;
         row->age = 4;
         row->indicator = 1;
+        row->needed = GRELPICADO_CONDITION(0);
     }
 }
 
@@ -169,7 +171,7 @@ static void keep(struct world *world, grelpicado_answer got)
 
 static void report(const struct side *by, struct world *world, size_t event, uint32_t code)
 {
-    grelpicado_report_answer got = by->report(LENT, event, code, GRELPICADO_LEND(frame));
+    grelpicado_report_answer got = by->report(LENT, event, code, GRELPICADO_LEND(frame), GRELPICADO_ALL_PRESENT);
     world->number = got.number;
     world->value = got.verdict;
     world->board = got.board;
@@ -211,7 +213,7 @@ static void report_pre_failed(const struct side *by, struct world *world)
 
 static void tick(const struct side *by, struct world *world)
 {
-    keep(world, by->tick(LENT, 10, GRELPICADO_LEND(frame)));
+    keep(world, by->tick(LENT, 10, GRELPICADO_LEND(frame), GRELPICADO_ALL_PRESENT));
 }
 
 static void start(const struct side *by, struct world *world)

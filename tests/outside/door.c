@@ -29,7 +29,7 @@ enum { CONFIG, RECORDS, DEBOUNCE, MEMORY, INPUT, ROOM, BLOCKS };
 
 enum {
     FRESH, REPORT, TICK, START, STOP, CLEAR, READ_STATUS, READ_FRAME, SAVE, RESTORE, REQUEST, READ_COUNTER,
-    READ_TABLE, READ_PAINT, LIST_GREY
+    READ_TABLE, READ_PAINT, LIST_GREY, READ_MISSING
 };
 
 /* By the plain call; on a context; by grelpicado_begin, for a fresh state. */
@@ -43,6 +43,7 @@ struct head {
     uint64_t turn;          /* handed back, so that no answer is taken for another's */
     uint64_t event;         /* or cycle, milliseconds, trouble code */
     uint64_t code;          /* of a report */
+    uint64_t present;       /* the set of conditions */
     uint64_t bytes[BLOCKS]; /* of each block; a configuration and debounce numbers in bytes too */
 };
 
@@ -52,12 +53,12 @@ struct answer {
     uint8_t broken; /* a bit for each block beside which a byte was written; 40h: the context's blocks changed */
     grelpicado_board board;
     uint64_t turn;
-    uint64_t start;  /* of a frame; or a counter, as a signed number */
-    uint64_t length;
+    uint64_t start;  /* of a frame; or a counter, as a signed number; or how many conditions are missing */
+    uint64_t length; /* or the lowest missing condition */
     uint64_t nanoseconds;
 };
 
-_Static_assert(sizeof(struct head) == 80, "the other side writes 80 bytes");
+_Static_assert(sizeof(struct head) == 88, "the other side writes 88 bytes");
 _Static_assert(sizeof(struct answer) == 40, "the other side reads 40 bytes");
 
 static struct {
@@ -260,6 +261,13 @@ static void take_counter(struct answer *answer, grelpicado_counter_answer got)
     answer->start = (uint64_t)(int64_t)got.counter; /* with its sign, as the header's type has it */
 }
 
+static void take_missing(struct answer *answer, grelpicado_missing_answer got)
+{
+    answer->number = got.number;
+    answer->start = got.count;
+    answer->length = got.lowest;
+}
+
 /* The counts go where they can be compared: into the room, which is as long as they are. */
 static void take_table(struct answer *answer, const struct block *room, grelpicado_table_answer got)
 {
@@ -302,10 +310,11 @@ static void by_plain(const struct head *head, const struct block b[BLOCKS], stru
     size_t event = (size_t)head->event;
     uint32_t number = (uint32_t)head->event;
     uint32_t code = (uint32_t)head->code;
+    uint32_t present = (uint32_t)head->present;
     switch (head->call) {
     case FRESH: take(answer, grelpicado_fresh(LENT, board)); break;
-    case REPORT: take_report(answer, grelpicado_report(LENT, board, event, code, INPUT_BYTES)); break;
-    case TICK: take(answer, grelpicado_tick(LENT, board, number, INPUT_BYTES)); break;
+    case REPORT: take_report(answer, grelpicado_report(LENT, board, event, code, INPUT_BYTES, present)); break;
+    case TICK: take(answer, grelpicado_tick(LENT, board, number, INPUT_BYTES, present)); break;
     case START: take(answer, grelpicado_start(LENT, board, number)); break;
     case STOP: take(answer, grelpicado_stop(LENT, board, number)); break;
     case CLEAR: take(answer, grelpicado_clear(LENT, board, number)); break;
@@ -318,6 +327,7 @@ static void by_plain(const struct head *head, const struct block b[BLOCKS], stru
     case READ_TABLE: take_table(answer, &b[ROOM], grelpicado_read_table(LENT, board)); break;
     case READ_PAINT: take_paint(answer, grelpicado_read_paint(LENT, board, event)); break;
     case LIST_GREY: take_length(answer, grelpicado_list_grey(LENT, board, ROOM_LIST)); break;
+    case READ_MISSING: take_missing(answer, grelpicado_read_missing(LENT, board, event, present)); break;
     default: give_up("no such call");
     }
 }
@@ -340,10 +350,11 @@ static void on_context(
     size_t event = (size_t)head->event;
     uint32_t number = (uint32_t)head->event;
     uint32_t code = (uint32_t)head->code;
+    uint32_t present = (uint32_t)head->present;
     switch (head->call) {
     case FRESH: answer->number = grelpicado_ctx_fresh(manager); break;
-    case REPORT: take_verdict(answer, grelpicado_ctx_report(manager, event, code, INPUT_OR_NULL)); break;
-    case TICK: answer->number = grelpicado_ctx_tick(manager, number, INPUT_OR_NULL); break;
+    case REPORT: take_verdict(answer, grelpicado_ctx_report(manager, event, code, INPUT_OR_NULL, present)); break;
+    case TICK: answer->number = grelpicado_ctx_tick(manager, number, INPUT_OR_NULL, present); break;
     case START: answer->number = grelpicado_ctx_start(manager, number); break;
     case STOP: answer->number = grelpicado_ctx_stop(manager, number); break;
     case CLEAR: answer->number = grelpicado_ctx_clear(manager, number); break;
@@ -356,6 +367,7 @@ static void on_context(
     case READ_TABLE: take_table(answer, &b[ROOM], grelpicado_ctx_read_table(manager)); break;
     case READ_PAINT: take_paint(answer, grelpicado_ctx_read_paint(manager, event)); break;
     case LIST_GREY: take_length(answer, grelpicado_ctx_list_grey(manager, LIST_OR_NULL)); break;
+    case READ_MISSING: take_missing(answer, grelpicado_ctx_read_missing(manager, event, present)); break;
     default: give_up("no such call");
     }
 }
@@ -485,6 +497,7 @@ static void print_events(void)
     FIELD(grelpicado_event, heal);
     FIELD(grelpicado_event, age);
     FIELD(grelpicado_event, indicator);
+    FIELD(grelpicado_event, needed);
 }
 
 static void print_layout(void)
@@ -505,6 +518,10 @@ static void print_layout(void)
     SIZE(grelpicado_counter_answer);
     FIELD(grelpicado_counter_answer, number);
     FIELD(grelpicado_counter_answer, counter);
+    SIZE(grelpicado_missing_answer);
+    FIELD(grelpicado_missing_answer, number);
+    FIELD(grelpicado_missing_answer, count);
+    FIELD(grelpicado_missing_answer, lowest);
     SIZE(grelpicado_table_answer);
     FIELD(grelpicado_table_answer, number);
     FIELD(grelpicado_table_answer, counts);
@@ -548,6 +565,9 @@ static const struct {
     NUMBER(GRELPICADO_JUMP_UP),
     NUMBER(GRELPICADO_JUMP_DOWN),
     NUMBER(GRELPICADO_JUMP_BOTH),
+    NUMBER(GRELPICADO_CONDITIONS),
+    NUMBER(GRELPICADO_ALL_PRESENT),
+    NUMBER(GRELPICADO_NONE_MISSING),
     NUMBER(GRELPICADO_DONE),
     NUMBER(GRELPICADO_BAD_ARGUMENT),
     NUMBER(GRELPICADO_BAD_CONFIGURATION),
@@ -559,6 +579,7 @@ static const struct {
     NUMBER(GRELPICADO_BAD_IMAGE),
     NUMBER(GRELPICADO_WRONG_FRAME),
     NUMBER(GRELPICADO_NO_ENTRY),
+    NUMBER(GRELPICADO_MISSING_CONDITION),
     NUMBER(GRELPICADO_TEST_FAILED),
     NUMBER(GRELPICADO_TEST_FAILED_THIS_OPERATION_CYCLE),
     NUMBER(GRELPICADO_PENDING),
@@ -610,6 +631,9 @@ static void print_numbers(void)
 {
     for (size_t i = 0; i < sizeof numbers / sizeof numbers[0]; i++) {
         printf("%s %lld\n", numbers[i].name, numbers[i].value);
+    }
+    for (unsigned k = 0; k < GRELPICADO_CONDITIONS; k++) {
+        printf("GRELPICADO_CONDITION(%u) %u\n", k, GRELPICADO_CONDITION(k));
     }
     print_sizes(1, 1, 0);
     print_sizes(2, 1, 5);

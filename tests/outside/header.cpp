@@ -12,8 +12,9 @@ constexpr int frame_length = 0;
 const GRELPICADO_CONFIG(event_count) config = {
     event_count, place_count, frame_length,
     {
-        {0x1234, 1, GRELPICADO_CYCLE_0, GRELPICADO_KIND_INTERNAL, 0, 0, 0, 0, GRELPICADO_JUMP_NONE, 1, 1, 1, 1},
-        {0x1235, 2, GRELPICADO_CYCLE_1, GRELPICADO_KIND_COUNTER, -2, 2, 1, 1, GRELPICADO_JUMP_BOTH, 1, 1, 1, 0},
+        {0x1234, 1, GRELPICADO_CYCLE_0, GRELPICADO_KIND_INTERNAL, 0, 0, 0, 0, GRELPICADO_JUMP_NONE, 1, 1, 1, 1,
+            GRELPICADO_CONDITION(0) | GRELPICADO_CONDITION(30)},
+        {0x1235, 2, GRELPICADO_CYCLE_1, GRELPICADO_KIND_COUNTER, -2, 2, 1, 1, GRELPICADO_JUMP_BOTH, 1, 1, 1, 0, 0},
     },
 };
 
@@ -24,11 +25,21 @@ std::uint8_t image[GRELPICADO_IMAGE_BYTES(event_count, place_count, frame_length
 std::uint8_t reply[GRELPICADO_REPLY_BYTES(event_count, frame_length)];
 std::uint16_t list[GRELPICADO_LIST_NUMBERS(event_count)];
 
+std::uint8_t verdict_of(grelpicado *manager, std::uint32_t code)
+{
+    return grelpicado_ctx_report(manager, 0, code, nullptr, 0, GRELPICADO_ALL_PRESENT).verdict;
+}
+
 bool a_run(grelpicado *manager)
 {
     return grelpicado_ctx_start(manager, GRELPICADO_CYCLE_0) == GRELPICADO_DONE
-        && grelpicado_ctx_report(manager, 0, GRELPICADO_FAILED, nullptr, 0).verdict == GRELPICADO_VERDICT_FAILED
-        && grelpicado_ctx_tick(manager, GRELPICADO_MAX_TICK, nullptr, 0) == GRELPICADO_DONE
+        && grelpicado_ctx_report(manager, 0, GRELPICADO_FAILED, nullptr, 0, GRELPICADO_CONDITION(0)).number
+            == GRELPICADO_MISSING_CONDITION
+        && grelpicado_ctx_read_missing(manager, 0, 0).count == 2
+        && grelpicado_ctx_read_missing(manager, 0, GRELPICADO_CONDITION(0)).lowest == 30
+        && grelpicado_ctx_read_missing(manager, 0, GRELPICADO_ALL_PRESENT).lowest == GRELPICADO_NONE_MISSING
+        && verdict_of(manager, GRELPICADO_FAILED) == GRELPICADO_VERDICT_FAILED
+        && grelpicado_ctx_tick(manager, GRELPICADO_MAX_TICK, nullptr, 0, 0) == GRELPICADO_DONE
         && grelpicado_ctx_read_status(manager, 0).status == 0xAF
         && grelpicado_ctx_read_counter(manager, 0).counter == 127
         && grelpicado_ctx_read_frame(manager, 0).start == 4
@@ -36,10 +47,10 @@ bool a_run(grelpicado *manager)
         && grelpicado_ctx_read_table(manager).counts[0][7] == 1
         && grelpicado_ctx_list_grey(manager, GRELPICADO_LEND(list)).length == 1
         && list[0] == 1
-        && grelpicado_ctx_report(manager, 0, GRELPICADO_PASSED, nullptr, 0).verdict == GRELPICADO_VERDICT_PASSED
+        && verdict_of(manager, GRELPICADO_PASSED) == GRELPICADO_VERDICT_PASSED
         && grelpicado_ctx_read_counter(manager, 0).counter == -128
         && grelpicado_ctx_read_paint(manager, 0).paint == GRELPICADO_PAINT_LIVE
-        && grelpicado_ctx_report(manager, 0, GRELPICADO_FAILED, nullptr, 0).verdict == GRELPICADO_VERDICT_FAILED
+        && verdict_of(manager, GRELPICADO_FAILED) == GRELPICADO_VERDICT_FAILED
         && grelpicado_ctx_stop(manager, GRELPICADO_CYCLE_0) == GRELPICADO_DONE;
 }
 

@@ -28,15 +28,16 @@ static uint8_t given_null(const uint8_t *bytes, size_t length)
 }
 
 grelpicado_report_answer grelpicado_report(
-    LENT(), size_t event, uint32_t code, const uint8_t *frame, size_t frame_length)
+    LENT(), size_t event, uint32_t code, const uint8_t *frame, size_t frame_length, uint32_t present)
 {
-    UNUSED, (void)event, (void)code;
+    UNUSED, (void)event, (void)code, (void)present;
     return (grelpicado_report_answer){given_null(frame, frame_length), 0, board};
 }
 
-grelpicado_answer grelpicado_tick(LENT(), uint32_t ms, const uint8_t *frame, size_t frame_length)
+grelpicado_answer grelpicado_tick(
+    LENT(), uint32_t ms, const uint8_t *frame, size_t frame_length, uint32_t present)
 {
-    UNUSED, (void)ms;
+    UNUSED, (void)ms, (void)present;
     return (grelpicado_answer){given_null(frame, frame_length), board};
 }
 
@@ -78,8 +79,8 @@ int main(void)
 {
     grelpicado manager = {NULL, 0, NULL, 0, NULL, 0, NULL, 0, {{0, 0, 0, 0}, 0}};
     uint8_t byte = 0;
-    int wrong = lends_null("report", grelpicado_ctx_report(&manager, 0, 0, NULL, 0).number)
-        + lends_null("tick", grelpicado_ctx_tick(&manager, 0, NULL, 0))
+    int wrong = lends_null("report", grelpicado_ctx_report(&manager, 0, 0, NULL, 0, 0).number)
+        + lends_null("tick", grelpicado_ctx_tick(&manager, 0, NULL, 0, 0))
         + lends_null("save", grelpicado_ctx_save(&manager, NULL, 0).number)
         + lends_null("list grey", grelpicado_ctx_list_grey(&manager, NULL, 0).number)
         + lends_null("restore", grelpicado_ctx_restore(&manager, NULL, 0))

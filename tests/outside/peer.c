@@ -12,9 +12,9 @@ enum { EVENTS = 3, PLACES = 2, FRAME = 4 };
 static const GRELPICADO_CONFIG(EVENTS) config = {
     EVENTS, PLACES, FRAME,
     {
-        {0x123456, 1, GRELPICADO_CYCLE_0, GRELPICADO_KIND_INTERNAL, 0, 0, 0, 0, GRELPICADO_JUMP_NONE, 1, 1, 1, 1},
-        {0x123457, 2, GRELPICADO_CYCLE_0, GRELPICADO_KIND_INTERNAL, 0, 0, 0, 0, GRELPICADO_JUMP_NONE, 2, 1, 1, 0},
-        {0x123458, 3, GRELPICADO_CYCLE_0, GRELPICADO_KIND_COUNTER, -2, 2, 1, 1, GRELPICADO_JUMP_NONE, 1, 1, 1, 0},
+        {0x123456, 1, GRELPICADO_CYCLE_0, GRELPICADO_KIND_INTERNAL, 0, 0, 0, 0, GRELPICADO_JUMP_NONE, 1, 1, 1, 1, 0},
+        {0x123457, 2, GRELPICADO_CYCLE_0, GRELPICADO_KIND_INTERNAL, 0, 0, 0, 0, GRELPICADO_JUMP_NONE, 2, 1, 1, 0, 0},
+        {0x123458, 3, GRELPICADO_CYCLE_0, GRELPICADO_KIND_COUNTER, -2, 2, 1, 1, GRELPICADO_JUMP_NONE, 1, 1, 1, 0, 0},
     },
 };
 
@@ -64,16 +64,21 @@ static const struct asked all[] = {
     {2, {0x22, 0x01}, sizeof reply},
 };
 
-int main(void)
+static uint8_t report(grelpicado *manager, size_t event, uint32_t code)
 {
     static const uint8_t frame[FRAME] = {0xCA, 0xFE, 0x01, 0x02};
+    return grelpicado_ctx_report(manager, event, code, GRELPICADO_LEND(frame), GRELPICADO_ALL_PRESENT).number;
+}
+
+int main(void)
+{
     grelpicado manager;
     int well = grelpicado_begin(
         &manager, GRELPICADO_LEND_CONFIG(config), GRELPICADO_LEND(records), GRELPICADO_LEND(debounce),
         GRELPICADO_LEND(memory)) == GRELPICADO_DONE
         && grelpicado_ctx_start(&manager, GRELPICADO_CYCLE_0) == GRELPICADO_DONE
-        && grelpicado_ctx_report(&manager, 0, GRELPICADO_FAILED, GRELPICADO_LEND(frame)).number == GRELPICADO_DONE
-        && grelpicado_ctx_report(&manager, 2, GRELPICADO_PRE_FAILED, GRELPICADO_LEND(frame)).number == GRELPICADO_DONE;
+        && report(&manager, 0, GRELPICADO_FAILED) == GRELPICADO_DONE
+        && report(&manager, 2, GRELPICADO_PRE_FAILED) == GRELPICADO_DONE;
     for (size_t i = 0; well && i < sizeof all / sizeof all[0]; i++) {
         grelpicado_length_answer answer =
             grelpicado_ctx_request(&manager, all[i].bytes, all[i].length, reply, all[i].room);

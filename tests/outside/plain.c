@@ -1,5 +1,5 @@
 /*
- * Document 01 in plain C, to count the archive's instructions beside. It shares with the archive the
+ * Documents 01 and 02 in plain C, to count the archive's instructions beside. It shares with the archive the
  * types and macros of grelpicado.h alone, takes any arguments as the archive does, and judges the same:
  * the outside tests compare its answers and every lent byte with the reference, as they do the archive's.
  *
@@ -90,7 +90,8 @@ static bool row_allowed(const grelpicado_event *row)
         && in(row->confirm, 1, 255)
         && in(row->heal, 1, 255)
         && in(row->age, 1, 255)
-        && in(row->indicator, 0, 1);
+        && in(row->indicator, 0, 1)
+        && row->needed >= 0;
 }
 
 static bool read_table(struct table *table, const int32_t *config, size_t length)
@@ -448,9 +449,16 @@ grelpicado_answer plain_fresh(LENT())
     return (grelpicado_answer){GRELPICADO_DONE, {{0, 0, 0, 0}, 0}};
 }
 
+/* The conditions that an event needs and that are not present. No event needs bit 31. */
+static uint32_t missing_of(const grelpicado_event *row, uint32_t present)
+{
+    return (uint32_t)row->needed & ~present;
+}
+
 /* The first refusal of a report that applies after 2 and 3. */
 static uint8_t judge_report(
-    const struct table *table, const grelpicado_board *board, size_t event, uint32_t code, size_t frame_length)
+    const struct table *table, const grelpicado_board *board, size_t event, uint32_t code, size_t frame_length,
+    uint32_t present)
 {
     if (event >= table->events) {
         return GRELPICADO_NO_SUCH;
@@ -465,7 +473,10 @@ static uint8_t judge_report(
     if (frame_length != table->frame) {
         return GRELPICADO_WRONG_FRAME;
     }
-    return board->running[row->cycle] ? GRELPICADO_DONE : GRELPICADO_WRONG_CYCLE_STATE;
+    if (!board->running[row->cycle]) {
+        return GRELPICADO_WRONG_CYCLE_STATE;
+    }
+    return missing_of(row, present) == 0 ? GRELPICADO_DONE : GRELPICADO_MISSING_CONDITION;
 }
 
 /* Of kind 0 the result is the verdict, and D stays 0. */
@@ -485,12 +496,12 @@ static uint8_t take_result(
 }
 
 grelpicado_report_answer plain_report(
-    LENT(), size_t event, uint32_t code, const uint8_t *frame, size_t frame_length)
+    LENT(), size_t event, uint32_t code, const uint8_t *frame, size_t frame_length, uint32_t present)
 {
     struct table table;
     uint8_t number = judge(&table, LENGTHS, BLOCKS, &board);
     if (number == GRELPICADO_DONE) {
-        number = judge_report(&table, &board, event, code, frame_length);
+        number = judge_report(&table, &board, event, code, frame_length, present);
     }
     if (number != GRELPICADO_DONE) {
         return (grelpicado_report_answer){number, GRELPICADO_VERDICT_NONE, board};
@@ -500,12 +511,14 @@ grelpicado_report_answer plain_report(
     return (grelpicado_report_answer){GRELPICADO_DONE, verdict, state.board};
 }
 
-static void pass_time(const struct table *table, struct state *state, int32_t ms, const uint8_t *frame)
+static void pass_time(
+    const struct table *table, struct state *state, int32_t ms, const uint8_t *frame, uint32_t present)
 {
     for (size_t e = 0; e < table->events; e++) {
         const grelpicado_event *row = &table->event[e];
         int32_t d = state->debounce[e];
-        if (row->debounce_kind != GRELPICADO_KIND_TIME || !state->board.running[row->cycle]) {
+        if (row->debounce_kind != GRELPICADO_KIND_TIME || !state->board.running[row->cycle]
+            || missing_of(row, present) != 0) {
             continue;
         }
         if (0 < d && d < top(row)) {
@@ -516,7 +529,8 @@ static void pass_time(const struct table *table, struct state *state, int32_t ms
     }
 }
 
-grelpicado_answer plain_tick(LENT(), uint32_t ms, const uint8_t *frame, size_t frame_length)
+grelpicado_answer plain_tick(
+    LENT(), uint32_t ms, const uint8_t *frame, size_t frame_length, uint32_t present)
 {
     struct table table;
     uint8_t number = judge(&table, LENGTHS, BLOCKS, &board);
@@ -530,7 +544,7 @@ grelpicado_answer plain_tick(LENT(), uint32_t ms, const uint8_t *frame, size_t f
         return (grelpicado_answer){number, board};
     }
     struct state state = {BLOCKS, tidy(board)};
-    pass_time(&table, &state, (int32_t)ms, frame);
+    pass_time(&table, &state, (int32_t)ms, frame, present);
     return (grelpicado_answer){GRELPICADO_DONE, state.board};
 }
 
@@ -693,6 +707,28 @@ grelpicado_counter_answer plain_read_counter(LENT(const), size_t event)
     }
     int32_t counter = counter_of(&table.event[event], debounce[event], records[RECORD * event + STATUS]);
     return (grelpicado_counter_answer){GRELPICADO_DONE, (int8_t)counter};
+}
+
+grelpicado_missing_answer plain_read_missing(LENT(const), size_t event, uint32_t present)
+{
+    struct table table;
+    uint8_t number = judge(&table, LENGTHS, BLOCKS, &board);
+    if (number != GRELPICADO_DONE) {
+        return (grelpicado_missing_answer){number, 0, 0};
+    }
+    if (event >= table.events) {
+        return (grelpicado_missing_answer){GRELPICADO_NO_SUCH, 0, 0};
+    }
+    uint32_t missing = missing_of(&table.event[event], present);
+    uint32_t count = 0;
+    uint32_t lowest = GRELPICADO_NONE_MISSING;
+    for (uint32_t k = GRELPICADO_CONDITIONS; k-- > 0;) {
+        if (missing & GRELPICADO_CONDITION(k)) {
+            count++;
+            lowest = k;
+        }
+    }
+    return (grelpicado_missing_answer){GRELPICADO_DONE, count, lowest};
 }
 
 /* Not tested in this run, or no run goes on. */

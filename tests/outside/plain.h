@@ -1,5 +1,5 @@
 /*
- * The fifteen calls once more, in plain C: plain.c. Each has the type of the call of grelpicado.h whose
+ * The sixteen calls once more, in plain C: plain.c. Each has the type of the call of grelpicado.h whose
  * name it bears.
  */
 #ifndef PLAIN_H
@@ -15,6 +15,7 @@ __typeof__(grelpicado_stop) plain_stop;
 __typeof__(grelpicado_clear) plain_clear;
 __typeof__(grelpicado_read_status) plain_read_status;
 __typeof__(grelpicado_read_counter) plain_read_counter;
+__typeof__(grelpicado_read_missing) plain_read_missing;
 __typeof__(grelpicado_read_table) plain_read_table;
 __typeof__(grelpicado_read_paint) plain_read_paint;
 __typeof__(grelpicado_list_grey) plain_list_grey;

@@ -1,9 +1,10 @@
-// Document 01, "Numbers a call answers with": the number of each answer, and the verdict, status, counter, paint or
-// length beside it.
+// Document 01, "Numbers a call answers with": the number of each answer, and the verdict, status, counter, missing
+// conditions, paint or length beside it.
 use manual::Answer;
 use manual::CounterAnswer;
 use manual::FrameAnswer;
 use manual::LengthAnswer;
+use manual::MissingAnswer;
 use manual::Paint;
 use manual::PaintAnswer;
 use manual::Refusal;
@@ -12,7 +13,7 @@ use manual::StatusAnswer;
 use manual::Verdict;
 ghost use mathlib.Core.Path.{_≡_};
 ghost use Rattle.manual.specs.Answers.{numberOf, ofAnswer, ofReport, ofStatus, ofCounter, counterAnswered, ofFrame};
-ghost use Rattle.manual.specs.Answers.{ofPaint, paintAnswered, ofLength};
+ghost use Rattle.manual.specs.Answers.{ofMissing, lowestAnswered, ofPaint, paintAnswered, ofLength};
 
 pub fn refusal_number(r: Refusal) -> u8
     ensures { λ n. ⌜ n ≡ numberOf r ⌝ }
@@ -28,6 +29,7 @@ pub fn refusal_number(r: Refusal) -> u8
         Refusal::BadImage => 8,
         Refusal::WrongFrame => 9,
         Refusal::NoEntry => 10,
+        Refusal::MissingCondition => 11,
     }
 }
 
@@ -99,6 +101,36 @@ pub fn counter(a: CounterAnswer) -> i8
     match a {
         CounterAnswer::Counter(counter) => counter,
         CounterAnswer::Refused(_) => 0,
+    }
+}
+
+// ---- read missing
+
+pub fn missing_number(a: MissingAnswer) -> u8
+    ensures { λ n. ⌜ n ≡ ofMissing a .number ⌝ }
+{
+    match a {
+        MissingAnswer::Missing(_) => 0,
+        MissingAnswer::Refused(r) => refusal_number(r),
+    }
+}
+
+// "a refusal … answers 0 and 0"
+pub fn missing_count(a: MissingAnswer) -> u32
+    ensures { λ n. ⌜ n ≡ ofMissing a .value ⌝ }
+{
+    match a {
+        MissingAnswer::Missing(still) => still.count,
+        MissingAnswer::Refused(_) => 0,
+    }
+}
+
+pub fn lowest_missing(a: MissingAnswer) -> u32
+    ensures { λ n. ⌜ n ≡ lowestAnswered a ⌝ }
+{
+    match a {
+        MissingAnswer::Missing(still) => still.lowest,
+        MissingAnswer::Refused(_) => 0,
     }
 }
 

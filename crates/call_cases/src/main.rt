@@ -1,4 +1,4 @@
-// Runs the case files through the fifteen calls, and prints the file and the line of each case that differs, and for
+// Runs the case files through the sixteen calls, and prints the file and the line of each case that differs, and for
 // each file how many calls ran and how many differed.
 //
 // A line of a case file begins with
@@ -75,6 +75,7 @@ enum Call {
 enum Reading {
     ReadStatus,
     ReadCounter,
+    ReadMissing,
     ReadTable,
     ReadPaint,
     ListGrey,
@@ -228,6 +229,15 @@ fn number_of(line: &[u8], k: usize) -> u32 {
     text::decimal_32(line, text::word(line, k))
 }
 
+// The conditions that are lent to a call, where word k has them; else all are present.
+fn present_of(line: &[u8], k: usize) -> u32 {
+    let at = text::word(line, k);
+    if !text::stands(line, at, b"conditions=") {
+        return manual::ALL_PRESENT;
+    }
+    text::decimal_32(line, text::behind(line, at, b'='))
+}
+
 // The length of the room of a call, in word k.
 fn room_of(line: &[u8], k: usize) -> usize {
     text::decimal(line, text::behind(line, text::word(line, k), b'=')) as usize
@@ -254,7 +264,18 @@ fn run_report(
 ) -> Given {
     let event = event_of(line);
     let code = number_of(line, 3);
-    let returned = reporting::report(cfg, records, debounce, memory, board, event, code, frame);
+    let present = present_of(line, 5);
+    let returned = reporting::report(
+        cfg,
+        records,
+        debounce,
+        memory,
+        board,
+        event,
+        code,
+        frame,
+        present,
+    );
     let answer = returned.answer;
     let after = returned.board;
     Given {
@@ -304,6 +325,26 @@ fn run_read_counter(
     Given {
         agrees: same_number(says, answers::counter_number(answer))
             & same_counter(says, answers::counter(answer)),
+        board,
+    }
+}
+
+fn run_read_missing(
+    line: &[u8],
+    says: &[u8],
+    cfg: &[i32],
+    records: &[u8],
+    debounce: &[i32],
+    memory: &[u8],
+    board: Board,
+) -> Given {
+    let event = event_of(line);
+    let present = number_of(line, 3);
+    let answer = queries::read_missing(cfg, records, debounce, memory, board, event, present);
+    Given {
+        agrees: same_number(says, answers::missing_number(answer))
+            & same_value(says, 2, answers::missing_count(answer) as u64)
+            & same_value(says, 3, answers::lowest_missing(answer) as u64),
         board,
     }
 }
@@ -451,6 +492,7 @@ fn run_reading(
     match call {
         Reading::ReadStatus => run_read_status(line, says, cfg, records, debounce, memory, board),
         Reading::ReadCounter => run_read_counter(line, says, cfg, records, debounce, memory, board),
+        Reading::ReadMissing => run_read_missing(line, says, cfg, records, debounce, memory, board),
         Reading::ReadTable => run_read_table(says, cfg, records, debounce, memory, board),
         Reading::ReadPaint => run_read_paint(line, says, cfg, records, debounce, memory, board),
         Reading::ListGrey => run_list_grey(line, says, cfg, records, debounce, memory, board),
@@ -513,9 +555,10 @@ fn run_plain(
     bytes: &[u8],
 ) -> Returned {
     let k = number_of(line, 2);
+    let present = present_of(line, 4);
     match call {
         Plain::Fresh => fresh_state::fresh(cfg, records, debounce, memory, board),
-        Plain::Tick => reporting::tick(cfg, records, debounce, memory, board, k, bytes),
+        Plain::Tick => reporting::tick(cfg, records, debounce, memory, board, k, bytes, present),
         Plain::Start => cycles::start(cfg, records, debounce, memory, board, k),
         Plain::Stop => cycles::stop(cfg, records, debounce, memory, board, k),
         Plain::Clear => clearing::clear(cfg, records, debounce, memory, board, k),
@@ -580,6 +623,9 @@ fn reading_call(line: &[u8]) -> Call {
     }
     if text::stands(line, 2, b"read_counter ") {
         return Call::Reads(Reading::ReadCounter);
+    }
+    if text::stands(line, 2, b"missing ") {
+        return Call::Reads(Reading::ReadMissing);
     }
     if text::stands(line, 2, b"table") {
         return Call::Reads(Reading::ReadTable);
@@ -951,8 +997,8 @@ fn next_line(
     line: &mut [u8; 32768],
     says: &mut [u8; 32768],
     want: &mut [u8; 32768],
-    cfg: &mut [i32; 6720],
-    other: &mut [i32; 6720],
+    cfg: &mut [i32; 7232],
+    other: &mut [i32; 7232],
     records: &mut [u8; 2112],
     debounce: &mut [i32; 528],
     memory: &mut [u8; 2304],
@@ -995,8 +1041,8 @@ fn run_lines(name: &[u8], fd: i32) -> Tally {
     let mut line = [0u8; 32768];
     let mut says = [0u8; 32768];
     let mut want = [0u8; 32768];
-    let mut cfg = [0i32; 6720];
-    let mut other = [0i32; 6720];
+    let mut cfg = [0i32; 7232];
+    let mut other = [0i32; 7232];
     let mut records = [0u8; 2112];
     let mut debounce = [0i32; 528];
     let mut memory = [0u8; 2304];

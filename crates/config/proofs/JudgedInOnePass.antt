@@ -33,7 +33,7 @@ module _ (cfg : Configuration) where
   unfolding configOk holds
   judged-in-one-pass = rw (all-fit cfg (events cfg)) (simp (and-assoc, and-true))
 
-  -- so 3 + 13n may be computed
+  -- so 3 + 14n may be computed
   pub n-most : holds front ≡ true → events cfg ≤ 512
   unfolding events
   n-most t = most (numberAt cfg 0) (between-to (pos 1) (pos 512) (numberAt cfg 0) (part front t 1))

@@ -8,12 +8,14 @@ use lib.ListN.{length, getD, drop}
 use lib.Seq.{getD-take, getD-drop}
 use borrow.Author.Tests.{eqb-true}
 use Rattle.history.proofs.WordsLaws.{part}
+use Rattle.manual.specs.Words.{natOf}
 use Rattle.manual.specs.Configuration.{Configuration, inFront, rowWidth, events, column, limitsOf, configOk}
+use Rattle.manual.specs.Configuration.{neededOf}
 use Rattle.manual.proofs.ConfigurationLaws.{config-tells}
 use Rattle.config.specs.Rows.{partOf, RowWithin}
 
 module _ (cfg : Configuration) (e : ℕ) where
-  pub column-is : (k : ℕ) → k ≤ 13 → column k (partOf cfg e) 0 ≡ column k cfg e
+  pub column-is : (k : ℕ) → k ≤ rowWidth → column k (partOf cfg e) 0 ≡ column k cfg e
   unfolding column
   column-is k h =
       let i : inFront + rowWidth * 0 + (k - 1) < inFront + rowWidth = omega arith in
@@ -31,7 +33,10 @@ module _ (cfg : Configuration) (e : ℕ) where
         column-is 13 (omega arith),
       )
 
-  -- "the length is exactly 3 + 13n"
+  pub needed-are : neededOf (partOf cfg e) 0 ≡ neededOf cfg e
+  needed-are = ap natOf (column-is 14 (omega arith))
+
+  -- "the length is exactly 3 + 13n", with W5 3 + 14n
   pub row-within : configOk cfg ≡ true → e < events cfg → RowWithin cfg e
   unfolding configOk
   row-within ok h =

@@ -24,6 +24,14 @@ pub count-fits : (z : ℤ) → mag z < 2 ^ 31 → ltZ z (pos 0) ≡ false → T 
 count-fits (pos n) h t = (tt, record { fits = lt-of-lt-of-le h (lit≤ tt) })
 count-fits (negsuc n) h t = clash true refl t
 
+pub set-fits : (z : ℤ) → mag z < 2 ^ 31 → ltZ z (pos 0) ≡ false → T (nonNeg z) × Fits w32 (natAbs z)
+set-fits (pos n) h t = (tt, record { fits = lt-of-lt-of-le h (lit≤ tt) })
+set-fits (negsuc n) h t = clash true refl t
+
+pub count-below : (z : ℤ) → mag z < 2 ^ 31 → natOf z < 2 ^ 31
+count-below (pos n) h = h
+count-below (negsuc n) h = omega arith
+
 pub count-is : (z : ℤ) → ltZ z (pos 0) ≡ false → natAbs z ≡ natOf z
 count-is (pos n) t = refl
 count-is (negsuc n) t = clash true refl t

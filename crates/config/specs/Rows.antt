@@ -10,14 +10,15 @@ use Rattle.manual.specs.Words.{between, eqZ}
 use Rattle.manual.specs.Configuration.{Configuration, inFront, mostEvents, rowWidth, column, rowOk, rises}
 use Rattle.config.specs.declared.Limits.{Limits}
 
--- "n events (1 to 512)", "Then 13 per event": an event that a configuration can have, and a number of its row
+-- "n events (1 to 512)", "Then 13 per event", with W5 14: an event that a configuration can have, and a number of its
+-- row
 pub record InRow (e k : ℕ) : Type 0 where
   pub event-below : e < mostEvents
   pub least : 1 ≤ k
   pub most : k ≤ rowWidth
 
--- "the length is exactly 3 + 13n": the rows of n events lie within the configuration, so does the row of each event,
--- and each number of that row
+-- "the length is exactly 3 + 13n", with W5 3 + 14n: the rows of n events lie within the configuration, so does the row
+-- of each event, and each number of that row
 pub record RowsWithin (cfg : Configuration) (n : ℕ) : Type 0 where
   pub most : n ≤ mostEvents
   pub within : inFront + rowWidth * n ≤ length cfg

@@ -3,13 +3,13 @@
 use manual::EventNumber;
 ghost use mathlib.Core.Path.{_≡_};
 ghost use mathlib.Core.Bool.{true};
-ghost use Prim.Native.Nat.{_<_};
+ghost use Prim.Native.Nat.{_^_, _<_};
 ghost use lib.IntN.{pos};
 ghost use Rattle.history.specs.Words.{holds};
 ghost use Rattle.manual.specs.Words.{allBelow, between, eqZ, natOf};
 ghost use Rattle.manual.specs.Configuration.{mostEvents, numberAt, events, places, frameBytes, column, codeOf};
 ghost use Rattle.manual.specs.Configuration.{priorityOf, cycleOf, kindOf, lowOf, highOf, upOf, downOf, jumpsOf};
-ghost use Rattle.manual.specs.Configuration.{limitsOf, rowOk, configOk, hasCode, firstWithCode};
+ghost use Rattle.manual.specs.Configuration.{limitsOf, neededOf, rowOk, configOk, hasCode, firstWithCode};
 ghost use Rattle.config.specs.Rows.{InRow, Within, RowWithin, RowsWithin, limitsIs, partOf, ofKind};
 ghost use Rattle.config.specs.Rows.{risesHere, rowFits};
 ghost use Rattle.config.specs.Search.{searchIs};
@@ -24,8 +24,8 @@ const M_AT: usize = 1;
 
 const F_AT: usize = 2;
 
-// "Then 13 per event, event 0 first"
-const ROW_WIDTH: usize = 13;
+// "Then 13 per event, event 0 first"; document 02, W5: "one more configuration number per event, 14th"
+const ROW_WIDTH: usize = manual::ROW_WIDTH;
 
 // The numbers of a row, counted from 1 as the table does.
 const TROUBLE_CODE: usize = 1;
@@ -53,6 +53,8 @@ const HEAL: usize = 11;
 const AGE: usize = 12;
 
 const INDICATOR: usize = 13;
+
+const NEEDED: usize = 14;
 
 // "0 internal, 1 counter, 2 time"
 pub const INTERNAL: usize = 0;
@@ -215,6 +217,21 @@ pub fn limits_of(cfg: &[i32], event: EventNumber) -> Limits
     }
 }
 
+// A set of conditions as bits: 0, and so none, for a negative number.
+fn set_of(number: i32) -> u32
+    ensures { λ r. ⌜ (r ≡ natOf number) × (r < 2 ^ 31) ⌝ }
+{
+    if number < 0 { 0 } else { number as u32 }
+}
+
+// "14th, for the set it needs"
+pub fn needed_of(cfg: &[i32], event: EventNumber) -> u32
+    requires { ⌜ event .0 < mostEvents ⌝ }
+    ensures { λ r. ⌜ (r ≡ neededOf (now (cfg .entry)) (event .0)) × (r < 2 ^ 31) ⌝ }
+{
+    set_of(number_in_row(cfg, event, NEEDED))
+}
+
 // ---- reading a row that lies within the configuration: nothing is tested
 
 // Number k of the event's row.
@@ -338,6 +355,7 @@ fn row_ok(cfg: &[i32], event: EventNumber) -> bool
         & in_range(cfg, event, HEAL, 1, 255)
         & in_range(cfg, event, AGE, 1, 255)
         & in_range(cfg, event, INDICATOR, 0, 1)
+        & in_range(cfg, event, NEEDED, 0, 2_147_483_647)
 }
 
 // "strictly rising from event to event": the event's trouble code is above that of the event before.
@@ -371,7 +389,8 @@ fn rows_fit(cfg: &[i32], n: usize) -> bool
 }
 
 // Whether the configuration keeps the table; "2 | configuration breaks the table above" is the answer where it does
-// not. "the length is exactly 3 + 13n" is judged once n is known to be at most 512, since n may be any number.
+// not. "the length is exactly 3 + 13n", with W5 3 + 14n, is judged once n is known to be at most 512, since n may be any
+// number.
 pub fn config_ok(cfg: &[i32]) -> bool
     ensures { λ r. ⌜ r ≡ configOk (now (cfg .entry)) ⌝ }
 {

@@ -1,4 +1,4 @@
--- The statement of each of the fifteen calls allows one outcome only: one result, and of every block that the call may
+-- The statement of each of the sixteen calls allows one outcome only: one result, and of every block that the call may
 -- write one content, to the last byte.
 use mathlib.Core.Path.{_≡_, refl}
 use mathlib.Core.List.{List}
@@ -9,6 +9,7 @@ use Rattle.manual.specs.State.{State, lent}
 use Rattle.manual.specs.Answers.{lentRoom, alone}
 use Rattle.manual.specs.Calls.{fresh, report, tick, startCycle, stopCycle, clearCode, readStatus}
 use Rattle.manual.specs.Counter.{counterRead}
+use Rattle.manual.specs.Missing.{missingRead}
 use Rattle.manual.specs.Untested.{tableRead, paintRead, listGrey}
 use Rattle.manual.specs.Image.{save, restore}
 use Rattle.manual.specs.Diagnostics.{requestReply}
@@ -19,6 +20,7 @@ use Rattle.grelpicado.specs.declared.PanelAnswer.{PanelAnswer}
 use Rattle.grelpicado.specs.declared.PanelReport.{PanelReport}
 use Rattle.grelpicado.specs.declared.PanelStatus.{PanelStatus}
 use Rattle.grelpicado.specs.declared.PanelCounter.{PanelCounter}
+use Rattle.grelpicado.specs.declared.PanelMissing.{PanelMissing}
 use Rattle.grelpicado.specs.declared.PanelTable.{PanelTable}
 use Rattle.grelpicado.specs.declared.PanelPaint.{PanelPaint}
 use Rattle.grelpicado.specs.declared.PanelFrame.{PanelFrame}
@@ -27,6 +29,7 @@ use Rattle.grelpicado.specs.declared.PanelRequest.{PanelRequest}
 use Rattle.grelpicado.specs.Panel.{boardOf, Crossing, CounterCrossing, crosses, crossesWithoutBoard}
 use Rattle.grelpicado.specs.Panel.{crossesWithCounter, crossesWithFrame, withAnswer, withReport, withStatus}
 use Rattle.grelpicado.specs.Panel.{withCounter, withFrame, withLength, withRequest}
+use Rattle.grelpicado.specs.Panel.{MissingCrossing, crossesWithMissing, withMissing}
 use Rattle.grelpicado.specs.Panel.{TableCrossing, crossesWithTable, crossesWithPaint, withTable, withPaint}
 
 -- the blocks that cross
@@ -51,6 +54,9 @@ statusIn x = record { number = x .number; status = x .value }
 
 abbrev counterIn : CounterCrossing → PanelCounter
 counterIn x = record { number = x .rest .number; counter = x .counter }
+
+abbrev missingIn : MissingCrossing → PanelMissing
+missingIn x = record { number = x .rest .number; count = x .rest .value; lowest = x .lowest }
 
 abbrev tableIn : TableCrossing → PanelTable
 tableIn x = record { number = x .rest .number; counts = x .counts }
@@ -82,11 +88,11 @@ module _ (cfg : Configuration) (records₀ : List ℕ) (debounce₀ : List ℤ) 
           → (r ≡ r′) × ((records ≡ records′) × ((debounce ≡ debounce′) × (memory ≡ memory′)))
       one-fresh p q = (one-outcome answerIn refl refl p q, same-blocks p q)
 
-      pub one-tick : (ms : ℕ) (frame : List ℕ)
-          → withAnswer records debounce memory r ≡ crosses (tick cfg ms frame alone given) board
-          → withAnswer records′ debounce′ memory′ r′ ≡ crosses (tick cfg ms frame alone given) board
+      pub one-tick : (ms : ℕ) (frame : List ℕ) (present : ℕ)
+          → withAnswer records debounce memory r ≡ crosses (tick cfg ms frame present alone given) board
+          → withAnswer records′ debounce′ memory′ r′ ≡ crosses (tick cfg ms frame present alone given) board
           → (r ≡ r′) × ((records ≡ records′) × ((debounce ≡ debounce′) × (memory ≡ memory′)))
-      one-tick ms frame p q = (one-outcome answerIn refl refl p q, same-blocks p q)
+      one-tick ms frame present p q = (one-outcome answerIn refl refl p q, same-blocks p q)
 
       pub one-stop : (cycle : ℕ)
           → withAnswer records debounce memory r ≡ crosses (stopCycle cfg cycle alone given) board
@@ -106,11 +112,11 @@ module _ (cfg : Configuration) (records₀ : List ℕ) (debounce₀ : List ℤ) 
           → (r ≡ r′) × ((records ≡ records′) × ((debounce ≡ debounce′) × (memory ≡ memory′)))
       one-restore image p q = (one-outcome answerIn refl refl p q, same-blocks p q)
 
-    pub one-report : (event code : ℕ) (frame : List ℕ) (r r′ : PanelReport)
-        → withReport records debounce memory r ≡ crosses (report cfg event code frame alone given) board
-        → withReport records′ debounce′ memory′ r′ ≡ crosses (report cfg event code frame alone given) board
+    pub one-report : (event code : ℕ) (frame : List ℕ) (present : ℕ) (r r′ : PanelReport)
+        → withReport records debounce memory r ≡ crosses (report cfg event code frame present alone given) board
+        → withReport records′ debounce′ memory′ r′ ≡ crosses (report cfg event code frame present alone given) board
         → (r ≡ r′) × ((records ≡ records′) × ((debounce ≡ debounce′) × (memory ≡ memory′)))
-    one-report event code frame r r′ p q = (one-outcome reportIn refl refl p q, same-blocks p q)
+    one-report event code frame present r r′ p q = (one-outcome reportIn refl refl p q, same-blocks p q)
 
     -- the room too
     pub one-request : (request before room room′ : List ℕ) (r r′ : PanelRequest)
@@ -142,6 +148,14 @@ module _ (cfg : Configuration) (records₀ : List ℕ) (debounce₀ : List ℤ) 
       → withCounter records₀ debounce₀ memory₀ board r′ ≡ crossesWithCounter (counterRead cfg event alone given) board
       → r ≡ r′
   one-read-counter event r r′ p q = one-outcome counterIn refl refl p q
+
+  pub one-read-missing : (event present : ℕ) (r r′ : PanelMissing)
+      → withMissing records₀ debounce₀ memory₀ board r
+      ≡ crossesWithMissing (missingRead cfg event present alone given) board
+      → withMissing records₀ debounce₀ memory₀ board r′
+      ≡ crossesWithMissing (missingRead cfg event present alone given) board
+      → r ≡ r′
+  one-read-missing event present r r′ p q = one-outcome missingIn refl refl p q
 
   pub one-read-table : (r r′ : PanelTable)
       → withTable records₀ debounce₀ memory₀ board r ≡ crossesWithTable (tableRead cfg alone given) board

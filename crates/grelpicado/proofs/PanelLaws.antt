@@ -14,6 +14,8 @@ use Rattle.manual.specs.declared.FrameAnswer.{FrameAnswer}
 use Rattle.manual.specs.declared.FrameAnswer.the-variants.{At}
 use Rattle.manual.specs.declared.LengthAnswer.{LengthAnswer}
 use Rattle.manual.specs.declared.LengthAnswer.the-variants.{Written}
+use Rattle.manual.specs.declared.MissingAnswer.{MissingAnswer}
+use Rattle.manual.specs.declared.MissingAnswer.the-variants.{Missing}
 use Rattle.manual.specs.declared.PaintAnswer.{PaintAnswer}
 use Rattle.manual.specs.declared.PaintAnswer.the-variants.{Painted}
 use Rattle.manual.specs.declared.ReportAnswer.{ReportAnswer}
@@ -23,13 +25,13 @@ use Rattle.manual.specs.declared.StatusAnswer.the-variants.{Status}
 use Rattle.manual.specs.declared.TableReturned.{TableReturned}
 use Rattle.manual.specs.State.{State}
 use Rattle.manual.specs.Answers.{lentRoom, Answered, ofAnswer, ofReport, ofStatus, ofCounter, counterAnswered}
-use Rattle.manual.specs.Answers.{ofPaint, paintAnswered, ofFrame, ofLength, leaves}
-use Rattle.queries.specs.Reading.{tells, startIn, lengthIn, says}
+use Rattle.manual.specs.Answers.{ofMissing, lowestAnswered, ofPaint, paintAnswered, ofFrame, ofLength, leaves}
+use Rattle.queries.specs.Reading.{tells, tellsMissing, startIn, lengthIn, says}
 use Rattle.untested.specs.Page.{tableTold, paintTold}
 use Rattle.grelpicado.specs.declared.PanelBoard.{PanelBoard}
 use Rattle.grelpicado.specs.Panel.{boardOf, bytesOf, verdictNumber, crosses}
 use Rattle.grelpicado.specs.Panel.{crossesWithoutBoard, crossesWithCounter, crossesWithFrame, made}
-use Rattle.grelpicado.specs.Panel.{paintNumber, crossesWithTable, crossesWithPaint}
+use Rattle.grelpicado.specs.Panel.{crossesWithMissing, paintNumber, crossesWithTable, crossesWithPaint}
 
 -- ---- what an answer does not have is 0
 
@@ -52,6 +54,10 @@ status-verdict (StatusAnswer.Refused r) = refl
 pub counter-verdict : (a : CounterAnswer) → 0 ≡ verdictNumber (ofCounter a .verdict)
 counter-verdict (Counter z) = refl
 counter-verdict (CounterAnswer.Refused r) = refl
+
+pub missing-verdict : (a : MissingAnswer) → 0 ≡ verdictNumber (ofMissing a .verdict)
+missing-verdict (Missing still) = refl
+missing-verdict (MissingAnswer.Refused r) = refl
 
 pub paint-verdict : (a : PaintAnswer) → 0 ≡ verdictNumber (ofPaint a .verdict)
 paint-verdict (Painted p) = refl
@@ -94,6 +100,17 @@ crossed-with-counter a s found number counter =
     λ i. record {
       rest = made (number i) (counter-verdict a i) 0 0 (s .records) (s .debounce) (s .memory) [] found;
       counter = counter i;
+    }
+
+pub crossed-with-missing : (a : MissingAnswer) (s : State) (found : PanelBoard) {n k l : ℕ}
+    → n ≡ ofMissing a .number → k ≡ ofMissing a .value → l ≡ lowestAnswered a
+    → record { rest = made n 0 k 0 (s .records) (s .debounce) (s .memory) [] found; lowest = l }
+    ≡ crossesWithMissing (tellsMissing a s) found
+unfolding crossesWithMissing
+crossed-with-missing a s found number count lowest =
+    λ i. record {
+      rest = made (number i) (missing-verdict a i) (count i) 0 (s .records) (s .debounce) (s .memory) [] found;
+      lowest = lowest i;
     }
 
 pub crossed-with-table : (t : TableReturned) (s : State) (found : PanelBoard) {n : ℕ} → n ≡ ofAnswer (t .answer) .number

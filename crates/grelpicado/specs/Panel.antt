@@ -14,6 +14,7 @@ use Rattle.manual.specs.declared.Verdict.the-variants.{None, Passed, Failed}
 use Rattle.manual.specs.State.{runs}
 use Rattle.manual.specs.Answers.{Outcome}
 use Rattle.manual.specs.Counter.{CounterRead}
+use Rattle.manual.specs.Missing.{MissingRead}
 use Rattle.manual.specs.Untested.{TableRead, PaintRead}
 use Rattle.queries.specs.Reading.{FrameRead}
 use Rattle.grelpicado.specs.declared.PanelBoard.{PanelBoard}
@@ -21,6 +22,7 @@ use Rattle.grelpicado.specs.declared.PanelAnswer.{PanelAnswer}
 use Rattle.grelpicado.specs.declared.PanelReport.{PanelReport}
 use Rattle.grelpicado.specs.declared.PanelStatus.{PanelStatus}
 use Rattle.grelpicado.specs.declared.PanelCounter.{PanelCounter}
+use Rattle.grelpicado.specs.declared.PanelMissing.{PanelMissing}
 use Rattle.grelpicado.specs.declared.PanelTable.{PanelTable}
 use Rattle.grelpicado.specs.declared.PanelPaint.{PanelPaint}
 use Rattle.grelpicado.specs.declared.PanelFrame.{PanelFrame}
@@ -125,6 +127,15 @@ pub record CounterCrossing : Type 0 where
 unfoldable pub crossesWithCounter : CounterRead → PanelBoard → CounterCrossing
 crossesWithCounter c found = record { rest = crossing (c .outcome) 0 0 found; counter = c .counter }
 
+-- the same of read missing: the value is how many are missing; beside all that, the lowest
+pub record MissingCrossing : Type 0 where
+  pub rest : Crossing
+  pub lowest : ℕ
+
+unfoldable pub crossesWithMissing : MissingRead → PanelBoard → MissingCrossing
+crossesWithMissing m found =
+    record { rest = crossing (m .outcome) (m .outcome .value) 0 found; lowest = m .lowest }
+
 -- the same of read paint: the value is the paint
 unfoldable pub crossesWithPaint : PaintRead → PanelBoard → Crossing
 crossesWithPaint p found = crossing (p .outcome) (paintNumber (p .paint)) 0 found
@@ -156,6 +167,11 @@ module _ (records : List ℕ) (debounce : List ℤ) (memory : List ℕ) where
   abbrev pub withCounter : PanelBoard → PanelCounter → CounterCrossing
   withCounter board r =
       record { rest = made (r .number) 0 0 0 records debounce memory [] board; counter = r .counter }
+
+  -- read missing: the value is how many are missing, the board the caller's
+  abbrev pub withMissing : PanelBoard → PanelMissing → MissingCrossing
+  withMissing board r =
+      record { rest = made (r .number) 0 (r .count) 0 records debounce memory [] board; lowest = r .lowest }
 
   -- read table: the board is the caller's
   abbrev pub withTable : PanelBoard → PanelTable → TableCrossing

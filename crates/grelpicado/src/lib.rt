@@ -1,4 +1,4 @@
-// The fifteen calls for a caller in C, as grelpicado.h declares them. Each reads the board's bytes, makes the call, and
+// The sixteen calls for a caller in C, as grelpicado.h declares them. Each reads the board's bytes, makes the call, and
 // hands back its numbers and the board. Those of replies over CAN stand in can.rt.
 use diagnostics::RequestReturned;
 use manual::Board;
@@ -6,6 +6,7 @@ use manual::CounterAnswer;
 use manual::EventNumber;
 use manual::FrameAnswer;
 use manual::LengthAnswer;
+use manual::MissingAnswer;
 use manual::Paint;
 use manual::PaintAnswer;
 use manual::ReportReturned;
@@ -23,13 +24,15 @@ ghost use Rattle.manual.specs.State.{State, lent};
 ghost use Rattle.manual.specs.Answers.{alone, lentRoom, ofAnswer, ofReport, ofStatus, ofLength, leaves};
 ghost use Rattle.manual.specs.Calls.{fresh, report, tick, startCycle, stopCycle, clearCode, readStatus};
 ghost use Rattle.manual.specs.Counter.{counterRead};
+ghost use Rattle.manual.specs.Missing.{missingRead};
 ghost use Rattle.manual.specs.Untested.{tableRead, paintRead, listGrey};
 ghost use Rattle.manual.specs.Image.{save, restore};
 ghost use Rattle.manual.specs.Diagnostics.{requestReply};
-ghost use Rattle.queries.specs.Reading.{tells, startIn, lengthIn, says, frameRead};
+ghost use Rattle.queries.specs.Reading.{tells, tellsMissing, startIn, lengthIn, says, frameRead};
 ghost use Rattle.untested.specs.Page.{tableTold, paintTold};
 ghost use Rattle.grelpicado.specs.Panel.{yes, flagByte, boardOf, bytesOf, verdictNumber, crosses};
 ghost use Rattle.grelpicado.specs.Panel.{crossesWithoutBoard, crossesWithCounter, crossesWithFrame, withAnswer};
+ghost use Rattle.grelpicado.specs.Panel.{crossesWithMissing, withMissing};
 ghost use Rattle.grelpicado.specs.Panel.{paintNumber, crossesWithTable, crossesWithPaint, withTable, withPaint};
 ghost use Rattle.grelpicado.specs.Panel.{withReport, withStatus, withCounter, withFrame, withLength, withRequest};
 
@@ -71,6 +74,14 @@ pub struct PanelStatus {
 pub struct PanelCounter {
     pub number: u8,
     pub counter: i8,
+}
+
+// The answer of read missing.
+#[repr(C)]
+pub struct PanelMissing {
+    pub number: u8,
+    pub count: u32,
+    pub lowest: u32,
 }
 
 // The answer of read table: cycle by cycle, bit 0 first.
@@ -288,6 +299,19 @@ pub(crate) fn counter_of(answer: CounterAnswer) -> PanelCounter
     }
 }
 
+// Read missing hands back no board.
+pub(crate) fn missing_of(answer: MissingAnswer) -> PanelMissing
+    ensures { λ r. ⌜ ((s : State) (found : PanelBoard)
+        → withMissing (s .records) (s .debounce) (s .memory) found r
+        ≡ crossesWithMissing (tellsMissing answer s) found) ⌝ }
+{
+    PanelMissing {
+        number: answers::missing_number(answer),
+        count: answers::missing_count(answer),
+        lowest: answers::lowest_missing(answer),
+    }
+}
+
 // Read table hands back no board.
 pub(crate) fn table_of(returned: TableReturned) -> PanelTable
     ensures { λ r. ⌜ ((s : State) (found : PanelBoard)
@@ -336,7 +360,7 @@ pub(crate) fn length_of(answer: LengthAnswer) -> PanelLength
     }
 }
 
-// ---- the fifteen calls
+// ---- the sixteen calls
 
 // "Fresh: status 50h, K = h = g = 0, D = 0, memory empty (all bytes 0), cycles stopped, overflow clear."
 #[no_mangle]
@@ -369,10 +393,11 @@ pub extern "C" fn grelpicado_report(
     event: usize,
     code: u32,
     frame: &[u8],
+    present: u32,
 ) -> PanelReport
     ensures { λ r. ⌜ withReport (now (records .exit)) (now (debounce .exit)) (now (memory .exit)) r
         ≡ crosses
-        (report (now (cfg .entry)) event code (now (frame .entry)) alone
+        (report (now (cfg .entry)) event code (now (frame .entry)) present alone
         (lent (now (records .entry)) (now (debounce .entry)) (now (memory .entry)) (boardOf board)))
         board ⌝ }
 {
@@ -386,6 +411,7 @@ pub extern "C" fn grelpicado_report(
         EventNumber(event),
         code,
         frame,
+        present,
     );
     report_of(returned, board)
 }
@@ -400,15 +426,16 @@ pub extern "C" fn grelpicado_tick(
     board: PanelBoard,
     ms: u32,
     frame: &[u8],
+    present: u32,
 ) -> PanelAnswer
     ensures { λ r. ⌜ withAnswer (now (records .exit)) (now (debounce .exit)) (now (memory .exit)) r
         ≡ crosses
-        (tick (now (cfg .entry)) ms (now (frame .entry)) alone
+        (tick (now (cfg .entry)) ms (now (frame .entry)) present alone
         (lent (now (records .entry)) (now (debounce .entry)) (now (memory .entry)) (boardOf board)))
         board ⌝ }
 {
     let given = board_of(board);
-    let returned = reporting::tick(cfg, records, debounce, memory, given, ms, frame);
+    let returned = reporting::tick(cfg, records, debounce, memory, given, ms, frame, present);
     answer_of(returned, board)
 }
 
@@ -515,6 +542,29 @@ pub extern "C" fn grelpicado_read_counter(
     let given = board_of(board);
     let answer = queries::read_counter(cfg, records, debounce, memory, given, EventNumber(event));
     counter_of(answer)
+}
+
+// Document 02, W5: "how many of the conditions it needs are still missing, and the lowest missing number".
+#[no_mangle]
+pub extern "C" fn grelpicado_read_missing(
+    cfg: &[i32],
+    records: &[u8],
+    debounce: &[i32],
+    memory: &[u8],
+    board: PanelBoard,
+    event: usize,
+    present: u32,
+) -> PanelMissing
+    ensures { λ r. ⌜ withMissing (now (records .entry)) (now (debounce .entry)) (now (memory .entry)) board r
+        ≡ crossesWithMissing
+        (missingRead (now (cfg .entry)) event present alone
+        (lent (now (records .entry)) (now (debounce .entry)) (now (memory .entry)) (boardOf board)))
+        board ⌝ }
+{
+    let given = board_of(board);
+    let event = EventNumber(event);
+    let answer = queries::read_missing(cfg, records, debounce, memory, given, event, present);
+    missing_of(answer)
 }
 
 // Document 02, W10: "for each of the four cycles and each of the eight bits, the events of that cycle with the bit

@@ -117,13 +117,13 @@ fn one_if(test: bool) -> usize {
 // ---- configurations
 
 // A configuration of one event of each debounce kind, and a number past its end.
-fn base(kind: usize) -> [i32; 17]
-    ensures { λ r. ⌜ 17 ≡ length r ⌝ }
+fn base(kind: usize) -> [i32; 18]
+    ensures { λ r. ⌜ 18 ≡ length r ⌝ }
 {
     match kind {
-        0 => [1, 1, 0, 1, 1, 0, 0, 0, 0, 0, 0, 0, 1, 1, 1, 0, 0],
-        1 => [1, 1, 0, 1, 1, 0, 1, -4, 4, 2, 1, 0, 2, 1, 3, 1, 0],
-        _ => [1, 1, 0, 1, 1, 0, 2, -500, 500, 0, 0, 0, 2, 1, 3, 1, 0],
+        0 => [1, 1, 0, 1, 1, 0, 0, 0, 0, 0, 0, 0, 1, 1, 1, 0, 0, 0],
+        1 => [1, 1, 0, 1, 1, 0, 1, -4, 4, 2, 1, 0, 2, 1, 3, 1, 0, 0],
+        _ => [1, 1, 0, 1, 1, 0, 2, -500, 500, 0, 0, 0, 2, 1, 3, 1, 0, 0],
     }
 }
 
@@ -146,7 +146,7 @@ fn accepted(cfg: &[i32], len: usize) -> usize {
 fn bound_agrees(table: &[i32], at: usize) -> bool {
     let mut cfg = base(count_at(table, at, 0));
     put(&mut cfg, count_at(table, at, 1), number_at(table, at, 2));
-    accepted(&cfg, 16) == count_at(table, at, 3)
+    accepted(&cfg, 17) == count_at(table, at, 3)
 }
 
 fn length_agrees(table: &[i32], at: usize) -> bool {
@@ -165,8 +165,8 @@ fn code_after(event: usize) -> i32 {
 
 // A number of the rows of kind 0, counted from the first row on: trouble code, priority, C, H and A, all others 0.
 fn in_rows(place: usize) -> i32 {
-    match place % 13 {
-        0 => code_after(place / 13),
+    match place % manual::ROW_WIDTH {
+        0 => code_after(place / manual::ROW_WIDTH),
         1 | 9 | 10 | 11 => 1,
         _ => 0,
     }
@@ -181,12 +181,12 @@ fn fill_rows(cfg: &mut [i32]) {
 
 // Rows of kind 0 with rising trouble codes, then n, M 1, F 0 and the first two codes put in.
 fn codes_agree(table: &[i32], at: usize) -> bool {
-    let mut cfg = [0; 6672];
+    let mut cfg = [0; 7185];
     fill_rows(&mut cfg);
     put(&mut cfg, 0, number_at(table, at, 0));
     put(&mut cfg, 1, 1);
     put(&mut cfg, 3, number_at(table, at, 2));
-    put(&mut cfg, 16, number_at(table, at, 3));
+    put(&mut cfg, 17, number_at(table, at, 3));
     accepted(&cfg, count_at(table, at, 1)) == count_at(table, at, 4)
 }
 
@@ -224,7 +224,7 @@ fn code_agrees(cfg: &[i32], table: &[i32], at: usize) -> bool {
 }
 
 fn search_agrees(table: &[i32], at: usize) -> bool {
-    let mut cfg = [0; 68];
+    let mut cfg = [0; 73];
     read_numbers(&tables::SEARCHED, &mut cfg);
     code_agrees(&cfg, table, at)
 }
@@ -257,7 +257,7 @@ fn pairs_agree_below(cfg: &[i32], n: usize, table: &[i32], at: usize) -> bool {
     if 512 < n {
         return false;
     }
-    let len = 3 + 13 * n;
+    let len = 3 + manual::ROW_WIDTH * n;
     if cfg.len() < len {
         return false;
     }
@@ -270,7 +270,7 @@ fn pairs_agree_below(cfg: &[i32], n: usize, table: &[i32], at: usize) -> bool {
 
 // Rows of kind 0 with the trouble codes 10, 20, 30 and so on, then n, M 1 and F 0.
 fn long_search_agrees(table: &[i32], at: usize) -> bool {
-    let mut cfg = [0; 6659];
+    let mut cfg = [0; manual::MOST_NUMBERS];
     fill_rows(&mut cfg);
     put(&mut cfg, 0, number_at(table, at, 0));
     put(&mut cfg, 1, 1);

@@ -2,7 +2,7 @@
 
 // The table's column "allowed", each bound from both sides: the kind of the event, the place of one number, the number
 // put there, and 1 where the configuration is then accepted.
-pub const BOUNDS: [u8; 1092] = *b"
+pub const BOUNDS: [u8; 1185] = *b"
 1 0 0 0
 1 0 1 1
 1 0 2 0
@@ -117,53 +117,60 @@ pub const BOUNDS: [u8; 1092] = *b"
 1 0 -999999999 0
 1 3 999999999 0
 1 3 -999999999 0
+1 16 -1 0
+1 16 0 1
+1 16 1 1
+1 16 2147483647 1
+1 16 -2147483647 0
+0 16 2147483647 1
+2 16 -1 0
 ";
 
-// "the length is exactly 3 + 13n": how many numbers of a configuration of one event are lent, and 1 where that is
-// accepted.
+// "the length is exactly 3 + 13n", with W5 3 + 14n: how many numbers of a configuration of one event are lent, and 1
+// where that is accepted.
 pub const LENGTHS: [u8; 32] = *b"
 0 0
 1 0
 2 0
 3 0
-15 0
-16 1
-17 0
+16 0
+17 1
+18 0
 ";
 
 // "strictly rising from event to event": n, how many numbers are lent, the trouble codes of the first two events, and 1
 // where the configuration is accepted. The codes after the second are 30, 40 and so on.
 pub const CODES: [u8; 271] = *b"
-2 29 5 6 1
-2 29 5 5 0
-2 29 6 5 0
-2 29 1 16777214 1
-2 28 5 6 0
+2 31 5 6 1
+2 31 5 5 0
+2 31 6 5 0
+2 31 1 16777214 1
 2 30 5 6 0
-3 42 1 2 1
-3 42 1 29 1
-3 42 1 30 0
-3 42 1 31 0
-511 6646 1 2 1
-511 6659 1 2 0
-512 6646 1 2 0
-512 6658 1 2 0
-512 6659 1 2 1
-512 6659 2 2 0
-512 6660 1 2 0
-512 6672 1 2 0
-513 6659 1 2 0
-513 6672 1 2 0
+2 32 5 6 0
+3 45 1 2 1
+3 45 1 29 1
+3 45 1 30 0
+3 45 1 31 0
+511 7157 1 2 1
+511 7171 1 2 0
+512 7157 1 2 0
+512 7170 1 2 0
+512 7171 1 2 1
+512 7171 2 2 0
+512 7172 1 2 0
+512 7185 1 2 0
+513 7171 1 2 0
+513 7185 1 2 0
 ";
 
 // Five events, with the trouble codes 1, 5, 6, 123456h and FFFFFEh.
-pub const SEARCHED: [u8; 150] = *b"
+pub const SEARCHED: [u8; 160] = *b"
 5 1 0
-1 1 0 0 0 0 0 0 0 1 1 1 0
-5 1 0 0 0 0 0 0 0 1 1 1 0
-6 1 0 0 0 0 0 0 0 1 1 1 0
-1193046 1 0 0 0 0 0 0 0 1 1 1 0
-16777214 1 0 0 0 0 0 0 0 1 1 1 0
+1 1 0 0 0 0 0 0 0 1 1 1 0 0
+5 1 0 0 0 0 0 0 0 1 1 1 0 0
+6 1 0 0 0 0 0 0 0 1 1 1 0 0
+1193046 1 0 0 0 0 0 0 0 1 1 1 0 0
+16777214 1 0 0 0 0 0 0 0 1 1 1 0 0
 ";
 
 // A trouble code, as its part above FFFFFFh in units of 1000000h and the rest, and the event of SEARCHED that has it;

@@ -12,7 +12,7 @@ use Rattle.history.proofs.WordsLaws.{and-left, and-right}
 use Rattle.manual.specs.declared.Refusal.{Refusal}
 use Rattle.manual.specs.declared.Refusal.the-variants.{BadArgument, BadConfiguration, BadState, NoSuch}
 use Rattle.manual.specs.declared.Refusal.the-variants.{WrongCycleState, NoPreResult, RoomTooSmall, BadImage}
-use Rattle.manual.specs.declared.Refusal.the-variants.{WrongFrame, NoEntry}
+use Rattle.manual.specs.declared.Refusal.the-variants.{WrongFrame, NoEntry, MissingCondition}
 use Rattle.manual.specs.State.{State}
 use Rattle.manual.specs.Answers.{Beside, Outcome, refused, Rule, firstThatApplies, judged, numberOf}
 
@@ -28,6 +28,7 @@ never-done RoomTooSmall e = omega arith
 never-done BadImage e = omega arith
 never-done WrongFrame e = omega arith
 never-done NoEntry e = omega arith
+never-done MissingCondition e = omega arith
 
 -- the test of rule i
 abbrev pub appliesAt : List Rule → ℕ → Bool

@@ -13,6 +13,7 @@ use Rattle.manual.specs.Answers as Answers
 use Rattle.manual.specs.Answers.{firstThatApplies}
 use Rattle.manual.specs.Debouncing.{top, bottom, verdictAt, leavesAt, internalReport, counterUp}
 use Rattle.manual.specs.Debouncing.{counterDown, counterReport, timeReport, reported, ticked}
+use Rattle.manual.specs.Conditions.{inSet, noneMissing}
 use Rattle.manual.specs.OneEvent.{happens, entryLeaves, keeps, memoryTold, fails, stops, clears, forThose}
 use Rattle.manual.specs.Memory.{entriesFrom, entriesOf, entriesBytes, memoryOf, without}
 use Rattle.manual.specs.Memory.{noTwice, victim, pushedOut, admitted, renewed, store}
@@ -28,7 +29,7 @@ unfolding table e1ToE10 e11 e12 holds wellFormedRecord allBelow forBelow firstOf
     firstThatApplies Answers.judged top bottom verdictAt leavesAt internalReport counterUp counterDown counterReport
     timeReport reported ticked happens entryLeaves keeps memoryTold fails stops clears forThose entriesFrom entriesOf
     entriesBytes memoryOf without noTwice victim pushedOut admitted renewed store freshRecords freshState freshRules
-    fresh reportRules applied report tickRules tick startRules startCycle stopRules stopCycle
+    fresh reportRules applied report tickRules tick startRules startCycle stopRules stopCycle inSet noneMissing
 e1-to-e12 = refl
 
 -- ---- "Fresh with n = 2", which document 01 gives as part of "Saved image", not among the examples that are "run only"
@@ -38,7 +39,8 @@ pair = pos 2 ∷ pos 1 ∷ pos 0 ∷ (internalRow 1 ++ internalRow 2)
   where
     internalRow : ℕ → List ℤ
     internalRow code =
-        pos code ∷ pos 1 ∷ pos 0 ∷ pos 0 ∷ pos 0 ∷ pos 0 ∷ pos 0 ∷ pos 0 ∷ pos 0 ∷ pos 1 ∷ pos 1 ∷ pos 1 ∷ pos 0 ∷ []
+        pos code ∷ pos 1 ∷ pos 0 ∷ pos 0 ∷ pos 0 ∷ pos 0 ∷ pos 0 ∷ pos 0 ∷ pos 0 ∷ pos 1 ∷ pos 1 ∷ pos 1 ∷ pos 0
+        ∷ pos 0 ∷ []
 
 abbrev freshImage : List ℕ
 freshImage =

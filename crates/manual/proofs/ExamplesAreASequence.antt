@@ -22,6 +22,7 @@ use Rattle.manual.specs.Answers as Answers
 use Rattle.manual.specs.Answers.{alone, firstThatApplies}
 use Rattle.manual.specs.Debouncing.{top, bottom, verdictAt, leavesAt, internalReport, counterUp}
 use Rattle.manual.specs.Debouncing.{counterDown, counterReport, timeReport, reported, ticked}
+use Rattle.manual.specs.Conditions.{inSet, noneMissing}
 use Rattle.manual.specs.OneEvent.{happens, entryLeaves, keeps, memoryTold, fails, stops, clears, forThose}
 use Rattle.manual.specs.Memory.{entriesFrom, entriesOf, entriesBytes, memoryOf, without}
 use Rattle.manual.specs.Memory.{noTwice, victim, pushedOut, admitted, renewed, store}
@@ -172,5 +173,5 @@ unfolding e1ToE10 historiesAfter tokens holds wellFormedRecord allBelow forBelow
     firstThatApplies Answers.judged top bottom verdictAt leavesAt internalReport counterUp counterDown counterReport
     timeReport reported ticked happens entryLeaves keeps memoryTold fails stops clears forThose entriesFrom entriesOf
     entriesBytes memoryOf without noTwice victim pushedOut admitted renewed store freshRecords freshState freshRules
-    fresh reportRules applied report tickRules tick startRules startCycle stopRules stopCycle
+    fresh reportRules applied report tickRules tick startRules startCycle stopRules stopCycle inSet noneMissing
 its-history = refl

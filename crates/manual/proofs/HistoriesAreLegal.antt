@@ -11,14 +11,15 @@ use lib.Seq.{getD-set-same, getD-set-other}
 use borrow.Author.Tests.{eqb-true, eqb-false, ltb-false, not-false}
 use Rattle.history.specs.History.{Token, start, stop, clear, History}
 use Rattle.history.specs.Legal.{running, legal}
-use Rattle.history.proofs.WordsLaws.{and-right}
+use Rattle.history.proofs.WordsLaws.{and-left, and-right}
 use Rattle.manual.specs.declared.Verdict.{Verdict}
 use Rattle.manual.specs.declared.Verdict.the-variants.{None, Passed, Failed}
 use Rattle.manual.specs.Configuration.{Configuration, events, cycleOf, isTime}
 use Rattle.manual.specs.State.{State, runs, allStopped, D}
 use Rattle.manual.specs.Answers.{Beside, Outcome, firstThatApplies}
 use Rattle.manual.specs.Debouncing.{reported, ticked}
-use Rattle.manual.specs.Calls.{freshState, fresh, cycleRuns, reportRules, timeRuns}
+use Rattle.manual.specs.Conditions.{enabled}
+use Rattle.manual.specs.Calls.{freshState, fresh, cycleRuns, reportRules, timeRuns, tickMoves}
 use Rattle.manual.specs.Calls.{ofCycle, startRules, stopRules, covers, cleared}
 use Rattle.manual.specs.Sequences.{result, onlyIf, Report, Tick, Reached, begun, called, restored}
 use Rattle.manual.proofs.AnswersLaws.{none-applies, accepted}
@@ -75,10 +76,11 @@ module _ (cfg : Configuration) where
     runs-at : (e : ℕ) → e < events cfg → (r : Bool) → cycleRuns cfg (s .board) e ≡ r → Lawful (H e) r
     runs-at e h r q = subst (Lawful (H e)) q (o .each e h)
 
-    report-orderly : (k code : ℕ) (frame : List ℕ) → firstThatApplies (reportRules cfg k code frame s) ≡ 0 → (e : ℕ)
-        → e < events cfg → Lawful (given cfg (Report k code frame) s H e) (cycleRuns cfg (s .board) e)
+    report-orderly : (k code : ℕ) (frame : List ℕ) (present : ℕ)
+        → firstThatApplies (reportRules cfg k code frame present s) ≡ 0 → (e : ℕ) → e < events cfg
+        → Lawful (given cfg (Report k code frame present) s H e) (cycleRuns cfg (s .board) e)
     unfolding reportRules
-    report-orderly k code frame z e h =
+    report-orderly k code frame present z e h =
         only-those (eqb e k) _ (H e) _
         (λ q. let on = running-now q in subst (Lawful _) (sym on)
         (lawful-result (reported cfg e code (D s e) .verdict) (H e) (runs-at e h true on)))
@@ -89,11 +91,12 @@ module _ (cfg : Configuration) where
             subst (λ (j : ℕ). cycleRuns cfg (s .board) j ≡ true) (sym (eqb-true e k q))
             (not-false (cycleRuns cfg (s .board) k) (none-applies _ z refl 6))
 
-    tick-orderly : (ms : ℕ) (frame : List ℕ) (e : ℕ) → e < events cfg
-        → Lawful (given cfg (Tick ms frame) s H e) (cycleRuns cfg (s .board) e)
-    tick-orderly ms frame e h =
-        only-those (timeRuns cfg (s .board) e) _ (H e) _
-        (λ q. let on = and-right (isTime cfg e) (cycleRuns cfg (s .board) e) q in subst (Lawful _) (sym on)
+    tick-orderly : (ms : ℕ) (frame : List ℕ) (present e : ℕ) → e < events cfg
+        → Lawful (given cfg (Tick ms frame present) s H e) (cycleRuns cfg (s .board) e)
+    tick-orderly ms frame present e h =
+        only-those (tickMoves cfg present (s .board) e) _ (H e) _
+        (λ q. let on = and-right (isTime cfg e) (cycleRuns cfg (s .board) e)
+        (and-left (timeRuns cfg (s .board) e) (enabled cfg present e) q) in subst (Lawful _) (sym on)
         (lawful-result (ticked cfg e ms (D s e) .verdict) (H e) (runs-at e h true on)))
         (λ q. o .each e h)
 
@@ -126,10 +129,12 @@ module _ (cfg : Configuration) where
     orderly-accepted : KeptWhenAccepted cfg Orderly s H
     unfolding startRules stopRules cleared
     orderly-accepted = record {
-      report = λ k code frame z. same-cycles _ (applied-running cfg frame k _ s) _ (report-orderly k code frame z);
+      report =
+          λ k code frame present z. same-cycles _ (applied-running cfg frame k _ s) _
+          (report-orderly k code frame present z);
       tick =
-          λ ms frame z. same-cycles _ (ticks-running cfg ms frame (timeRuns cfg (s .board)) s) _
-          (tick-orderly ms frame);
+          λ ms frame present z. same-cycles _ (ticks-running cfg ms frame (tickMoves cfg present (s .board)) s) _
+          (tick-orderly ms frame present);
       start = λ c z. record {
         four = simp length-set (ap length (those-running (acts-happens cfg start) (ofCycle cfg c) s) ∙ o .four);
         each =

@@ -4,6 +4,7 @@ pub mod AnswersLaws
 pub mod ConfigurationLaws
 pub mod SignedLaws
 pub mod DebouncingLaws
+pub mod ConditionsLaws
 pub mod CounterLaws
 pub mod StateLaws
 pub mod MemoryLaws

@@ -1,4 +1,4 @@
--- No call is left out of the sequences: from a state that calls lead to, any of the fifteen calls with any arguments
+-- No call is left out of the sequences: from a state that calls lead to, any of the sixteen calls with any arguments
 -- leads to such a state again, with the tokens that it gave; but for an accepted fresh, with which a sequence begins,
 -- and an accepted restore, which leads on where the image was saved in the sequence.
 use mathlib.Core.Path.{_≡_, refl, sym}
@@ -27,8 +27,8 @@ module _ (cfg : Configuration) where
 
   anew : (b : Beside) (s : State) (c : Call) → beginsAnew c ≡ true → outcome cfg c b s .answer ≡ 0 → Anew b s c
   anew b s Fresh t z = fresh-again z
-  anew b s (Report k code frame) t z = clash true refl (sym t)
-  anew b s (Tick ms frame) t z = clash true refl (sym t)
+  anew b s (Report k code frame present) t z = clash true refl (sym t)
+  anew b s (Tick ms frame present) t z = clash true refl (sym t)
   anew b s (Start c) t z = clash true refl (sym t)
   anew b s (Stop c) t z = clash true refl (sym t)
   anew b s (Clear code) t z = clash true refl (sym t)

@@ -10,7 +10,7 @@ use borrow.Author.Tests.{ne-eqb}
 use Rattle.manual.specs.declared.Refusal.{Refusal}
 use Rattle.manual.specs.declared.Refusal.the-variants.{BadArgument, BadConfiguration, BadState, NoSuch}
 use Rattle.manual.specs.declared.Refusal.the-variants.{WrongCycleState, NoPreResult, RoomTooSmall, BadImage}
-use Rattle.manual.specs.declared.Refusal.the-variants.{WrongFrame, NoEntry}
+use Rattle.manual.specs.declared.Refusal.the-variants.{WrongFrame, NoEntry, MissingCondition}
 use Rattle.manual.specs.declared.Answer.{Answer}
 use Rattle.manual.specs.declared.Answer.the-variants.{Done}
 use Rattle.manual.specs.declared.Returned.{Returned}
@@ -32,7 +32,8 @@ refusalAt n =
     cond (eqb n 1) BadArgument
     (cond (eqb n 2) BadConfiguration (cond (eqb n 3) BadState (cond (eqb n 4) NoSuch (cond (eqb n 5) WrongCycleState
     (cond (eqb n 6) NoPreResult
-    (cond (eqb n 7) RoomTooSmall (cond (eqb n 8) BadImage (cond (eqb n 9) WrongFrame NoEntry))))))))
+    (cond (eqb n 7) RoomTooSmall (cond (eqb n 8) BadImage (cond (eqb n 9) WrongFrame
+    (cond (eqb n 10) NoEntry MissingCondition)))))))))
 
 pub refusal-back : (r : Refusal) → refusalAt (numberOf r) ≡ r
 refusal-back BadArgument = refl
@@ -45,6 +46,7 @@ refusal-back RoomTooSmall = refl
 refusal-back BadImage = refl
 refusal-back WrongFrame = refl
 refusal-back NoEntry = refl
+refusal-back MissingCondition = refl
 
 pub not-done : (r : Refusal) → eqb (numberOf r) 0 ≡ false
 not-done r = ne-eqb _ _ (never-done r)

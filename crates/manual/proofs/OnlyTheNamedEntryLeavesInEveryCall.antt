@@ -23,7 +23,7 @@ use Rattle.manual.specs.Memory.{Entry, eventOf}
 use Rattle.manual.specs.WellFormed.{entries}
 use Rattle.manual.specs.OneEvent.{happens, isQuiet, stops, forThose}
 use Rattle.manual.specs.Answers.{Beside, firstThatApplies}
-use Rattle.manual.specs.Calls.{applied, reportRules, timeRuns, ticks, tickRules}
+use Rattle.manual.specs.Calls.{applied, reportRules, tickMoves, ticks, tickRules}
 use Rattle.manual.specs.Calls.{ofCycle, stopRules, covers, cleared, clearRules}
 use Rattle.manual.specs.Sequences.{Call, Tick, outcome, goesOn}
 use Rattle.manual.specs.EntriesInACall.{tickedBelow, agesIn, FailsAfresh, in-report, in-tick, at-stop}
@@ -102,43 +102,44 @@ module _ (cfg : Configuration) where
 
   -- ---- the parts of a tick, one after the other
 
-  module _ (ms : ℕ) (frame : List ℕ) (b : Beside) (s : State) (framed : length frame ≡ frameBytes cfg)
+  module _ (ms : ℕ) (frame : List ℕ) (present : ℕ) (b : Beside) (s : State) (framed : length frame ≡ frameBytes cfg)
       (configured : configOk cfg ≡ true) (o : Sound cfg s)
-      (done : outcome cfg (Tick ms frame) b s .answer ≡ 0) where
+      (done : outcome cfg (Tick ms frame present) b s .answer ≡ 0) where
     abbrev upTo : ℕ → State
-    upTo = tickedBelow cfg ms frame s
+    upTo = tickedBelow cfg ms frame present s
 
     good-below : (n : ℕ) → n ≤ events cfg → MemoryGood cfg (upTo n)
     good-below n h =
-        below-going cfg (ticks-keep cfg (config-tells cfg configured) ms frame framed s) o n h .sound .memory
+        below-going cfg (ticks-keep cfg (config-tells cfg configured) ms frame present framed s) o n h .sound .memory
 
-    turn-fate : (n : ℕ) → n < events cfg → (t : Bool) → timeRuns cfg (s .board) n ≡ t → (y : Entry)
+    turn-fate : (n : ℕ) → n < events cfg → (t : Bool) → tickMoves cfg present (s .board) n ≡ t → (y : Entry)
         → List·Memᴰ y (entries cfg (upTo n))
-        → Fate cfg b s (Tick ms frame) (entries cfg (cond t (ticks cfg ms frame n (upTo n)) (upTo n))) y
+        → Fate cfg b s (Tick ms frame present) (entries cfg (cond t (ticks cfg ms frame n (upTo n)) (upTo n))) y
     turn-fate n h true q =
-        part-fate frame framed n h _ (upTo n) (good-below n (omega arith)) (λ v f. in-tick ms frame n done h q v f)
+        part-fate frame framed n h _ (upTo n) (good-below n (omega arith)) (λ v f. in-tick ms frame present n done h q v f)
     turn-fate n h false q = λ y m. stays m
 
-    turn-origin : (n : ℕ) → n < events cfg → (t : Bool) → timeRuns cfg (s .board) n ≡ t
-        → ((x : Entry) → List·Memᴰ x (entries cfg (upTo n)) → Origin cfg b s (Tick ms frame) x)
+    turn-origin : (n : ℕ) → n < events cfg → (t : Bool) → tickMoves cfg present (s .board) n ≡ t
+        → ((x : Entry) → List·Memᴰ x (entries cfg (upTo n)) → Origin cfg b s (Tick ms frame present) x)
         → (y : Entry) → List·Memᴰ y (entries cfg (cond t (ticks cfg ms frame n (upTo n)) (upTo n)))
-        → Origin cfg b s (Tick ms frame) y
+        → Origin cfg b s (Tick ms frame present) y
     turn-origin n h true q =
-        part-origin frame framed n h _ (upTo n) (good-below n (omega arith)) (λ v f. in-tick ms frame n done h q v f)
+        part-origin frame framed n h _ (upTo n) (good-below n (omega arith)) (λ v f. in-tick ms frame present n done h q v f)
     turn-origin n h false q = λ old. old
 
     below-fate : (n : ℕ) → n ≤ events cfg → (x : Entry) → List·Memᴰ x (entries cfg s)
-        → Fate cfg b s (Tick ms frame) (entries cfg (upTo n)) x
+        → Fate cfg b s (Tick ms frame present) (entries cfg (upTo n)) x
     unfolding forBelow
     below-fate zero h x m = stays m
     below-fate (suc n) h x m =
-        fate-then (turn-fate n h (timeRuns cfg (s .board) n) refl) (below-fate n (omega arith) x m)
+        fate-then (turn-fate n h (tickMoves cfg present (s .board) n) refl) (below-fate n (omega arith) x m)
 
     below-origin : (n : ℕ) → n ≤ events cfg → (y : Entry) → List·Memᴰ y (entries cfg (upTo n))
-        → Origin cfg b s (Tick ms frame) y
+        → Origin cfg b s (Tick ms frame present) y
     unfolding forBelow
     below-origin zero h y m = was-there m
-    below-origin (suc n) h y m = turn-origin n h (timeRuns cfg (s .board) n) refl (below-origin n (omega arith)) y m
+    below-origin (suc n) h y m =
+        turn-origin n h (tickMoves cfg present (s .board) n) refl (below-origin n (omega arith)) y m
 
   -- ---- calls that only let entries leave
 
@@ -189,12 +190,12 @@ module _ (cfg : Configuration) where
   does-fate : (c : Call) (b : Beside) (s t : State) → Does cfg s c t → outcome cfg c b s .answer ≡ 0 → (x : Entry)
       → List·Memᴰ x (entries cfg s) → Fate cfg b s c (entries cfg t) x
   unfolding reportRules tickRules forThose
-  does-fate _ b s _ (a-report k code frame z) a =
+  does-fate _ b s _ (a-report k code frame present z) a =
       part-fate frame (eqb-true _ _ (not-false _ (none-applies _ z refl 5))) k (leb-false _ _ (none-applies _ z refl 2))
       _ s
-      (sound cfg s (not-false _ (none-applies _ z refl 1)) .memory) (in-report k code frame a)
-  does-fate _ b s _ (a-tick ms frame z) a =
-      below-fate ms frame b s (eqb-true _ _ (not-false _ (none-applies _ z refl 3)))
+      (sound cfg s (not-false _ (none-applies _ z refl 1)) .memory) (in-report k code frame present a)
+  does-fate _ b s _ (a-tick ms frame present z) a =
+      below-fate ms frame present b s (eqb-true _ _ (not-false _ (none-applies _ z refl 3)))
       (not-false _ (none-applies _ z refl 0))
       (sound cfg s (not-false _ (none-applies _ z refl 1))) a (events cfg) (le-refl (events cfg))
   does-fate _ b s _ (a-start c z) a = λ x m. stays (subst (List·Memᴰ x) (sym (start-entries c s)) m)
@@ -210,12 +211,12 @@ module _ (cfg : Configuration) where
   does-origin : (c : Call) (b : Beside) (s t : State) → Does cfg s c t → outcome cfg c b s .answer ≡ 0 → (y : Entry)
       → List·Memᴰ y (entries cfg t) → Origin cfg b s c y
   unfolding reportRules tickRules forThose
-  does-origin _ b s _ (a-report k code frame z) a =
+  does-origin _ b s _ (a-report k code frame present z) a =
       part-origin frame (eqb-true _ _ (not-false _ (none-applies _ z refl 5))) k
       (leb-false _ _ (none-applies _ z refl 2)) _ s
-      (sound cfg s (not-false _ (none-applies _ z refl 1)) .memory) (in-report k code frame a) (λ x m. was-there m)
-  does-origin _ b s _ (a-tick ms frame z) a =
-      below-origin ms frame b s (eqb-true _ _ (not-false _ (none-applies _ z refl 3)))
+      (sound cfg s (not-false _ (none-applies _ z refl 1)) .memory) (in-report k code frame present a) (λ x m. was-there m)
+  does-origin _ b s _ (a-tick ms frame present z) a =
+      below-origin ms frame present b s (eqb-true _ _ (not-false _ (none-applies _ z refl 3)))
       (not-false _ (none-applies _ z refl 0))
       (sound cfg s (not-false _ (none-applies _ z refl 1))) a (events cfg) (le-refl (events cfg))
   does-origin _ b s _ (a-start c z) a = λ y m. was-there (rw (start-entries c s) at m)

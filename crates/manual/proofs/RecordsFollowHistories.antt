@@ -17,7 +17,7 @@ use Rattle.manual.specs.State.{State, stored, storedAt, recordOf, D, wit
 use Rattle.manual.specs.Debouncing.{Debounced, reported, ticked}
 use Rattle.manual.specs.Words.{forBelow}
 use Rattle.manual.specs.OneEvent.{happens, keeps, memoryTold, fails, qualifies, forThose}
-use Rattle.manual.specs.Calls.{freshState, applied, timeRuns, ticks, ofCycle, covers, cleared}
+use Rattle.manual.specs.Calls.{freshState, applied, tickMoves, ticks, ofCycle, covers, cleared}
 use Rattle.manual.specs.Answers.{Beside}
 use Rattle.manual.specs.Sequences.{Call, result, onlyIf, outcome, tokensAt, goesOn}
 use Rattle.manual.proofs.StateLaws.{opened-stored}
@@ -121,23 +121,23 @@ module _ (cfg : Configuration) where
 
   -- ---- the parts of a tick, one after the other
 
-  module _ (ms : ℕ) (frame : List ℕ) (s : State) where
-    abbrev runsHere : ℕ → Bool
-    runsHere = timeRuns cfg (s .board)
+  module _ (ms : ℕ) (frame : List ℕ) (present : ℕ) (s : State) where
+    abbrev movesHere : ℕ → Bool
+    movesHere = tickMoves cfg present (s .board)
 
     abbrev tickedBelow : ℕ → State
-    tickedBelow n = forBelow n (λ e u. cond (runsHere e) (ticks cfg ms frame e u) u) s
+    tickedBelow n = forBelow n (λ e u. cond (movesHere e) (ticks cfg ms frame e u) u) s
 
     -- what the parts of the events below n give event e, the newest first
     unfoldable partsBelow : ℕ → ℕ → List Token
     partsBelow zero e = []
     partsBelow (suc n) e =
-        onlyIf (runsHere n) (partGives n (ticked cfg n ms (D (tickedBelow n) n) .verdict) e) ++ partsBelow n e
+        onlyIf (movesHere n) (partGives n (ticked cfg n ms (D (tickedBelow n) n) .verdict) e) ++ partsBelow n e
 
     below-follows : (H : Histories) → Follows s H → (n : ℕ) → Follows (tickedBelow n) (λ e. partsBelow n e ++ H e)
     unfolding forBelow partsBelow
     below-follows H f zero = f
-    below-follows H f (suc n) = go (runsHere n) (below-follows H f n)
+    below-follows H f (suc n) = go (movesHere n) (below-follows H f n)
       where
         go : (b : Bool) → Follows (tickedBelow n) (λ e. partsBelow n e ++ H e)
             → Follows (cond b (ticks cfg ms frame n (tickedBelow n)) (tickedBelow n))
@@ -153,9 +153,9 @@ module _ (cfg : Configuration) where
     -- no part of another event moves D
     number-waits : (n e : ℕ) → n ≤ e → D (tickedBelow n) e ≡ D s e
     number-waits n e h =
-        for-below-keeps (λ (u : State). D u e ≡ D s e) (λ e u. cond (runsHere e) (ticks cfg ms frame e u) u) n n
+        for-below-keeps (λ (u : State). D u e ≡ D s e) (λ e u. cond (movesHere e) (ticks cfg ms frame e u) u) n n
         (le-refl n)
-        (λ k u l q. by (runsHere k) (λ (u : State). D u e ≡ D s e)
+        (λ k u l q. by (movesHere k) (λ (u : State). D u e ≡ D s e)
         (λ r. applied-other-D cfg frame k _ u e (λ (p : e ≡ k). omega arith) ∙ q) (λ r. q))
         s refl
 
@@ -163,32 +163,32 @@ module _ (cfg : Configuration) where
     unfolding partsBelow
     none-yet zero e h = refl
     none-yet (suc n) e h =
-        rw (ne-eqb e n (λ (p : e ≡ n). omega arith), none-yet n e (omega arith)) (nothing (runsHere n) [])
+        rw (ne-eqb e n (λ (p : e ≡ n). omega arith), none-yet n e (omega arith)) (nothing (movesHere n) [])
 
     -- so each event gets its own part's result, by its D at the start
-    parts-are : (n e : ℕ) → e < n → partsBelow n e ≡ onlyIf (runsHere e) (result (ticked cfg e ms (D s e) .verdict))
+    parts-are : (n e : ℕ) → e < n → partsBelow n e ≡ onlyIf (movesHere e) (result (ticked cfg e ms (D s e) .verdict))
     unfolding partsBelow
     parts-are zero e h = absurd (not-suc-le-zero h)
     parts-are (suc n) e h = go (eq-or-lt-of-le (le-of-suc-le-suc h)) (λ l. parts-are n e l)
       where
         go : (e ≡ n) ⊎ (e < n)
-            → (e < n → partsBelow n e ≡ onlyIf (runsHere e) (result (ticked cfg e ms (D s e) .verdict)))
-            → onlyIf (runsHere n) (partGives n (ticked cfg n ms (D (tickedBelow n) n) .verdict) e) ++ partsBelow n e
-            ≡ onlyIf (runsHere e) (result (ticked cfg e ms (D s e) .verdict))
+            → (e < n → partsBelow n e ≡ onlyIf (movesHere e) (result (ticked cfg e ms (D s e) .verdict)))
+            → onlyIf (movesHere n) (partGives n (ticked cfg n ms (D (tickedBelow n) n) .verdict) e) ++ partsBelow n e
+            ≡ onlyIf (movesHere e) (result (ticked cfg e ms (D s e) .verdict))
         go (inl q) ih = rw (q, eq-eqb n n refl, none-yet n n (le-refl n), number-waits n n (le-refl n)) (append-nil _)
-        go (inr l) ih = rw (ne-eqb e n (λ (p : e ≡ n). omega arith)) (nothing (runsHere n) (partsBelow n e) ∙ ih l)
+        go (inr l) ih = rw (ne-eqb e n (λ (p : e ≡ n). omega arith)) (nothing (movesHere n) (partsBelow n e) ∙ ih l)
 
   module _ (s : State) (H : Histories) (follows : Follows s H) where
     follows-accepted : KeptWhenAccepted cfg Follows s H
     unfolding cleared forThose
     follows-accepted = record {
       report =
-          λ k code frame z. follows-equal _ _ _ (λ e h. ap (λ (l : List Token). l ++ H e) (own-verdict k e code))
+          λ k code frame present z. follows-equal _ _ _ (λ e h. ap (λ (l : List Token). l ++ H e) (own-verdict k e code))
           (applied-follows frame k (reported cfg k code (D s k)) s H follows);
       tick =
-          λ ms frame z. follows-equal _ _ _
-          (λ e h. ap (λ (l : List Token). l ++ H e) (sym (parts-are ms frame s (events cfg) e h)))
-          (below-follows ms frame s H follows (events cfg));
+          λ ms frame present z. follows-equal _ _ _
+          (λ e h. ap (λ (l : List Token). l ++ H e) (sym (parts-are ms frame present s (events cfg) e h)))
+          (below-follows ms frame present s H follows (events cfg));
       start =
           λ c z. follows-same _ _ _ refl refl
           (follows-those s H follows (acts-happens cfg start) (λ e v. start ∷ []) (counts-token start) (ofCycle cfg c));

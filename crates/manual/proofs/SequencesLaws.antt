@@ -9,22 +9,24 @@ use lib.Dec.{eqb}
 use lib.ListN.{length, getD}
 use borrow.Author.Tests.{eqb-true, eqb-false, ne-eqb, not-true}
 use Rattle.history.specs.History.{start, stop, clear, History}
-use Rattle.history.proofs.WordsLaws.{and-right}
+use Rattle.history.proofs.WordsLaws.{and-right, and-false}
 use Rattle.manual.specs.Words.{threeAt}
 use Rattle.manual.specs.Configuration.{Configuration}
 use Rattle.manual.specs.State.{State, D, withCycle}
 use Rattle.manual.specs.Answers.{Beside, Outcome, refused, Rule, firstThatApplies, judged}
+use Rattle.manual.specs.Conditions.{enabled}
 use Rattle.manual.specs.OneEvent.{happens, stops, forThose}
 use Rattle.manual.specs.Counter.{readCounter}
-use Rattle.manual.specs.Calls.{fresh, reportRules, applied, debouncedBy, report, tickRules, timeRuns, ticks}
-use Rattle.manual.specs.Calls.{tick, ofCycle, startRules, startCycle, stopRules, stopCycle, covers, unknownCode}
+use Rattle.manual.specs.Missing.{readMissing}
+use Rattle.manual.specs.Calls.{fresh, reportRules, applied, debouncedBy, report, tickRules, timeRuns, tickMoves}
+use Rattle.manual.specs.Calls.{ticks, tick, ofCycle, startRules, startCycle, stopRules, stopCycle, covers, unknownCode}
 use Rattle.manual.specs.Calls.{cleared, clearRules, clearCode, readStatus, readFrame}
 use Rattle.manual.specs.Untested.{readTable, readPaint, listGrey}
 use Rattle.manual.specs.Image.{save, restore}
 use Rattle.manual.specs.Diagnostics.{positive, negative, Served, served, service14}
 use Rattle.manual.specs.Diagnostics.{servedBy, sent, requestRules, requestReply}
-use Rattle.manual.specs.Sequences.{Query, ReadStatus, ReadFrame, ReadCounter, ReadTable, ReadPaint, ListGrey}
-use Rattle.manual.specs.Sequences.{Save}
+use Rattle.manual.specs.Sequences.{Query, ReadStatus, ReadFrame, ReadCounter, ReadMissing, ReadTable, ReadPaint}
+use Rattle.manual.specs.Sequences.{ListGrey, Save}
 use Rattle.manual.specs.Sequences.{Call, Fresh, Report, Tick, Start, Stop}
 use Rattle.manual.specs.Sequences.{Clear, Read, Restore, Request, answerTo, onlyIf, outcome, asksClear, gives}
 use Rattle.manual.specs.Sequences.{tokens, tokensAt, goesOn}
@@ -65,8 +67,8 @@ module _ (cfg : Configuration) where
   -- a call that changes no block and not the board, where it is accepted
   abbrev pub onlyReads : Call → Bool
   onlyReads Fresh = false
-  onlyReads (Report k code frame) = false
-  onlyReads (Tick ms frame) = false
+  onlyReads (Report k code frame present) = false
+  onlyReads (Tick ms frame present) = false
   onlyReads (Start c) = false
   onlyReads (Stop c) = false
   onlyReads (Clear code) = false
@@ -76,10 +78,11 @@ module _ (cfg : Configuration) where
 
   -- what an accepted call makes of state s; a fresh and a restore begin anew and have no place here
   pub data Does (s : State) : Call → State → Type 0 where
-    a-report : (k code : ℕ) (frame : List ℕ) → firstThatApplies (reportRules cfg k code frame s) ≡ 0
-        → Does s (Report k code frame) (applied cfg frame k (debouncedBy cfg k code s) s)
-    a-tick : (ms : ℕ) (frame : List ℕ) → firstThatApplies (tickRules cfg ms frame s) ≡ 0
-        → Does s (Tick ms frame) (forThose cfg (timeRuns cfg (s .board)) (ticks cfg ms frame) s)
+    a-report : (k code : ℕ) (frame : List ℕ) (present : ℕ)
+        → firstThatApplies (reportRules cfg k code frame present s) ≡ 0
+        → Does s (Report k code frame present) (applied cfg frame k (debouncedBy cfg k code s) s)
+    a-tick : (ms : ℕ) (frame : List ℕ) (present : ℕ) → firstThatApplies (tickRules cfg ms frame s) ≡ 0
+        → Does s (Tick ms frame present) (forThose cfg (tickMoves cfg present (s .board)) (ticks cfg ms frame) s)
     a-start : (c : ℕ) → firstThatApplies (startRules cfg c s) ≡ 0
         → Does s (Start c) (withCycle c true (forThose cfg (ofCycle cfg c) (happens cfg start) s))
     a-stop : (c : ℕ) → firstThatApplies (stopRules cfg c s) ≡ 0
@@ -141,22 +144,31 @@ module _ (cfg : Configuration) where
   unfolding tokens
   refused-gives-nothing c b s e h = rw (ne-eqb (outcome cfg c b s .answer) 0 h)
 
-  pub other-reports-give-nothing : (k code : ℕ) (frame : List ℕ) (b : Beside) (s : State) (e : ℕ) → e ≢ k
-      → tokensAt cfg (Report k code frame) b s e ≡ []
+  nothing : (t : Bool) → onlyIf t [] ≡ []
+  nothing true = refl
+  nothing false = refl
+
+  pub other-reports-give-nothing : (k code : ℕ) (frame : List ℕ) (present : ℕ) (b : Beside) (s : State) (e : ℕ) → e ≢ k
+      → tokensAt cfg (Report k code frame present) b s e ≡ []
   unfolding tokens
-  other-reports-give-nothing k code frame b s e h =
-      rw (ne-eqb e k h) (nothing (eqb (outcome cfg (Report k code frame) b s .answer) 0))
-    where
-      nothing : (t : Bool) → onlyIf t [] ≡ []
-      nothing true = refl
-      nothing false = refl
+  other-reports-give-nothing k code frame present b s e h =
+      rw (ne-eqb e k h) (nothing (eqb (outcome cfg (Report k code frame present) b s .answer) 0))
+
+  -- "a tick counts for an event only while its conditions hold"
+  pub waiting-tick-gives-nothing : (ms : ℕ) (frame : List ℕ) (present : ℕ) (b : Beside) (s : State) (e : ℕ)
+      → enabled cfg present e ≡ false → tokensAt cfg (Tick ms frame present) b s e ≡ []
+  unfolding tokens
+  waiting-tick-gives-nothing ms frame present b s e q =
+      rw (q, and-false (timeRuns cfg (s .board) e))
+      (nothing (eqb (outcome cfg (Tick ms frame present) b s .answer) 0))
 
   -- a call that only reads leaves the state as it was, accepted or refused
   pub query-leaves : (q : Query) (b : Beside) (s : State) → answerTo cfg q b s .state ≡ s
-  unfolding readStatus readFrame readCounter readTable readPaint listGrey save
+  unfolding readStatus readFrame readCounter readMissing readTable readPaint listGrey save
   query-leaves (ReadStatus k) b s = judged-leaves _ b s _ refl
   query-leaves (ReadFrame k) b s = judged-leaves _ b s _ refl
   query-leaves (ReadCounter k) b s = judged-leaves _ b s _ refl
+  query-leaves (ReadMissing k present) b s = judged-leaves _ b s _ refl
   query-leaves ReadTable b s = judged-leaves _ b s _ refl
   query-leaves (ReadPaint k) b s = judged-leaves _ b s _ refl
   query-leaves ListGrey b s = judged-leaves _ b s _ refl
@@ -173,9 +185,10 @@ module _ (cfg : Configuration) where
       → Either (Does s c) s (outcome cfg c b s)
   unfolding fresh report tick startCycle stopCycle clearCode restore requestReply sent
   call-does Fresh b s g = judged-either (Does s Fresh) _ b s _ refl (λ z. not-accepted _ b s _ refl g z)
-  call-does (Report k code frame) b s g =
-      judged-either (Does s (Report k code frame)) _ b s _ refl (a-report k code frame)
-  call-does (Tick ms frame) b s g = judged-either (Does s (Tick ms frame)) _ b s _ refl (a-tick ms frame)
+  call-does (Report k code frame present) b s g =
+      judged-either (Does s (Report k code frame present)) _ b s _ refl (a-report k code frame present)
+  call-does (Tick ms frame present) b s g =
+      judged-either (Does s (Tick ms frame present)) _ b s _ refl (a-tick ms frame present)
   call-does (Start c) b s g = judged-either (Does s (Start c)) _ b s _ refl (a-start c)
   call-does (Stop c) b s g = judged-either (Does s (Stop c)) _ b s _ refl (a-stop c)
   call-does (Clear code) b s g = judged-either (Does s (Clear code)) _ b s _ refl (a-clear code)
@@ -192,10 +205,11 @@ module _ (cfg : Configuration) where
 
   -- What a relation must keep for every call to keep it: the five that change the state, where they are accepted.
   pub record KeptWhenAccepted (Q : State → Histories → Type 0) (s : State) (H : Histories) : Type 0 where
-    pub report : (k code : ℕ) (frame : List ℕ) → firstThatApplies (reportRules cfg k code frame s) ≡ 0
-        → Q (applied cfg frame k (debouncedBy cfg k code s) s) (given (Report k code frame) s H)
-    pub tick : (ms : ℕ) (frame : List ℕ) → firstThatApplies (tickRules cfg ms frame s) ≡ 0
-        → Q (forThose cfg (timeRuns cfg (s .board)) (ticks cfg ms frame) s) (given (Tick ms frame) s H)
+    pub report : (k code : ℕ) (frame : List ℕ) (present : ℕ)
+        → firstThatApplies (reportRules cfg k code frame present s) ≡ 0
+        → Q (applied cfg frame k (debouncedBy cfg k code s) s) (given (Report k code frame present) s H)
+    pub tick : (ms : ℕ) (frame : List ℕ) (present : ℕ) → firstThatApplies (tickRules cfg ms frame s) ≡ 0
+        → Q (forThose cfg (tickMoves cfg present (s .board)) (ticks cfg ms frame) s) (given (Tick ms frame present) s H)
     pub start : (c : ℕ) → firstThatApplies (startRules cfg c s) ≡ 0
         → Q (withCycle c true (forThose cfg (ofCycle cfg c) (happens cfg start) s)) (given (Start c) s H)
     pub stop : (c : ℕ) → firstThatApplies (stopRules cfg c s) ≡ 0
@@ -213,8 +227,8 @@ module _ (cfg : Configuration) where
 
     reading-keeps : (c : Call) → onlyReads c ≡ true → Q s (given c s H)
     reading-keeps Fresh r = q
-    reading-keeps (Report e code frame) r = clash true refl (sym r)
-    reading-keeps (Tick ms frame) r = clash true refl (sym r)
+    reading-keeps (Report e code frame present) r = clash true refl (sym r)
+    reading-keeps (Tick ms frame present) r = clash true refl (sym r)
     reading-keeps (Start c) r = clash true refl (sym r)
     reading-keeps (Stop c) r = clash true refl (sym r)
     reading-keeps (Clear code) r = clash true refl (sym r)
@@ -223,8 +237,8 @@ module _ (cfg : Configuration) where
     reading-keeps (Request bytes) r = asked false bytes s (not-true _ r) q
 
     does-keeps : (c : Call) (t : State) → Does s c t → Q t (given c s H)
-    does-keeps _ _ (a-report e code frame z) = k .report e code frame z
-    does-keeps _ _ (a-tick ms frame z) = k .tick ms frame z
+    does-keeps _ _ (a-report e code frame present z) = k .report e code frame present z
+    does-keeps _ _ (a-tick ms frame present z) = k .tick ms frame present z
     does-keeps _ _ (a-start c z) = k .start c z
     does-keeps _ _ (a-stop c z) = k .stop c z
     does-keeps _ _ (a-clear code z) = k .clear code z

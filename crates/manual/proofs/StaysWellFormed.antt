@@ -30,8 +30,10 @@ use Rattle.manual.specs.Memory.{entriesOf, entriesBytes, memoryOf, noTwi
 use Rattle.manual.specs.WellFormed.{recordOk, DOk, entries, entryOk, wellFormed}
 use Rattle.manual.specs.OneEvent.{happens, memoryTold, fails, qualifies, stops, clears, forThose}
 use Rattle.manual.specs.Answers.{Beside, Outcome, Rule, _if_, firstThatApplies}
+use Rattle.manual.specs.Conditions.{enabled}
 use Rattle.manual.specs.Calls.{freshState, freshRules, fresh, cycleRuns, reportRules, applied, tickRules}
-use Rattle.manual.specs.Calls.{timeRuns, ticks, ofCycle, startRules, stopRules, covers, cleared, clearRules}
+use Rattle.manual.specs.Calls.{timeRuns, tickMoves, ticks, ofCycle, startRules, stopRules, covers, cleared}
+use Rattle.manual.specs.Calls.{clearRules}
 use Rattle.manual.specs.Image.{restore}
 use Rattle.manual.specs.Sequences.{Call, Fresh, Report, Tick, Start, Stop, Clear, Read}
 use Rattle.manual.specs.Sequences.{Restore, Request, beginsAnew, outcome, goesOn}
@@ -306,30 +308,31 @@ module _ (cfg : Configuration) where
 
     -- ---- report
 
-    report-sound : (k code : ℕ) (frame : List ℕ) (s : State) → Sound s
-        → firstThatApplies (reportRules cfg k code frame s) ≡ 0
+    report-sound : (k code : ℕ) (frame : List ℕ) (present : ℕ) (s : State) → Sound s
+        → firstThatApplies (reportRules cfg k code frame present s) ≡ 0
         → Sound (applied cfg frame k (reported cfg k code (D s k)) s)
     unfolding reportRules
-    report-sound k code frame s o z =
+    report-sound k code frame present s o z =
         reports-sound frame (eqb-true _ _ (not-false _ (none-applies _ z refl 5))) k
         (leb-false _ _ (none-applies _ z refl 2)) code s (not-false _ (none-applies _ z refl 6)) o
 
     -- ---- tick
 
-    pub ticks-keep : (ms : ℕ) (frame : List ℕ) → length frame ≡ frameBytes cfg → (s : State)
-        → Keeps (timeRuns cfg (s .board)) (ticks cfg ms frame) s
-    ticks-keep ms frame framed s = record {
+    pub ticks-keep : (ms : ℕ) (frame : List ℕ) (present : ℕ) → length frame ≡ frameBytes cfg → (s : State)
+        → Keeps (tickMoves cfg present (s .board)) (ticks cfg ms frame) s
+    ticks-keep ms frame present framed s = record {
       sound =
           λ k u h q r o. ticks-sound frame framed k h ms u
-          (subst (λ (b : Bool). isTime cfg k && b ≡ true) (runs-as (u .board) (s .board) k (sym r)) q) o;
+          (subst (λ (b : Bool). isTime cfg k && b ≡ true) (runs-as (u .board) (s .board) k (sym r))
+          (and-left (timeRuns cfg (s .board) k) (enabled cfg present k) q)) o;
       running = λ k u. applied-running cfg frame k _ u;
     }
 
-    tick-sound : (ms : ℕ) (frame : List ℕ) (s : State) → Sound s → firstThatApplies (tickRules cfg ms frame s) ≡ 0
-        → Sound (forThose cfg (timeRuns cfg (s .board)) (ticks cfg ms frame) s)
+    tick-sound : (ms : ℕ) (frame : List ℕ) (present : ℕ) (s : State) → Sound s → firstThatApplies (tickRules cfg ms frame s) ≡ 0
+        → Sound (forThose cfg (tickMoves cfg present (s .board)) (ticks cfg ms frame) s)
     unfolding tickRules
-    tick-sound ms frame s o z =
-        those-going (ticks-keep ms frame (eqb-true _ _ (not-false _ (none-applies _ z refl 3))) s) o .sound
+    tick-sound ms frame present s o z =
+        those-going (ticks-keep ms frame present (eqb-true _ _ (not-false _ (none-applies _ z refl 3))) s) o .sound
 
     -- ---- start and stop
 
@@ -443,8 +446,9 @@ module _ (cfg : Configuration) where
 
   does-sound : (c : Call) (s t : State) → Does cfg s c t → Sound s → Sound t
   unfolding reportRules tickRules startRules stopRules clearRules
-  does-sound _ s _ (a-report k code frame z) o = report-sound (judged-config _ _ z refl) k code frame s o z
-  does-sound _ s _ (a-tick ms frame z) o = tick-sound (judged-config _ _ z refl) ms frame s o z
+  does-sound _ s _ (a-report k code frame present z) o =
+      report-sound (judged-config _ _ z refl) k code frame present s o z
+  does-sound _ s _ (a-tick ms frame present z) o = tick-sound (judged-config _ _ z refl) ms frame present s o z
   does-sound _ s _ (a-start c z) o = start-sound (judged-config _ _ z refl) c s o z
   does-sound _ s _ (a-stop c z) o = stop-sound (judged-config _ _ z refl) c s o
   does-sound _ s _ (a-clear code z) o = cleared-sound (judged-config _ _ z refl) code s o
@@ -478,8 +482,8 @@ module _ (cfg : Configuration) where
     where
       begun : (c : Call) → beginsAnew c && eqb (outcome cfg c b s .answer) 0 ≡ true → Sound (outcome cfg c b s .state)
       begun Fresh e = fresh-begun b s (eqb-true _ 0 e)
-      begun (Report k code frame) e = clash true refl (sym e)
-      begun (Tick ms frame) e = clash true refl (sym e)
+      begun (Report k code frame present) e = clash true refl (sym e)
+      begun (Tick ms frame present) e = clash true refl (sym e)
       begun (Start c) e = clash true refl (sym e)
       begun (Stop c) e = clash true refl (sym e)
       begun (Clear code) e = clash true refl (sym e)

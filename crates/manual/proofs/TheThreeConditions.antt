@@ -3,7 +3,7 @@
 -- statement of the call itself. The theorems are proved in the files that the `use` lines name.
 use mathlib.Core.Path.{_≡_}
 use mathlib.Core.Logic.{_≢_, _⊎_, _↔_}
-use mathlib.Core.Bool.{Bool, true}
+use mathlib.Core.Bool.{Bool, true, false}
 use mathlib.Core.List.{List, [], _++_, List·Memᴰ}
 use Prim.Native.Nat.{ℕ, _*_, _≤_, _<_}
 use lib.ListN.{length, getD}
@@ -13,12 +13,13 @@ use Rattle.manual.specs.Configuration.{Configuration, events, limitsOf}
 use Rattle.manual.specs.State.{State, recordWidth}
 use Rattle.manual.specs.WellFormed.{lengthsFit, entries, wellFormed}
 use Rattle.manual.specs.Memory.{Entry, noTwice, store}
+use Rattle.manual.specs.Conditions.{enabled}
 use Rattle.manual.specs.Displacement.{Ruled}
 use Rattle.manual.specs.Answers.{Beside, Outcome, Given, refused, done}
 use Rattle.manual.specs.Image.{imageOf, acceptable, Still, save, saved, restore}
 use Rattle.manual.specs.Diagnostics.{requestReply}
 use Rattle.manual.specs.Replies.{Replies}
-use Rattle.manual.specs.Sequences.{Query, Call, Report, answerTo, outcome, rulesOf}
+use Rattle.manual.specs.Sequences.{Query, Call, Report, Tick, answerTo, outcome, rulesOf}
 use Rattle.manual.specs.Sequences.{tokensAt, goesOn, savedImage, Reached, restored}
 use Rattle.manual.specs.EntriesInACall.{Fate, Origin}
 use Rattle.manual.specs.MarkedExamples.{replayed, table}
@@ -131,9 +132,15 @@ module _ (cfg : Configuration) where
         → tokensAt cfg c b s e ≡ []
     refused-gives-nothing c b = SequencesLaws.refused-gives-nothing cfg c b s
 
-    pub other-reports-give-nothing : (k code : ℕ) (frame : List ℕ) (b : Beside) (e : ℕ) → e ≢ k
-        → tokensAt cfg (Report k code frame) b s e ≡ []
-    other-reports-give-nothing k code frame b = SequencesLaws.other-reports-give-nothing cfg k code frame b s
+    pub other-reports-give-nothing : (k code : ℕ) (frame : List ℕ) (present : ℕ) (b : Beside) (e : ℕ) → e ≢ k
+        → tokensAt cfg (Report k code frame present) b s e ≡ []
+    other-reports-give-nothing k code frame present b =
+        SequencesLaws.other-reports-give-nothing cfg k code frame present b s
+
+    -- document 02, W5: "a tick counts for an event only while its conditions hold"
+    pub waiting-tick-gives-nothing : (ms : ℕ) (frame : List ℕ) (present : ℕ) (b : Beside) (e : ℕ)
+        → enabled cfg present e ≡ false → tokensAt cfg (Tick ms frame present) b s e ≡ []
+    waiting-tick-gives-nothing ms frame present b = SequencesLaws.waiting-tick-gives-nothing cfg ms frame present b s
 
     -- "After restoring an image saved in that sequence, the history is the one up to that save, then what follows."
     pub restored-leads-on : (b : Beside) → save cfg b s .answer ≡ 0

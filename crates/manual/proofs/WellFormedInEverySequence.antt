@@ -15,13 +15,14 @@ use Rattle.manual.specs.Answers.{Beside, Outcome, Rule, _if_, firstThatA
 use Rattle.manual.specs.Memory.{noTwice}
 use Rattle.manual.specs.WellFormed.{entries, wellFormed}
 use Rattle.manual.specs.Counter.{readCounterRules}
+use Rattle.manual.specs.Missing.{readMissingRules}
 use Rattle.manual.specs.Calls.{freshRules, fresh, freshState, reportRules, tickRules, startRules}
 use Rattle.manual.specs.Calls.{stopRules, clearRules, readStatusRules, readFrameRules}
 use Rattle.manual.specs.Untested.{readTableRules, readPaintRules, listGreyRules}
 use Rattle.manual.specs.Image.{saveRules, restoreRules}
 use Rattle.manual.specs.Diagnostics.{requestRules}
-use Rattle.manual.specs.Sequences.{Query, ReadStatus, ReadFrame, ReadCounter, ReadTable, ReadPaint, ListGrey}
-use Rattle.manual.specs.Sequences.{Save, Call, Fresh, Report, Tick}
+use Rattle.manual.specs.Sequences.{Query, ReadStatus, ReadFrame, ReadCounter, ReadMissing, ReadTable, ReadPaint}
+use Rattle.manual.specs.Sequences.{ListGrey, Save, Call, Fresh, Report, Tick}
 use Rattle.manual.specs.Sequences.{Start, Stop, Clear, Read, Restore, Request, outcome, queryRules}
 use Rattle.manual.specs.Sequences.{rulesOf, tokensAt, goesOn, Reached, begun, called, restored}
 use Rattle.manual.proofs.AnswersLaws.{none-applies, accepted, lacks, never-given}
@@ -47,10 +48,12 @@ past-both a b rules p q l m =
 module _ (cfg : Configuration) where
   query-not-2-or-3 : (q : Query) (b : Beside) (s : State) → configOk cfg ≡ true → wellFormed cfg s ≡ true
       → Unrefused (queryRules cfg q b s)
-  unfolding readStatusRules readFrameRules readCounterRules readTableRules readPaintRules listGreyRules saveRules
+  unfolding readStatusRules readFrameRules readCounterRules readMissingRules readTableRules readPaintRules listGreyRules
+      saveRules
   query-not-2-or-3 (ReadStatus e) b s k w = past-both _ _ _ k w refl refl
   query-not-2-or-3 (ReadFrame e) b s k w = past-both _ _ _ k w refl refl
   query-not-2-or-3 (ReadCounter e) b s k w = past-both _ _ _ k w refl refl
+  query-not-2-or-3 (ReadMissing e present) b s k w = past-both _ _ _ k w refl refl
   query-not-2-or-3 ReadTable b s k w = past-both _ _ _ k w refl refl
   query-not-2-or-3 (ReadPaint e) b s k w = past-both _ _ _ k w refl refl
   query-not-2-or-3 ListGrey b s k w = past-both _ _ _ k w refl refl
@@ -60,8 +63,8 @@ module _ (cfg : Configuration) where
       → Unrefused (rulesOf cfg c b s)
   unfolding freshRules reportRules tickRules startRules stopRules clearRules restoreRules requestRules
   not-2-or-3 Fresh b s k w = past-both _ _ _ k (well-formed-lengths cfg s w) refl refl
-  not-2-or-3 (Report e code frame) b s k w = past-both _ _ _ k w refl refl
-  not-2-or-3 (Tick ms frame) b s k w = past-both _ _ _ k w refl refl
+  not-2-or-3 (Report e code frame present) b s k w = past-both _ _ _ k w refl refl
+  not-2-or-3 (Tick ms frame present) b s k w = past-both _ _ _ k w refl refl
   not-2-or-3 (Start c) b s k w = past-both _ _ _ k w refl refl
   not-2-or-3 (Stop c) b s k w = past-both _ _ _ k w refl refl
   not-2-or-3 (Clear code) b s k w = past-both _ _ _ k w refl refl

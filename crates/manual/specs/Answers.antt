@@ -11,7 +11,7 @@ use Rattle.manual.specs.declared.Verdict.the-variants.{None}
 use Rattle.manual.specs.declared.Refusal.{Refusal}
 use Rattle.manual.specs.declared.Refusal.the-variants.{BadArgument, BadConfiguration, BadState, NoSuch}
 use Rattle.manual.specs.declared.Refusal.the-variants.{WrongCycleState, NoPreResult, RoomTooSmall, BadImage}
-use Rattle.manual.specs.declared.Refusal.the-variants.{WrongFrame, NoEntry}
+use Rattle.manual.specs.declared.Refusal.the-variants.{WrongFrame, NoEntry, MissingCondition}
 use Rattle.manual.specs.declared.Answer.{Answer}
 use Rattle.manual.specs.declared.Answer.the-variants.{Done}
 use Rattle.manual.specs.declared.ReportAnswer.{ReportAnswer}
@@ -20,6 +20,8 @@ use Rattle.manual.specs.declared.StatusAnswer.{StatusAnswer}
 use Rattle.manual.specs.declared.StatusAnswer.the-variants.{Status}
 use Rattle.manual.specs.declared.CounterAnswer.{CounterAnswer}
 use Rattle.manual.specs.declared.CounterAnswer.the-variants.{Counter}
+use Rattle.manual.specs.declared.MissingAnswer.{MissingAnswer}
+use Rattle.manual.specs.declared.MissingAnswer.the-variants.{Missing}
 use Rattle.manual.specs.declared.Paint.{Paint}
 use Rattle.manual.specs.declared.Paint.the-variants.{Grey}
 use Rattle.manual.specs.declared.PaintAnswer.{PaintAnswer}
@@ -104,6 +106,7 @@ numberOf RoomTooSmall = 7
 numberOf BadImage = 8
 numberOf WrongFrame = 9
 numberOf NoEntry = 10
+numberOf MissingCondition = 11
 
 -- an answer in this paper's numbers
 pub record Answered : Type 0 where
@@ -143,6 +146,15 @@ ofPaint (PaintAnswer.Refused r) = answered (numberOf r) None 0
 abbrev pub paintAnswered : PaintAnswer → Paint
 paintAnswered (Painted p) = p
 paintAnswered (PaintAnswer.Refused r) = Grey
+
+-- the lowest missing number is said beside it; "a refusal … answers 0 and 0"
+abbrev pub ofMissing : MissingAnswer → Answered
+ofMissing (Missing still) = answered 0 None (still .count)
+ofMissing (MissingAnswer.Refused r) = answered (numberOf r) None 0
+
+abbrev pub lowestAnswered : MissingAnswer → ℕ
+lowestAnswered (Missing still) = still .lowest
+lowestAnswered (MissingAnswer.Refused r) = 0
 
 -- the part is said of the caller's block beside it
 abbrev pub ofFrame : FrameAnswer → Answered

@@ -20,6 +20,7 @@ use Rattle.manual.specs.State.{State, stored, runs, allStopped, statusBy
 use Rattle.manual.specs.WellFormed.{lengthsFit, wellFormed, entries}
 use Rattle.manual.specs.Answers.{Beside, Outcome, done, Rule, _if_, judged}
 use Rattle.manual.specs.Debouncing.{Debounced, reported, ticked}
+use Rattle.manual.specs.Conditions.{enabled}
 use Rattle.manual.specs.OneEvent.{happens, qualifies, qualifiesDid, stops, clears, forThose}
 use Rattle.manual.specs.Memory.{Entry, memoryLength, isOf, entryFor}
 
@@ -79,16 +80,18 @@ module _ (cfg : Configuration) where
   unfoldable pub fresh : Beside → State → Outcome
   fresh b s = judged (freshRules s) b s (done b freshState)
 
-  -- ---- report: "report 4, 1, 6, 9, 5"
+  -- ---- report: "report 4, 1, 6, 9, 5"; document 02, W5: "A report whose needed conditions aren't all present is
+  -- refused with new number 11, checked last."
 
-  unfoldable pub reportRules : ℕ → ℕ → List ℕ → State → List Rule
-  reportRules e code frame s =
+  unfoldable pub reportRules : ℕ → ℕ → List ℕ → ℕ → State → List Rule
+  reportRules e code frame present s =
       begins s true
       ((4 if noSuchEvent e)
       ∷ (1 if ltb 3 code)
       ∷ (6 if (isInternal cfg e && ltb 1 code))
       ∷ (9 if wrongFrame frame)
       ∷ (5 if not (cycleRuns (s .board) e))
+      ∷ (11 if not (enabled cfg present e))
       ∷ [])
 
   -- the new D, then what the verdict does
@@ -115,8 +118,8 @@ module _ (cfg : Configuration) where
   abbrev pub reportDid : ℕ → ℕ → List ℕ → State → StoreAnswer
   reportDid e code frame s = appliedDid frame e (debouncedBy e code s) s
 
-  unfoldable pub report : ℕ → ℕ → List ℕ → Beside → State → Outcome
-  report e code frame b s = judged (reportRules e code frame s) b s (reportDone e code frame b s)
+  unfoldable pub report : ℕ → ℕ → List ℕ → ℕ → Beside → State → Outcome
+  report e code frame present b s = judged (reportRules e code frame present s) b s (reportDone e code frame b s)
 
   -- ---- tick: "tick 1, 9"
 
@@ -127,6 +130,10 @@ module _ (cfg : Configuration) where
   abbrev pub timeRuns : Board → ℕ → Bool
   timeRuns b e = isTime cfg e && cycleRuns b e
 
+  -- W5: "A tick doesn't move such an event's D.": one whose needed conditions are not all present
+  abbrev pub tickMoves : ℕ → Board → ℕ → Bool
+  tickMoves present b e = timeRuns b e && enabled cfg present e
+
   -- "Every event so qualified takes the lent frame."
   abbrev pub ticks : ℕ → List ℕ → ℕ → State → State
   ticks ms frame e s = applied frame e (ticked cfg e ms (D s e)) s
@@ -134,8 +141,9 @@ module _ (cfg : Configuration) where
   abbrev pub ticksDid : ℕ → List ℕ → ℕ → State → StoreAnswer
   ticksDid ms frame e s = appliedDid frame e (ticked cfg e ms (D s e)) s
 
-  unfoldable pub tick : ℕ → List ℕ → Beside → State → Outcome
-  tick ms frame b s = judged (tickRules ms frame s) b s (done b (forThose cfg (timeRuns (s .board)) (ticks ms frame) s))
+  unfoldable pub tick : ℕ → List ℕ → ℕ → Beside → State → Outcome
+  tick ms frame present b s =
+      judged (tickRules ms frame s) b s (done b (forThose cfg (tickMoves present (s .board)) (ticks ms frame) s))
 
   -- ---- start and stop of a cycle: "start and stop 4, 5"
 

@@ -49,9 +49,9 @@ entryFrames cfg = frameBytes cfg
 abbrev pub mostPayload : ℕ
 mostPayload = mostFrame
 
--- "Then 13 per event, event 0 first"
+-- "Then 13 per event, event 0 first"; document 02, W5: "one more configuration number per event, 14th"
 abbrev pub rowWidth : ℕ
-rowWidth = 13
+rowWidth = 14
 
 -- the length of the longest configuration
 abbrev pub mostNumbers : ℕ
@@ -111,6 +111,10 @@ module _ (cfg : Configuration) (e : ℕ) where
     indicator = eqb (natOf (column 13 cfg e)) 1;
   }
 
+  -- "14th, for the set it needs (0 to 2,147,483,647)"
+  abbrev pub neededOf : ℕ
+  neededOf = natOf (column 14 cfg e)
+
   -- the table's column "allowed", a line for each number of the row
   unfoldable pub rowOk : Bool
   rowOk =
@@ -128,13 +132,15 @@ module _ (cfg : Configuration) (e : ℕ) where
       ∷ between (pos 1) (pos 255) (column 11 cfg e)
       ∷ between (pos 1) (pos 255) (column 12 cfg e)
       ∷ between (pos 0) (pos 1) (column 13 cfg e)
+      ∷ between (pos 0) (pos 2147483647) (column 14 cfg e)
       ∷ [])
 
   -- "strictly rising from event to event"
   abbrev pub rises : Bool
   rises = ltZ (column 1 cfg e) (column 1 cfg (suc e))
 
--- "the length is exactly 3 + 13n": a configuration of another length, also one below 3, breaks the table
+-- "the length is exactly 3 + 13n", with W5 3 + 14n: a configuration of another length, also one below 3, breaks the
+-- table
 unfoldable pub configOk : Configuration → Bool
 configOk cfg =
     holds

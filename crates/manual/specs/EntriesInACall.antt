@@ -16,7 +16,7 @@ use Rattle.manual.specs.WellFormed.{entries}
 use Rattle.manual.specs.Answers.{Beside}
 use Rattle.manual.specs.OneEvent.{happens, isQuiet}
 use Rattle.manual.specs.Displacement.{TakenOut}
-use Rattle.manual.specs.Calls.{report, timeRuns, ticks, tick, ofCycle, stopCycle, covers, clearCode}
+use Rattle.manual.specs.Calls.{report, tickMoves, ticks, tick, ofCycle, stopCycle, covers, clearCode}
 use Rattle.manual.specs.Diagnostics.{requestReply}
 use Rattle.manual.specs.Sequences.{Call, Report, Tick, Stop, Clear, Request, asksClear}
 
@@ -26,20 +26,21 @@ renewedEntry frame x = entryOf (eventOf x) (min 255 (suc (x .count))) (renewedPa
 
 module _ (cfg : Configuration) where
   -- "Tick …, events in rising number": the state when the events below k have had their part of a tick
-  abbrev pub tickedBelow : ℕ → List ℕ → State → ℕ → State
-  tickedBelow ms frame s k = forBelow k (λ e u. cond (timeRuns cfg (s .board) e) (ticks cfg ms frame e u) u) s
+  abbrev pub tickedBelow : ℕ → List ℕ → ℕ → State → ℕ → State
+  tickedBelow ms frame present s k =
+      forBelow k (λ e u. cond (tickMoves cfg present (s .board) e) (ticks cfg ms frame e u) u) s
 
   -- "If bit 0 was clear before, it is a fresh failure and memory is told": in an accepted call on state s, with b lent
   -- beside it, event k fails afresh, with this frame, in the state that the parts of the call before its own have left
   pub data FailsAfresh (b : Beside) (s : State) : Call → ℕ → List ℕ → State → Type 0 where
-    in-report : (k code : ℕ) (frame : List ℕ) → report cfg k code frame b s .answer ≡ 0
+    in-report : (k code : ℕ) (frame : List ℕ) (present : ℕ) → report cfg k code frame present b s .answer ≡ 0
         → reported cfg k code (D s k) .verdict ≡ Failed → freshFailure (recordOf s k) ≡ true
-        → FailsAfresh b s (Report k code frame) k frame s
-    in-tick : (ms : ℕ) (frame : List ℕ) (k : ℕ) → tick cfg ms frame b s .answer ≡ 0 → k < events cfg
-        → timeRuns cfg (s .board) k ≡ true
-        → ticked cfg k ms (D (tickedBelow ms frame s k) k) .verdict ≡ Failed
-        → freshFailure (recordOf (tickedBelow ms frame s k) k) ≡ true
-        → FailsAfresh b s (Tick ms frame) k frame (tickedBelow ms frame s k)
+        → FailsAfresh b s (Report k code frame present) k frame s
+    in-tick : (ms : ℕ) (frame : List ℕ) (present k : ℕ) → tick cfg ms frame present b s .answer ≡ 0 → k < events cfg
+        → tickMoves cfg present (s .board) k ≡ true
+        → ticked cfg k ms (D (tickedBelow ms frame present s k) k) .verdict ≡ Failed
+        → freshFailure (recordOf (tickedBelow ms frame present s k) k) ≡ true
+        → FailsAfresh b s (Tick ms frame present) k frame (tickedBelow ms frame present s k)
 
   -- v is the victim that rule 3 names where event k fails afresh in state u: "memory is told, last", so k has bit 0 set
   -- by then

@@ -4,11 +4,13 @@ pub mod State
 pub mod WellFormed
 pub mod Answers
 pub mod Debouncing
+pub mod Conditions
 pub mod OneEvent
 pub mod Memory
 pub mod Displacement
 pub mod Calls
 pub mod Counter
+pub mod Missing
 pub mod Diagnostics
 pub mod Replies
 pub mod Untested

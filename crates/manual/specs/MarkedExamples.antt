@@ -11,7 +11,8 @@ use Rattle.manual.specs.Configuration.{Configuration, events, places, fr
 use Rattle.manual.specs.State.{State, recordWidth, storedAt, statusByte, D, allStopped}
 use Rattle.manual.specs.Memory.{memoryLength}
 use Rattle.manual.specs.Debouncing.{ticked}
-use Rattle.manual.specs.Calls.{report, timeRuns}
+use Rattle.manual.specs.Conditions.{allPresent}
+use Rattle.manual.specs.Calls.{report, tickMoves}
 use Rattle.manual.specs.Answers.{alone}
 use Rattle.manual.specs.Sequences.{Call, Fresh, Report, Tick, Start, Stop, Clear, Read, Restore, Request, outcome}
 
@@ -43,8 +44,9 @@ pub record Story : Type 0 where
 -- so what is seen of it is the verdict that debouncing gives
 abbrev pub verdictOf : Configuration → Call → State → Verdict
 verdictOf cfg Fresh s = None
-verdictOf cfg (Report k code frame) s = report cfg k code frame alone s .verdict
-verdictOf cfg (Tick ms frame) s = cond (timeRuns cfg (s .board) 0) (ticked cfg 0 ms (D s 0) .verdict) None
+verdictOf cfg (Report k code frame present) s = report cfg k code frame present alone s .verdict
+verdictOf cfg (Tick ms frame present) s =
+    cond (tickMoves cfg present (s .board) 0) (ticked cfg 0 ms (D s 0) .verdict) None
 verdictOf cfg (Start c) s = None
 verdictOf cfg (Stop c) s = None
 verdictOf cfg (Clear code) s = None
@@ -119,11 +121,11 @@ noEntry = 0 ∷ 0 ∷ 0 ∷ 0 ∷ []
 abbrev pub oneEntry : List ℕ
 oneEntry = 1 ∷ 0 ∷ 0 ∷ 1 ∷ []
 
--- one event, one place, no frame: kind, P, Q, up, down, jumps; "C 2, H 1, A 3, indicator 1"
+-- one event, one place, no frame: kind, P, Q, up, down, jumps; "C 2, H 1, A 3, indicator 1"; no condition is needed
 abbrev pub oneEvent : ℕ → ℤ → ℤ → ℕ → ℕ → ℕ → Configuration
 oneEvent kind p q up down jumps =
     pos 1 ∷ pos 1 ∷ pos 0 ∷ pos 1 ∷ pos 1 ∷ pos 0 ∷ pos kind ∷ p ∷ q ∷ pos up ∷ pos down ∷ pos jumps ∷ pos 2 ∷ pos 1
-    ∷ pos 3 ∷ pos 1 ∷ []
+    ∷ pos 3 ∷ pos 1 ∷ pos 0 ∷ []
 
 -- "Event: kind 1, P −4, Q 4, up 2, down 1, jumps 0"
 abbrev pub marked : Configuration
@@ -136,16 +138,16 @@ abbrev pub timed : Configuration
 timed = oneEvent 2 (negsuc 499) (pos 500) 0 0 0
 
 abbrev pub reportPassed : Call
-reportPassed = Report 0 0 []
+reportPassed = Report 0 0 [] allPresent
 
 abbrev pub reportFailed : Call
-reportFailed = Report 0 1 []
+reportFailed = Report 0 1 [] allPresent
 
 abbrev pub reportPrePassed : Call
-reportPrePassed = Report 0 2 []
+reportPrePassed = Report 0 2 [] allPresent
 
 abbrev pub reportPreFailed : Call
-reportPreFailed = Report 0 3 []
+reportPreFailed = Report 0 3 [] allPresent
 
 -- "Event: kind 1, P −4, Q 4, up 2, down 1, jumps 0, C 2, H 1, A 3, indicator 1. E1 start 50h; E2 pre-failed D 2, 50h;
 -- E3 pre-failed D 4, 27h; E4 stop 27h, D 0; E5 start 65h; E6 failed AFh; E7 passed AEh; E8 stop, start ECh; E9 passed,
@@ -176,8 +178,8 @@ e11 number =
 unfoldable pub e12 : List Row
 e12 =
     E 12 (Start 0 ∷ reportPreFailed ∷ []) (shows None 0x50 (pos 1) 0 noEntry)
-    ∷ E 12 (Tick 499 [] ∷ []) (shows None 0x50 (pos 500) 0 noEntry)
-    ∷ E 12 (Tick 1 [] ∷ []) (shows Failed 0x27 (pos 501) 0 oneEntry)
+    ∷ E 12 (Tick 499 [] allPresent ∷ []) (shows None 0x50 (pos 500) 0 noEntry)
+    ∷ E 12 (Tick 1 [] allPresent ∷ []) (shows Failed 0x27 (pos 501) 0 oneEntry)
     ∷ []
 
 unfoldable pub table : List Story

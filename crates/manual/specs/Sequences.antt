@@ -17,8 +17,9 @@ use Rattle.manual.specs.Answers.{Beside, Outcome, Rule}
 use Rattle.manual.specs.Debouncing.{reported, ticked}
 use Rattle.manual.specs.Calls.{freshRules, reportRules, tickRules, startRules, stopRules, clearRules}
 use Rattle.manual.specs.Calls.{readStatusRules, readFrameRules, fresh, report, tick, startCycle, stopCycle}
-use Rattle.manual.specs.Calls.{clearCode, readStatus, readFrame, timeRuns, ofCycle, covers, unknownCode}
+use Rattle.manual.specs.Calls.{clearCode, readStatus, readFrame, tickMoves, ofCycle, covers, unknownCode}
 use Rattle.manual.specs.Counter.{readCounterRules, readCounter}
+use Rattle.manual.specs.Missing.{readMissingRules, readMissing}
 use Rattle.manual.specs.Untested.{readTableRules, readPaintRules, listGreyRules, readTable, readPaint, listGrey}
 use Rattle.manual.specs.Image.{saveRules, restoreRules, save, restore}
 use Rattle.manual.specs.Diagnostics.{requestRules, requestReply}
@@ -26,13 +27,14 @@ use Rattle.manual.specs.Diagnostics.{requestRules, requestReply}
 -- the calls that only read the blocks and the board, with any arguments whatever
 pub data Query : Type 0 where
   ReadStatus ReadFrame ReadCounter ReadPaint : ℕ → Query
+  ReadMissing : ℕ → ℕ → Query
   ReadTable ListGrey Save : Query
 
--- all fifteen calls, with any arguments whatever
+-- all sixteen calls, with any arguments whatever
 pub data Call : Type 0 where
   Fresh : Call
-  Report : ℕ → ℕ → List ℕ → Call
-  Tick : ℕ → List ℕ → Call
+  Report : ℕ → ℕ → List ℕ → ℕ → Call
+  Tick : ℕ → List ℕ → ℕ → Call
   Start Stop Clear : ℕ → Call
   Read : Query → Call
   Restore Request : List ℕ → Call
@@ -53,8 +55,8 @@ savedImage o = take (o .value) (o .beside .room)
 -- a fresh or a restore, which begins anew where it is accepted
 abbrev pub beginsAnew : Call → Bool
 beginsAnew Fresh = true
-beginsAnew (Report k code frame) = false
-beginsAnew (Tick ms frame) = false
+beginsAnew (Report k code frame present) = false
+beginsAnew (Tick ms frame present) = false
 beginsAnew (Start c) = false
 beginsAnew (Stop c) = false
 beginsAnew (Clear code) = false
@@ -67,6 +69,7 @@ module _ (cfg : Configuration) where
   answerTo (ReadStatus k) b s = readStatus cfg k b s
   answerTo (ReadFrame k) b s = readFrame cfg k b s
   answerTo (ReadCounter k) b s = readCounter cfg k b s
+  answerTo (ReadMissing k present) b s = readMissing cfg k present b s
   answerTo ReadTable b s = readTable cfg b s
   answerTo (ReadPaint k) b s = readPaint cfg k b s
   answerTo ListGrey b s = listGrey cfg b s
@@ -74,8 +77,8 @@ module _ (cfg : Configuration) where
 
   abbrev pub outcome : Call → Beside → State → Outcome
   outcome Fresh b s = fresh cfg b s
-  outcome (Report k code frame) b s = report cfg k code frame b s
-  outcome (Tick ms frame) b s = tick cfg ms frame b s
+  outcome (Report k code frame present) b s = report cfg k code frame present b s
+  outcome (Tick ms frame present) b s = tick cfg ms frame present b s
   outcome (Start c) b s = startCycle cfg c b s
   outcome (Stop c) b s = stopCycle cfg c b s
   outcome (Clear code) b s = clearCode cfg code b s
@@ -88,6 +91,7 @@ module _ (cfg : Configuration) where
   queryRules (ReadStatus k) b s = readStatusRules cfg k s
   queryRules (ReadFrame k) b s = readFrameRules cfg k s
   queryRules (ReadCounter k) b s = readCounterRules cfg k s
+  queryRules (ReadMissing k present) b s = readMissingRules cfg k s
   queryRules ReadTable b s = readTableRules cfg s
   queryRules (ReadPaint k) b s = readPaintRules cfg k s
   queryRules ListGrey b s = listGreyRules cfg b s
@@ -95,8 +99,8 @@ module _ (cfg : Configuration) where
 
   abbrev pub rulesOf : Call → Beside → State → List Rule
   rulesOf Fresh b s = freshRules cfg s
-  rulesOf (Report k code frame) b s = reportRules cfg k code frame s
-  rulesOf (Tick ms frame) b s = tickRules cfg ms frame s
+  rulesOf (Report k code frame present) b s = reportRules cfg k code frame present s
+  rulesOf (Tick ms frame present) b s = tickRules cfg ms frame s
   rulesOf (Start c) b s = startRules cfg c s
   rulesOf (Stop c) b s = stopRules cfg c s
   rulesOf (Clear code) b s = clearRules cfg code s
@@ -109,11 +113,11 @@ module _ (cfg : Configuration) where
   asksClear bytes = eqb (getD bytes 0 0) 0x14 && eqb (length bytes) 4 && not (unknownCode cfg (threeAt 1 bytes))
 
   -- what an accepted call gives event e, by the board b and the event's own debounce number d: no status, K, h or g is
-  -- looked at
+  -- looked at. Document 02, W5: "a tick counts for an event only while its conditions hold"
   abbrev pub gives : Call → Board → ℕ → ℤ → List Token
   gives Fresh b e d = []
-  gives (Report k code frame) b e d = onlyIf (eqb e k) (result (reported cfg e code d .verdict))
-  gives (Tick ms frame) b e d = onlyIf (timeRuns cfg b e) (result (ticked cfg e ms d .verdict))
+  gives (Report k code frame present) b e d = onlyIf (eqb e k) (result (reported cfg e code d .verdict))
+  gives (Tick ms frame present) b e d = onlyIf (tickMoves cfg present b e) (result (ticked cfg e ms d .verdict))
   gives (Start c) b e d = onlyIf (ofCycle cfg c e) (start ∷ [])
   gives (Stop c) b e d = onlyIf (ofCycle cfg c e) (stop ∷ [])
   gives (Clear code) b e d = onlyIf (covers cfg code e) (clear ∷ [])

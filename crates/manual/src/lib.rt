@@ -20,8 +20,14 @@ pub const MOST_PLACES: usize = 64;
 
 pub const MOST_FRAME: usize = 32;
 
-// "the length is exactly 3 + 13n": of the longest configuration.
-pub const MOST_NUMBERS: usize = 3 + 13 * MOST_EVENTS;
+// "Then 13 per event"; document 02, W5: "one more configuration number per event, 14th".
+pub const ROW_WIDTH: usize = 14;
+
+// "the length is exactly 3 + 13n", with W5 3 + 14n: of the longest configuration.
+pub const MOST_NUMBERS: usize = 3 + ROW_WIDTH * MOST_EVENTS;
+
+// Document 02, W5: all of the "31 enable conditions".
+pub const ALL_PRESENT: u32 = 2_147_483_647;
 
 // "Records: 4n lent bytes; per event status, K (failed cycles), h (healing count), g (ageing count)."
 pub const RECORD_WIDTH: usize = 4;
@@ -57,7 +63,7 @@ pub enum StoreAnswer {
     NotStored,
 }
 
-// Why a call was refused: document 01's numbers 1 to 10, in their order.
+// Why a call was refused: document 01's numbers 1 to 10 and document 02's 11, in their order.
 pub enum Refusal {
     BadArgument,
     BadConfiguration,
@@ -69,6 +75,7 @@ pub enum Refusal {
     BadImage,
     WrongFrame,
     NoEntry,
+    MissingCondition,
 }
 
 // The answer of fresh, tick, start, stop, clear and restore.
@@ -92,6 +99,19 @@ pub enum StatusAnswer {
 // The answer of read counter: the fault detection counter.
 pub enum CounterAnswer {
     Counter(i8),
+    Refused(Refusal),
+}
+
+// Document 02, W5: "how many of the conditions it needs are still missing, and the lowest missing number, or 32 when
+// none is".
+pub struct StillMissing {
+    pub count: u32,
+    pub lowest: u32,
+}
+
+// The answer of read missing.
+pub enum MissingAnswer {
+    Missing(StillMissing),
     Refused(Refusal),
 }
 

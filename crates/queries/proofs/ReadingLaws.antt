@@ -15,17 +15,22 @@ use Rattle.manual.specs.declared.CounterAnswer.{CounterAnswer}
 use Rattle.manual.specs.declared.CounterAnswer.the-variants.{Counter}
 use Rattle.manual.specs.declared.FrameAnswer.{FrameAnswer}
 use Rattle.manual.specs.declared.FrameAnswer.the-variants.{At}
+use Rattle.manual.specs.declared.MissingAnswer.{MissingAnswer}
+use Rattle.manual.specs.declared.MissingAnswer.the-variants.{Missing}
 use Rattle.manual.specs.declared.Place.{Place}
+use Rattle.manual.specs.declared.StillMissing.{StillMissing}
 use Rattle.manual.specs.declared.Refusal.{Refusal}
 use Rattle.manual.specs.declared.Refusal.the-variants.{NoEntry}
 use Rattle.manual.specs.declared.Verdict.the-variants.{None}
 use Rattle.manual.specs.Configuration.{Configuration, mostEvents, mostPlaces, mostPayload, events, frameBytes}
-use Rattle.manual.specs.Configuration.{entryFrames, configOk}
+use Rattle.manual.specs.Configuration.{entryFrames, neededOf, configOk}
 use Rattle.manual.specs.State.{State, statusByte}
 use Rattle.manual.specs.Memory.{entriesOf, isOf, entryFor}
 use Rattle.manual.specs.WellFormed.{entries, wellFormed}
 use Rattle.manual.specs.Answers.{alone, Outcome, refused, Rule, _if_, firstThatApplies, numberOf, answered, leaves}
 use Rattle.manual.specs.Words.{between}
+use Rattle.manual.specs.Conditions.{missingOf, lowestMissingOf}
+use Rattle.manual.specs.Missing.{readMissingRules, readMissing, told, missingRead}
 use Rattle.manual.specs.Counter.{counterIn, readCounterRules, readCounter, counted, counterRead}
 use Rattle.manual.specs.Calls.{frameOf, begins, noSuchEvent, readStatusRules, readStatus, readFrameRules, readFrame}
 use Rattle.manual.proofs.WordsLaws.{first-none, first-some, between-from, between-to}
@@ -124,6 +129,14 @@ module _ (cfg : Configuration) (s : State) (e : ℕ)
   unfolding counterRead readCounter readCounterRules
   counter-is q = let o = sym (goes-through _ alone s _ z) in (λ i. counted (o i) (q i))
 
+  pub missing-is : (present : ℕ) (still : StillMissing)
+      → (still .count ≡ missingOf (neededOf cfg e) present) × (still .lowest ≡ lowestMissingOf (neededOf cfg e) present)
+      → Reading.tellsMissing (Missing still) s ≡ missingRead cfg e present alone s
+  unfolding missingRead readMissing readMissingRules
+  missing-is present still (p, q) =
+      (λ i. told (leaves (answered 0 None (p i)) [] alone s) (q i))
+      ∙ ap (λ (o : Outcome). told o (lowestMissingOf (neededOf cfg e) present)) (sym (goes-through _ alone s _ z))
+
   only-ten : firstThatApplies (readFrameRules cfg e s) ≡ firstThatApplies (ten cfg s e)
   only-ten = then-ten cfg s e ∙ rw z
 
@@ -180,6 +193,15 @@ module _ (cfg : Configuration) (s : State) (e : ℕ) (r : Refusal)
       ≡ counted (refused (numberOf r) alone s) (counterIn cfg s e) =
       rw (not-done r) in
       here ∙ ap (λ (o : Outcome). counted o (counterIn cfg s e)) (stops-with _ alone s _ r q)
+
+  pub missing-refused : (present : ℕ)
+      → Reading.tellsMissing (MissingAnswer.Refused r) s ≡ missingRead cfg e present alone s
+  unfolding missingRead readMissing readMissingRules
+  missing-refused present =
+      let lowest = lowestMissingOf (neededOf cfg e) present in
+      let here : Reading.tellsMissing (MissingAnswer.Refused r) s ≡ told (refused (numberOf r) alone s) lowest =
+      rw (not-done r) in
+      here ∙ ap (λ (o : Outcome). told o lowest) (stops-with _ alone s _ r q)
 
   pub frame-refused : says (FrameAnswer.Refused r) s ≡ frameRead cfg e s
   unfolding frameRead readFrame

@@ -1,5 +1,5 @@
--- Read status, read counter and read frame: their refusal 4, the counter beside the outcome, and where in the caller's
--- own memory block the frame stands. Assumes nothing.
+-- Read status, read counter, read missing and read frame: their refusal 4, the counter and the lowest missing condition
+-- beside the outcome, and where in the caller's own memory block the frame stands. Assumes nothing.
 use mathlib.Core.Bool.{Bool, cond}
 use mathlib.Core.List.{List, [], _∷_}
 use Prim.Native.Nat.{ℕ, _+_}
@@ -8,18 +8,21 @@ use lib.ListN.{length, take, drop}
 use Rattle.manual.specs.declared.CounterAnswer.{CounterAnswer}
 use Rattle.manual.specs.declared.FrameAnswer.{FrameAnswer}
 use Rattle.manual.specs.declared.FrameAnswer.the-variants.{At}
+use Rattle.manual.specs.declared.MissingAnswer.{MissingAnswer}
 use Rattle.manual.specs.declared.Refusal.the-variants.{NoEntry}
 use Rattle.manual.specs.Configuration.{Configuration, frameBytes, entryFrames}
 use Rattle.manual.specs.State.{State}
 use Rattle.manual.specs.WellFormed.{entries}
 use Rattle.manual.specs.Answers.{alone, Outcome, Rule, _if_, ofCounter, counterAnswered, ofFrame, leaves}
+use Rattle.manual.specs.Answers.{ofMissing, lowestAnswered}
 use Rattle.manual.specs.Calls.{readFrame}
 use Rattle.manual.specs.Counter.{CounterRead}
+use Rattle.manual.specs.Missing.{MissingRead}
 use Rattle.memory.specs.declared.Find.{Find}
 use Rattle.memory.specs.declared.Find.the-variants.{Nothing}
 use Rattle.memory.specs.Places.{frameAt, placeOf}
 
--- "read status 4; read frame 4, 10": the rule that these and read counter have
+-- "read status 4; read frame 4, 10": the rule that these, read counter and read missing have
 abbrev pub four : Bool → List Rule
 four no-such = (4 if no-such) ∷ []
 
@@ -28,6 +31,12 @@ four no-such = (4 if no-such) ∷ []
 -- what an answer says of a state that is left as found
 abbrev pub tells : CounterAnswer → State → CounterRead
 tells a s = record { outcome = leaves (ofCounter a) [] alone s; counter = counterAnswered a }
+
+-- ---- what read missing answers
+
+-- what an answer says of a state that is left as found
+abbrev pub tellsMissing : MissingAnswer → State → MissingRead
+tellsMissing a s = record { outcome = leaves (ofMissing a) [] alone s; lowest = lowestAnswered a }
 
 -- ---- the part of a memory block that an answer names
 

@@ -1,11 +1,13 @@
 // Document 01, "read status 4; read frame 4, 10": the calls that read an event's status byte and its stored frame; and
-// document 02, W1: the call that reads its fault detection counter.
+// document 02, W1: the call that reads its fault detection counter, W5: the one that reads which of its needed
+// conditions are missing.
 use judgement::Check;
 use manual::Board;
 use manual::CounterAnswer;
 use manual::EventNumber;
 use manual::FrameAnswer;
 use manual::FramePart;
+use manual::MissingAnswer;
 use manual::Refusal;
 use manual::StatusAnswer;
 use memory::Find;
@@ -18,10 +20,11 @@ ghost use Rattle.manual.specs.Memory.{entriesOf};
 ghost use Rattle.manual.specs.Answers.{alone, firstThatApplies, ofStatus, leaves};
 ghost use Rattle.manual.specs.Calls.{begins, noSuchEvent, readStatus};
 ghost use Rattle.manual.specs.Counter.{counterRead};
+ghost use Rattle.manual.specs.Missing.{missingRead};
 ghost use Rattle.judgement.specs.Checks.{checkNumber};
 ghost use Rattle.memory.specs.Fits.{EntriesFit};
 ghost use Rattle.memory.specs.Places.{placeOf};
-ghost use Rattle.queries.specs.Reading.{four, tells, partAt, partOf, says, entryAnswer, frameRead};
+ghost use Rattle.queries.specs.Reading.{four, tells, tellsMissing, partAt, partOf, says, entryAnswer, frameRead};
 
 // ---- 2, 3, 4
 
@@ -98,6 +101,28 @@ pub fn read_counter(
             CounterAnswer::Counter(counter as i8)
         }
         Check::Stop(refusal) => CounterAnswer::Refused(refusal),
+    }
+}
+
+// ---- read missing
+
+// How many of the conditions that the event needs are not in the set of those that are present, and the lowest of them.
+pub fn read_missing(
+    cfg: &[i32],
+    records: &[u8],
+    debounce: &[i32],
+    memory: &[u8],
+    board: Board,
+    event: EventNumber,
+    present: u32,
+) -> MissingAnswer
+    ensures { λ r. ⌜ tellsMissing r (lent (now (records .entry)) (now (debounce .entry)) (now (memory .entry)) board)
+        ≡ missingRead (now (cfg .entry)) (event .0) present alone
+        (lent (now (records .entry)) (now (debounce .entry)) (now (memory .entry)) board) ⌝ }
+{
+    match judge(cfg, records, debounce, memory, board, event) {
+        Check::Go => MissingAnswer::Missing(conditions::still_missing(cfg, event, present)),
+        Check::Stop(refusal) => MissingAnswer::Refused(refusal),
     }
 }
 

@@ -52,7 +52,7 @@ abbrev pub ofNumbers : Read → Beginning
 ofNumbers (readTo numbers at) = judgedNumbers numbers at
 ofNumbers (unread numbers) = unreadable numbers
 
--- "a count outside 0 to 6,659: only the line `bad input`"
+-- "a count outside 0 to 6,659: only the line `bad input`", with W5 "count up to 7,171"
 unfoldable pub withCount : ℤ → ℕ → List ℕ → Beginning
 withCount count at text =
     cond (between (pos 0) (pos mostNumbers) count) (ofNumbers (numbersRead (natOf count) at text)) (unreadable [])

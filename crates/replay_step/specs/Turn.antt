@@ -9,6 +9,7 @@ use Rattle.manual.specs.Configuration.{Configuration, mostEvents, events, frame
 use Rattle.manual.specs.State.{State, recordWidth}
 use Rattle.manual.specs.Memory.{mostMemory}
 use Rattle.manual.specs.Answers.{alone, Outcome}
+use Rattle.manual.specs.Conditions.{allPresent}
 use Rattle.manual.specs.Sequences as sequences
 use Rattle.manual.specs.Sequences.{outcome}
 use Rattle.writing.specs.Writing.{Written, filled}
@@ -22,12 +23,13 @@ use Rattle.replay_step.specs.declared.Stepped.{Stepped}
 use Rattle.replay_step.specs.declared.Stepped.the-variants.{Line, End, BadInput}
 use Rattle.replay_step.specs.Asked.{askedAt}
 
--- the call as the manual's, with the frame that is lent to it
+-- the call as the manual's, with the frame that is lent to it; document 02, W5: "The replay program lends all
+-- conditions present"
 abbrev pub callIs : List ℕ → Call → sequences.Call
-callIs frame (Report e code) = sequences.Report (e .0) code frame
+callIs frame (Report e code) = sequences.Report (e .0) code frame allPresent
 callIs frame (Start cycle) = sequences.Start cycle
 callIs frame (Stop cycle) = sequences.Stop cycle
-callIs frame (Tick ms) = sequences.Tick ms frame
+callIs frame (Tick ms) = sequences.Tick ms frame allPresent
 callIs frame (Clear code) = sequences.Clear code
 
 -- a call's number, and the state that it leaves

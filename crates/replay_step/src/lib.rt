@@ -179,7 +179,7 @@ pub enum Begun {
     Unreadable,
 }
 
-// "6,659": the numbers of the longest configuration.
+// "6,659", with W5 "7,171": the numbers of the longest configuration.
 const MOST_NUMBERS: i32 = manual::MOST_NUMBERS as i32;
 
 // The numbers in front of cfg as a configuration: "Refused configuration: one line `2`."
@@ -206,7 +206,7 @@ fn read_configuration(text: &[u8], from: Cursor, cfg: &mut [i32], count: usize) 
     }
 }
 
-// "a count outside 0 to 6,659"
+// "a count outside 0 to 6,659", with W5 "up to 7,171"
 fn count_allowed(count: i32) -> bool
     ensures { λ r. ⌜ r ≡ between (pos 0) (pos mostNumbers) count ⌝ }
 {
@@ -225,7 +225,7 @@ fn counted(text: &[u8], count: i32, from: Cursor, cfg: &mut [i32]) -> Begun
     read_configuration(text, from, cfg, count_of(count) as usize)
 }
 
-// "Longer input, or a count outside 0 to 6,659: only the line `bad input`."
+// "Longer input, or a count outside 0 to 6,659: only the line `bad input`.", with W5 7,171.
 // The numbers that were read are left in front of cfg, which has room for the most, and the rest of it as it was.
 pub fn begin(text: &[u8], longer: bool, cfg: &mut [i32]) -> Begun
     requires { ⌜ mostNumbers ≤ length (now cfg) ⌝ }
@@ -314,6 +314,7 @@ fn make(
             event,
             code,
             frame,
+            manual::ALL_PRESENT,
         )),
         Call::Start(cycle) => made_of(cycles::start(cfg, records, debounce, memory, board, cycle)),
         Call::Stop(cycle) => made_of(cycles::stop(cfg, records, debounce, memory, board, cycle)),
@@ -325,6 +326,7 @@ fn make(
             board,
             ms,
             frame,
+            manual::ALL_PRESENT,
         )),
         Call::Clear(code) => made_of(clearing::clear(cfg, records, debounce, memory, board, code)),
     }

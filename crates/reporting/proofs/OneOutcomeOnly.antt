@@ -14,18 +14,19 @@ use Rattle.manual.proofs.OneOutcomeOnly.{same-report, same-board, same-returned
 
 module _ (cfg : Configuration) (frame : List ℕ) (s : State) (records records′ : List ℕ) (debounce debounce′ : List ℤ)
     (memory memory′ : List ℕ) where
-  pub one-report : (e code : ℕ) (r r′ : ReportReturned)
+  pub one-report : (e code present : ℕ) (r r′ : ReportReturned)
       → leaves (ofReport (r .answer)) [] alone (lent records debounce memory (r .board))
-      ≡ report cfg e code frame alone s
+      ≡ report cfg e code frame present alone s
       → leaves (ofReport (r′ .answer)) [] alone (lent records′ debounce′ memory′ (r′ .board))
-      ≡ report cfg e code frame alone s
+      ≡ report cfg e code frame present alone s
       → (r ≡ r′) × ((records ≡ records′) × ((debounce ≡ debounce′) × (memory ≡ memory′)))
-  one-report e code r r′ p q =
+  one-report e code present r r′ p q =
       (λ i. record { answer = same-report (r .answer) (r′ .answer) p q i; board = same-board p q i }, same-blocks p q)
 
-  pub one-tick : (ms : ℕ) (r r′ : Returned)
-      → leaves (ofAnswer (r .answer)) [] alone (lent records debounce memory (r .board)) ≡ tick cfg ms frame alone s
+  pub one-tick : (ms present : ℕ) (r r′ : Returned)
+      → leaves (ofAnswer (r .answer)) [] alone (lent records debounce memory (r .board))
+      ≡ tick cfg ms frame present alone s
       → leaves (ofAnswer (r′ .answer)) [] alone (lent records′ debounce′ memory′ (r′ .board))
-      ≡ tick cfg ms frame alone s
+      ≡ tick cfg ms frame present alone s
       → (r ≡ r′) × ((records ≡ records′) × ((debounce ≡ debounce′) × (memory ≡ memory′)))
-  one-tick ms r r′ p q = (same-returned r r′ p q, same-blocks p q)
+  one-tick ms present r r′ p q = (same-returned r r′ p q, same-blocks p q)

@@ -15,8 +15,8 @@ use Rattle.manual.proofs.EventLoops.{ready-at-once}
 use Rattle.one_event.specs.Ready.{Ready}
 use Rattle.one_event.proofs.ReadyLaws.{ready-of}
 
-module _ (cfg : Configuration) (s : State) (e code : ℕ) (frame : List ℕ) where
-  pub may-report : firstThatApplies (reportRules cfg e code frame s) ≡ 0
+module _ (cfg : Configuration) (s : State) (e code : ℕ) (frame : List ℕ) (present : ℕ) where
+  pub may-report : firstThatApplies (reportRules cfg e code frame present s) ≡ 0
       → Ready cfg s e × (length frame ≡ frameBytes cfg)
   unfolding reportRules
   may-report z = (

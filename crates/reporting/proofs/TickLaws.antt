@@ -11,7 +11,7 @@ use Rattle.manual.specs.Words.{natOf, forBelow}
 use Rattle.manual.specs.Configuration.{Configuration, events, kindOf}
 use Rattle.manual.specs.State.{State, runs}
 use Rattle.manual.specs.Answers.{firstThatApplies}
-use Rattle.manual.specs.Calls.{cycleRuns, tickRules, timeRuns, ticks}
+use Rattle.manual.specs.Calls.{cycleRuns, tickRules, timeRuns, tickMoves, ticks}
 use Rattle.manual.proofs.AnswersLaws.{none-applies}
 use Rattle.manual.proofs.ConfigurationLaws.{config-tells}
 use Rattle.manual.proofs.StaysWellFormed.{ticks-keep}
@@ -32,13 +32,16 @@ module _ (cfg : Configuration) (s : State) (ms : ℕ) (frame : List ℕ) where
   }
 
   -- the state when the events below i have had their part of the tick
-  abbrev pub tickedBelow : ℕ → State
-  tickedBelow i = forBelow i (turn (timeRuns cfg (s .board)) (ticks cfg ms frame)) s
+  module _ (present : ℕ) where
+    abbrev pub tickedBelow : ℕ → State
+    tickedBelow i = forBelow i (turn (tickMoves cfg present (s .board)) (ticks cfg ms frame)) s
 
-  pub turn-ready : MayTick cfg s ms frame → (i : ℕ) → i < events cfg → {t : State} → t ≡ tickedBelow i → Ready cfg t i
-  turn-ready m i h p =
-      ready-at-turn (timeRuns cfg (s .board)) (ticks cfg ms frame) cfg s
-      (ticks-keep cfg (config-tells cfg (m .configured)) ms frame (m .frame-fits) s) (m .configured) (m .formed) i h p
+    pub turn-ready : MayTick cfg s ms frame → (i : ℕ) → i < events cfg → {t : State} → t ≡ tickedBelow i
+        → Ready cfg t i
+    turn-ready m i h p =
+        ready-at-turn (tickMoves cfg present (s .board)) (ticks cfg ms frame) cfg s
+        (ticks-keep cfg (config-tells cfg (m .configured)) ms frame present (m .frame-fits) s) (m .configured)
+        (m .formed) i h p
 
 -- "only kind 2 with its cycle running", by the event's part
 module _ (cfg : Configuration) (board : Board) (e : ℕ) {part : Configuration} (p : part ≡ partOf cfg e) {kind : ℕ}

@@ -19,7 +19,7 @@ ghost use Rattle.manual.specs.State.{lent};
 ghost use Rattle.manual.specs.Answers.{alone, refused, firstThatApplies, numberOf, ofAnswer, ofReport, leaves};
 ghost use Rattle.manual.specs.OneEvent.{forThose};
 ghost use Rattle.manual.specs.Calls.{wrongFrame, cycleRuns, reportRules, reportDone};
-ghost use Rattle.manual.specs.Calls.{report, tickRules, timeRuns, ticks, tick};
+ghost use Rattle.manual.specs.Calls.{report, tickRules, timeRuns, tickMoves, ticks, tick};
 ghost use Rattle.config.specs.Rows.{RowWithin};
 ghost use Rattle.judgement.specs.Checks.{checkNumber};
 ghost use Rattle.one_event.specs.Ready.{flagged, Ready};
@@ -54,15 +54,23 @@ fn no_pre_result(cfg: &[i32], event: EventNumber, code: u32) -> bool
     (config::kind_of(cfg, event) == config::INTERNAL) & (debounce::FAILED < code)
 }
 
-// "report …, 6, 9, 5", of an event that has a row.
-fn row_tests(cfg: &[i32], board: Board, event: EventNumber, code: u32, frame: &[u8]) -> Check
+// "report …, 6, 9, 5", and 11 of document 02, "checked last", of an event that has a row.
+fn row_tests(
+    cfg: &[i32],
+    board: Board,
+    event: EventNumber,
+    code: u32,
+    frame: &[u8],
+    present: u32,
+) -> Check
     requires { ⌜ event .0 < mostEvents ⌝ }
     ensures { λ r. ⌜ checkNumber r
-        ≡ firstThatApplies (rowTests (now (cfg .entry)) board (event .0) code (now (frame .entry))) ⌝ }
+        ≡ firstThatApplies (rowTests (now (cfg .entry)) board (event .0) code (now (frame .entry)) present) ⌝ }
 {
     let pre_refused = no_pre_result(cfg, event, code);
     let frame_refused = wrong_frame(cfg, frame);
     let running = cycle_runs(cfg, board, event);
+    let enabled = conditions::enabled(cfg, event, present);
     if pre_refused {
         return Check::Stop(Refusal::NoPreResult);
     }
@@ -72,14 +80,24 @@ fn row_tests(cfg: &[i32], board: Board, event: EventNumber, code: u32, frame: &[
     if !running {
         return Check::Stop(Refusal::WrongCycleState);
     }
+    if !enabled {
+        return Check::Stop(Refusal::MissingCondition);
+    }
     Check::Go
 }
 
-// "report 4, 1, 6, 9, 5". An event past the last has no row, so 4 is judged before the row is read.
-fn report_tests(cfg: &[i32], board: Board, event: EventNumber, code: u32, frame: &[u8]) -> Check
+// "report 4, 1, 6, 9, 5", then 11. An event past the last has no row, so 4 is judged before the row is read.
+fn report_tests(
+    cfg: &[i32],
+    board: Board,
+    event: EventNumber,
+    code: u32,
+    frame: &[u8],
+    present: u32,
+) -> Check
     requires { ⌜ configOk (now cfg) ≡ true ⌝ }
     ensures { λ r. ⌜ checkNumber r
-        ≡ firstThatApplies (reportTests (now (cfg .entry)) board (event .0) code (now (frame .entry))) ⌝ }
+        ≡ firstThatApplies (reportTests (now (cfg .entry)) board (event .0) code (now (frame .entry)) present) ⌝ }
 {
     let event_refused = config::events(cfg) <= event.0;
     let code_refused = debounce::PRE_FAILED < code;
@@ -89,7 +107,7 @@ fn report_tests(cfg: &[i32], board: Board, event: EventNumber, code: u32, frame:
     if code_refused {
         return Check::Stop(Refusal::BadArgument);
     }
-    row_tests(cfg, board, event, code, frame)
+    row_tests(cfg, board, event, code, frame, present)
 }
 
 // "The first that applies, in the call's order, is given. Every call begins 2, 3."
@@ -102,14 +120,15 @@ fn judge_report(
     event: EventNumber,
     code: u32,
     frame: &[u8],
+    present: u32,
 ) -> Check
     ensures { λ r. ⌜ checkNumber r
         ≡ firstThatApplies
-        (reportRules (now (cfg .entry)) (event .0) code (now (frame .entry))
+        (reportRules (now (cfg .entry)) (event .0) code (now (frame .entry)) present
         (lent (now (records .entry)) (now (debounce .entry)) (now (memory .entry)) board)) ⌝ }
 {
     match judgement::begin(cfg, records, debounce, memory, board, true) {
-        Check::Go => report_tests(cfg, board, event, code, frame),
+        Check::Go => report_tests(cfg, board, event, code, frame, present),
         Check::Stop(r) => Check::Stop(r),
     }
 }
@@ -151,8 +170,9 @@ fn refuse_report(refusal: Refusal, board: Board) -> ReportReturned
     ReportReturned { answer, board }
 }
 
-// A test of the event has a result: code "0 passed, 1 failed, 2 pre-passed, 3 pre-failed". Memory is told of a fresh
-// failure, with the lent frame. Answers the verdict, or the first of 2, 3, 4, 1, 6, 9, 5 that applies.
+// A test of the event has a result: code "0 passed, 1 failed, 2 pre-passed, 3 pre-failed", made while the conditions of
+// the set are present. Memory is told of a fresh failure, with the lent frame. Answers the verdict, or the first of 2,
+// 3, 4, 1, 6, 9, 5, 11 that applies.
 pub fn report(
     cfg: &[i32],
     records: &mut [u8],
@@ -162,13 +182,24 @@ pub fn report(
     event: EventNumber,
     code: u32,
     frame: &[u8],
+    present: u32,
 ) -> ReportReturned
     ensures { λ r. ⌜ leaves (ofReport (r .answer)) [] alone
         (lent (now (records .exit)) (now (debounce .exit)) (now (memory .exit)) (r .board))
-        ≡ report (now (cfg .entry)) (event .0) code (now (frame .entry)) alone
+        ≡ report (now (cfg .entry)) (event .0) code (now (frame .entry)) present alone
         (lent (now (records .entry)) (now (debounce .entry)) (now (memory .entry)) board) ⌝ }
 {
-    match judge_report(cfg, records, debounce, memory, board, event, code, frame) {
+    match judge_report(
+        cfg,
+        records,
+        debounce,
+        memory,
+        board,
+        event,
+        code,
+        frame,
+        present,
+    ) {
         Check::Go => accept_report(cfg, records, debounce, memory, board, event, code, frame),
         Check::Stop(r) => refuse_report(r, board),
     }
@@ -224,6 +255,17 @@ fn time_runs(cfg: &[i32], board: Board, event: EventNumber) -> bool
     cycle_runs(part, board, EventNumber(0))
 }
 
+// "A tick doesn't move such an event's D.": one whose needed conditions are not all present.
+fn tick_moves(cfg: &[i32], board: Board, event: EventNumber, present: u32) -> bool
+    requires { ⌜ RowWithin (now cfg) (event .0) ⌝ }
+    ensures { λ r. ⌜ r ≡ tickMoves (now (cfg .entry)) present board (event .0) ⌝ }
+{
+    if !time_runs(cfg, board, event) {
+        return false;
+    }
+    conditions::enabled(cfg, event, present)
+}
+
 // The event's part of a tick: which cycles run is read off the board at the tick's start. Takes the overflow flag so
 // far, and gives it back.
 fn tick_event(
@@ -236,17 +278,18 @@ fn tick_event(
     event: EventNumber,
     ms: u32,
     frame: &[u8],
+    present: u32,
 ) -> bool
     requires { ⌜ (Ready (now cfg) (lent (now records) (now debounce) (now memory) (flagged board overflow))
         (event .0)) ×
         ((length (now frame) ≡ frameBytes (now cfg)) × (ms ≤ 60000)) ⌝ }
     ensures { λ r. ⌜ lent (now (records .exit)) (now (debounce .exit)) (now (memory .exit)) (flagged board r)
-        ≡ cond (timeRuns (now (cfg .entry)) board (event .0))
+        ≡ cond (tickMoves (now (cfg .entry)) present board (event .0))
         (ticks (now (cfg .entry)) ms (now (frame .entry)) (event .0)
         (lent (now (records .entry)) (now (debounce .entry)) (now (memory .entry)) (flagged board overflow)))
         (lent (now (records .entry)) (now (debounce .entry)) (now (memory .entry)) (flagged board overflow)) ⌝ }
 {
-    if !time_runs(cfg, board, event) {
+    if !tick_moves(cfg, board, event, present) {
         return overflow;
     }
     let part = one_event::ticks(
@@ -272,10 +315,11 @@ fn tick_events(
     board: Board,
     ms: u32,
     frame: &[u8],
+    present: u32,
 ) -> Board
     requires { ⌜ MayTick (now cfg) (lent (now records) (now debounce) (now memory) board) ms (now frame) ⌝ }
     ensures { λ r. ⌜ lent (now (records .exit)) (now (debounce .exit)) (now (memory .exit)) r
-        ≡ forThose (now (cfg .entry)) (timeRuns (now (cfg .entry)) board)
+        ≡ forThose (now (cfg .entry)) (tickMoves (now (cfg .entry)) present board)
         (ticks (now (cfg .entry)) ms (now (frame .entry)))
         (lent (now (records .entry)) (now (debounce .entry)) (now (memory .entry)) board) ⌝ }
 {
@@ -293,6 +337,7 @@ fn tick_events(
             EventNumber(event),
             ms,
             frame,
+            present,
         );
     }
     Board { running, overflow }
@@ -308,8 +353,9 @@ fn refuse_tick(refusal: Refusal, board: Board) -> Returned
     Returned { answer, board }
 }
 
-// "Tick of d ms (0 to 60,000)": time passes for the events of kind 2 whose cycle runs. "Every event so qualified takes
-// the lent frame." Answers done, or the first of 2, 3, 1, 9 that applies.
+// "Tick of d ms (0 to 60,000)": time passes for the events of kind 2 whose cycle runs and whose needed conditions are
+// all in the set of those that are present. "Every event so qualified takes the lent frame." Answers done, or the first
+// of 2, 3, 1, 9 that applies.
 pub fn tick(
     cfg: &[i32],
     records: &mut [u8],
@@ -318,15 +364,16 @@ pub fn tick(
     board: Board,
     ms: u32,
     frame: &[u8],
+    present: u32,
 ) -> Returned
     ensures { λ r. ⌜ leaves (ofAnswer (r .answer)) [] alone
         (lent (now (records .exit)) (now (debounce .exit)) (now (memory .exit)) (r .board))
-        ≡ tick (now (cfg .entry)) ms (now (frame .entry)) alone
+        ≡ tick (now (cfg .entry)) ms (now (frame .entry)) present alone
         (lent (now (records .entry)) (now (debounce .entry)) (now (memory .entry)) board) ⌝ }
 {
     match judge_tick(cfg, records, debounce, memory, board, ms, frame) {
         Check::Go => {
-            let after = tick_events(cfg, records, debounce, memory, board, ms, frame);
+            let after = tick_events(cfg, records, debounce, memory, board, ms, frame, present);
             Returned {
                 answer: Answer::Done,
                 board: after,

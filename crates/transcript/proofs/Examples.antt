@@ -8,7 +8,7 @@ use Rattle.manual.specs.Words.{those, joinBelow}
 use Rattle.manual.specs.State.{storedAt}
 use Rattle.transcript.specs.declared.Word.{Word}
 use Rattle.transcript.specs.declared.Word.the-variants.{Number, Unreadable, End}
-use Rattle.transcript.specs.Text.{words, isSeparator, run, oneToNineDigits, worth}
+use Rattle.transcript.specs.Text.{words, isSeparator, run, oneToTenDigits, isMagnitude, worth}
 use Rattle.transcript.specs.Text.{withSign, isNumber, valueOf, readWord, nextRead}
 use Rattle.transcript.specs.Line.{decimal, spaced, statusBytes, line}
 
@@ -28,24 +28,25 @@ three-words = refl
 pub text-read :
     map (λ at. nextRead at text) (0 ∷ 2 ∷ 3 ∷ 7 ∷ 10 ∷ 99 ∷ [])
     ≡ number (pos 12) false 3 ∷ number (pos 2) false 3 ∷ number (negsuc 6) true 7 ∷ Unreadable ∷ End ∷ End ∷ []
-unfolding words those isSeparator run oneToNineDigits worth withSign isNumber valueOf readWord nextRead
+unfolding words those isSeparator run oneToTenDigits isMagnitude worth withSign isNumber valueOf readWord nextRead
 text-read = refl
 
--- "-0", "000000001", "0000000001", "-999999999", "-", "12x", "+1", "--1"
+-- "-0", "0000000001", "00000000001", "-2147483647", "2147483648", "-", "12x", "+1", "--1"
 pub words-read :
     map (λ word. readWord word 9)
     ((0x2D ∷ 0x30 ∷ [])
-    ∷ (0x30 ∷ 0x30 ∷ 0x30 ∷ 0x30 ∷ 0x30 ∷ 0x30 ∷ 0x30 ∷ 0x30 ∷ 0x31 ∷ [])
     ∷ (0x30 ∷ 0x30 ∷ 0x30 ∷ 0x30 ∷ 0x30 ∷ 0x30 ∷ 0x30 ∷ 0x30 ∷ 0x30 ∷ 0x31 ∷ [])
-    ∷ (0x2D ∷ 0x39 ∷ 0x39 ∷ 0x39 ∷ 0x39 ∷ 0x39 ∷ 0x39 ∷ 0x39 ∷ 0x39 ∷ 0x39 ∷ [])
+    ∷ (0x30 ∷ 0x30 ∷ 0x30 ∷ 0x30 ∷ 0x30 ∷ 0x30 ∷ 0x30 ∷ 0x30 ∷ 0x30 ∷ 0x30 ∷ 0x31 ∷ [])
+    ∷ (0x2D ∷ 0x32 ∷ 0x31 ∷ 0x34 ∷ 0x37 ∷ 0x34 ∷ 0x38 ∷ 0x33 ∷ 0x36 ∷ 0x34 ∷ 0x37 ∷ [])
+    ∷ (0x32 ∷ 0x31 ∷ 0x34 ∷ 0x37 ∷ 0x34 ∷ 0x38 ∷ 0x33 ∷ 0x36 ∷ 0x34 ∷ 0x38 ∷ [])
     ∷ (0x2D ∷ [])
     ∷ (0x31 ∷ 0x32 ∷ 0x78 ∷ [])
     ∷ (0x2B ∷ 0x31 ∷ [])
     ∷ (0x2D ∷ 0x2D ∷ 0x31 ∷ [])
     ∷ [])
-    ≡ number (pos 0) true 9 ∷ number (pos 1) false 9 ∷ Unreadable ∷ number (negsuc 999_999_998) true 9 ∷ Unreadable
-    ∷ Unreadable ∷ Unreadable ∷ Unreadable ∷ []
-unfolding oneToNineDigits worth withSign isNumber valueOf readWord
+    ≡ number (pos 0) true 9 ∷ number (pos 1) false 9 ∷ Unreadable ∷ number (negsuc 2_147_483_646) true 9 ∷ Unreadable
+    ∷ Unreadable ∷ Unreadable ∷ Unreadable ∷ Unreadable ∷ []
+unfolding oneToTenDigits isMagnitude worth withSign isNumber valueOf readWord
 words-read = refl
 
 -- "5 80", the refused configuration's "2", and a line of two events: "0 47 255"

@@ -6,7 +6,7 @@ use Prim.Native.Nat.{ℕ, zero, suc, _+_, _-_, _*_, _^_, _≤_, _<_}
 use native.Mathlib.Nat.{add-zero, add-suc, suc-add, pow-suc, pow-le-pow-right, lt-of-lt-of-le}
 use native.Mathlib.Numerals.{add-one}
 use native.Mathlib.Omega.{arith}
-use borrow.Author.Tests.{leb-true, le-leb}
+use borrow.Author.Tests.{leb-true, le-leb, lt-leb}
 use lib.Dec.{leb}
 use mir.Val.{boolByte}
 use lib.IntN.{ℤ}
@@ -17,7 +17,8 @@ use Rattle.history.specs.Words.{same, allOf, since, joined, cutAt}
 use Rattle.history.proofs.WordsLaws.{and-left, and-right, cutAt-newest}
 use Rattle.manual.specs.Words.{those}
 use Rattle.manual.proofs.WordsLaws.{by}
-use Rattle.transcript.specs.Text.{isSeparator, run, notEmpty, words, isDigit, oneToNineDigits, worth}
+use Rattle.transcript.specs.Text.{isSeparator, run, notEmpty, words, isDigit, oneToTenDigits, worth}
+use Rattle.transcript.specs.Text.{largest, isMagnitude}
 use Rattle.transcript.specs.Text.{hasMinus, withSign, isNumber, valueOf, readWord, nextRead}
 use Rattle.transcript.specs.declared.Word.the-variants.{Number, Unreadable, End}
 
@@ -174,15 +175,15 @@ digit-least b e = leb-true 0x30 b (and-left (leb 0x30 b) (leb b 0x39) e)
 pub digit-most : (b : ℕ) → isDigit b ≡ true → b ≤ 0x39
 digit-most b e = leb-true b 0x39 (and-right (leb 0x30 b) (leb b 0x39) e)
 
--- what "1 to 9 digits" tells
-module _ (digits : List ℕ) (t : oneToNineDigits digits ≡ true) where
-  pub digits-few : length digits ≤ 9
-  unfolding oneToNineDigits
-  digits-few = leb-true (length digits) 9 (and-right (leb 1 (length digits)) _ (and-left _ (allOf isDigit digits) t))
+-- what "up to 10 digits" tells
+module _ (digits : List ℕ) (t : oneToTenDigits digits ≡ true) where
+  pub digits-few : length digits ≤ 10
+  unfolding oneToTenDigits
+  digits-few = leb-true (length digits) 10 (and-right (leb 1 (length digits)) _ (and-left _ (allOf isDigit digits) t))
 
   pub digits-all : allOf isDigit digits ≡ true
-  unfolding oneToNineDigits
-  digits-all = and-right (leb 1 (length digits) && leb (length digits) 9) (allOf isDigit digits) t
+  unfolding oneToTenDigits
+  digits-all = and-right (leb 1 (length digits) && leb (length digits) 10) (allOf isDigit digits) t
 
 -- ---- worth
 
@@ -201,9 +202,9 @@ worth-below k n (b ∷ digits) h t =
     rw (add-suc, ← suc-add)
     (worth-below (suc k) (10 * n + (b - 0x30)) digits m (and-right (isDigit b) (allOf isDigit digits) t))
 
-pub worth-most : (digits : List ℕ) → oneToNineDigits digits ≡ true → worth 0 digits < 10 ^ 9
+pub worth-most : (digits : List ℕ) → oneToTenDigits digits ≡ true → worth 0 digits < 10 ^ 10
 worth-most digits t =
-    let few : 0 + length digits ≤ 9 = omega (arith, digits-few digits t) in
+    let few : 0 + length digits ≤ 10 = omega (arith, digits-few digits t) in
     lt-of-lt-of-le (worth-below 0 0 digits (omega arith) (digits-all digits t)) (pow-le-pow-right (omega arith) few)
 
 -- the loop that adds digit by digit, when the first i are worth n
@@ -211,7 +212,7 @@ pub record Added (digits : List ℕ) (i n : ℕ) : Type 0 where
   pub so-far : worth 0 digits ≡ worth n (drop i digits)
   pub left-over : allOf isDigit (drop i digits) ≡ true
 
-pub added-none : (digits : List ℕ) → oneToNineDigits digits ≡ true → Added digits 0 0
+pub added-none : (digits : List ℕ) → oneToTenDigits digits ≡ true → Added digits 0 0
 added-none digits t = record { so-far = refl; left-over = digits-all digits t }
 
 module _ (digits : List ℕ) (i n : ℕ) (s : Added digits i n) where
@@ -231,10 +232,25 @@ module _ (digits : List ℕ) (i n : ℕ) (s : Added digits i n) where
     added-more m e =
         record { so-far = rw e added-digit; left-over = sym (all-more isDigit digits i h added-here) ∙ s .left-over }
 
-    pub added-room : oneToNineDigits digits ≡ true → n < 100000000
+    pub added-room : oneToTenDigits digits ≡ true → n < 1000000000
     added-room t =
         omega
         (arith, worth-least (10 * n + (getD digits i 0 - 0x30)) (drop (i + 1) digits), added-digit, worth-most digits t)
+
+-- ---- isMagnitude
+
+module _ (digits : List ℕ) where
+  pub no-digits : oneToTenDigits digits ≡ false → isMagnitude digits ≡ false
+  unfolding isMagnitude
+  no-digits e = rw e
+
+  pub too-large : oneToTenDigits digits ≡ true → largest < worth 0 digits → isMagnitude digits ≡ false
+  unfolding isMagnitude
+  too-large e h = rw (e, lt-leb (worth 0 digits) largest h)
+
+  pub large-enough : oneToTenDigits digits ≡ true → worth 0 digits ≤ largest → isMagnitude digits ≡ true
+  unfolding isMagnitude
+  large-enough e h = rw (e, le-leb (worth 0 digits) largest h)
 
 -- ---- withSign
 
@@ -260,9 +276,9 @@ module _ (word : List ℕ) where
   abbrev digitsIn : List ℕ
   digitsIn = take (length word - boolByte (hasMinus word)) (drop (boolByte (hasMinus word)) word)
 
-  pub number-is : oneToNineDigits digitsIn ≡ isNumber word
+  pub number-is : isMagnitude digitsIn ≡ isNumber word
   unfolding isNumber
-  number-is = ap oneToNineDigits (digits-part (hasMinus word) word)
+  number-is = ap isMagnitude (digits-part (hasMinus word) word)
 
   pub value-is : withSign (hasMinus word) (worth 0 digitsIn) ≡ valueOf word
   unfolding valueOf

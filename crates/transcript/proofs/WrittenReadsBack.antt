@@ -10,14 +10,14 @@ use Rattle.history.specs.Words.{holds}
 use Rattle.history.proofs.WordsLaws.{part}
 use Rattle.manual.specs.Words.{allBelow, eqZ}
 use Rattle.manual.proofs.WordsLaws.{all-below-at, eqZ-true}
-use Rattle.transcript.specs.Text.{oneToNineDigits, worth, hasMinus, withSign, isNumber, valueOf}
+use Rattle.transcript.specs.Text.{oneToTenDigits, isMagnitude, worth, hasMinus, withSign, isNumber, valueOf}
 use Rattle.transcript.specs.Line.{decimal}
 
 abbrev clauses : ℕ → List Bool
 clauses n = isNumber (decimal n) ∷ not (hasMinus (decimal n)) ∷ eqZ (valueOf (decimal n)) (pos n) ∷ []
 
 all-hold : allBelow 1000 (λ n. holds (clauses n)) ≡ true
-unfolding holds allBelow decimal oneToNineDigits worth withSign isNumber valueOf
+unfolding holds allBelow decimal oneToTenDigits isMagnitude worth withSign isNumber valueOf
 all-hold = refl
 
 module _ (n : ℕ) (h : n < 1000) where

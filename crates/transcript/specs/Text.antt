@@ -1,5 +1,5 @@
 -- Document 01, "Replay program", its input: "decimal numbers (optional minus, 1 to 9 digits) between spaces or
--- newlines". Assumes nothing.
+-- newlines"; document 02, W5: it "reads numbers up to 2,147,483,647, so up to 10 digits". Assumes nothing.
 use mathlib.Core.Bool.{Bool, true, _&&_, _||_, cond}
 use mathlib.Core.List.{List, [], _∷_}
 use Prim.Native.Nat.{ℕ, zero, suc, _+_, _-_, _*_}
@@ -37,17 +37,24 @@ words text = those notEmpty (cutAt isSeparator text)
 
 -- ---- numbers
 
--- "1 to 9 digits": zeros in front count
+-- "1 to 9 digits", with W5 "up to 10": zeros in front count
 abbrev pub isDigit : ℕ → Bool
 isDigit b = leb 0x30 b && leb b 0x39
 
-unfoldable pub oneToNineDigits : List ℕ → Bool
-oneToNineDigits digits = leb 1 (length digits) && leb (length digits) 9 && allOf isDigit digits
+unfoldable pub oneToTenDigits : List ℕ → Bool
+oneToTenDigits digits = leb 1 (length digits) && leb (length digits) 10 && allOf isDigit digits
 
 -- "decimal": what digits are worth that follow others worth n
 unfoldable pub worth : ℕ → List ℕ → ℕ
 worth n [] = n
 worth n (b ∷ digits) = worth (10 * n + (b - 0x30)) digits
+
+-- "numbers up to 2,147,483,647, so up to 10 digits"
+abbrev pub largest : ℕ
+largest = 2147483647
+
+unfoldable pub isMagnitude : List ℕ → Bool
+isMagnitude digits = oneToTenDigits digits && leb (worth 0 digits) largest
 
 -- "optional minus"
 abbrev pub minusSign : ℕ
@@ -62,9 +69,9 @@ digitsOf word = cond (hasMinus word) (drop 1 word) word
 unfoldable pub withSign : Bool → ℕ → ℤ
 withSign minus n = cond minus (negℤ (pos n)) (pos n)
 
--- "decimal numbers (optional minus, 1 to 9 digits)": which words are numbers, and their values
+-- "decimal numbers (optional minus, …)": which words are numbers, and their values
 unfoldable pub isNumber : List ℕ → Bool
-isNumber word = oneToNineDigits (digitsOf word)
+isNumber word = isMagnitude (digitsOf word)
 
 unfoldable pub valueOf : List ℕ → ℤ
 valueOf word = withSign (hasMinus word) (worth 0 (digitsOf word))

@@ -6,8 +6,8 @@ ghost use Prim.Native.Nat.{_+_, _-_, _*_, _≤_, _<_};
 ghost use lib.ListN.{length, drop};
 ghost use Rattle.history.specs.Words.{allOf};
 ghost use Rattle.writing.specs.Writing.{written, append, filled};
-ghost use Rattle.transcript.specs.Text.{isSeparator, run, isDigit, oneToNineDigits};
-ghost use Rattle.transcript.specs.Text.{worth, withSign, readWord, nextRead};
+ghost use Rattle.transcript.specs.Text.{isSeparator, run, isDigit, oneToTenDigits};
+ghost use Rattle.transcript.specs.Text.{worth, largest, withSign, readWord, nextRead};
 ghost use Rattle.transcript.specs.Line.{decimal, spaced, statusBytes, line, Room};
 
 // A place in the input.
@@ -69,24 +69,24 @@ fn all_digits(word: &[u8]) -> bool
     true
 }
 
-// "1 to 9 digits"
-fn one_to_nine_digits(word: &[u8]) -> bool
-    ensures { λ r. ⌜ r ≡ oneToNineDigits (now (word .entry)) ⌝ }
+// "1 to 9 digits", with document 02's W5 "up to 10"
+fn one_to_ten_digits(word: &[u8]) -> bool
+    ensures { λ r. ⌜ r ≡ oneToTenDigits (now (word .entry)) ⌝ }
 {
-    (1 <= word.len()) & (word.len() <= 9) & all_digits(word)
+    (1 <= word.len()) & (word.len() <= 10) & all_digits(word)
 }
 
 // What digits worth n are worth with one digit more.
-fn with_digit(n: u32, digit: u8) -> u32
-    requires { ⌜ (n < 100000000) × (0x30 ≤ digit) × (digit ≤ 0x39) ⌝ }
+fn with_digit(n: u64, digit: u8) -> u64
+    requires { ⌜ (n < 1000000000) × (0x30 ≤ digit) × (digit ≤ 0x39) ⌝ }
     ensures { λ r. ⌜ r ≡ 10 * n + (digit - 0x30) ⌝ }
 {
-    10 * n + (digit - b'0') as u32
+    10 * n + (digit - b'0') as u64
 }
 
 // "decimal"
-fn value_of(digits: &[u8]) -> u32
-    requires { ⌜ oneToNineDigits (now digits) ≡ true ⌝ }
+fn value_of(digits: &[u8]) -> u64
+    requires { ⌜ oneToTenDigits (now digits) ≡ true ⌝ }
     ensures { λ r. ⌜ r ≡ worth 0 (now (digits .entry)) ⌝ }
 {
     let mut n = 0;
@@ -98,9 +98,12 @@ fn value_of(digits: &[u8]) -> u32
     n
 }
 
+// "numbers up to 2,147,483,647"
+const LARGEST: u64 = 2_147_483_647;
+
 // "optional minus"
-fn with_sign(minus: bool, n: u32) -> i32
-    requires { ⌜ n < 1000000000 ⌝ }
+fn with_sign(minus: bool, n: u64) -> i32
+    requires { ⌜ n ≤ largest ⌝ }
     ensures { λ r. ⌜ r ≡ withSign minus n ⌝ }
 {
     let value = n as i32;
@@ -115,11 +118,15 @@ fn read_word(word: &[u8], end: usize) -> Word
     let minus = word[0] == b'-';
     let first = minus as usize;
     let digits = &word[first..];
-    if !one_to_nine_digits(digits) {
+    if !one_to_ten_digits(digits) {
+        return Word::Unreadable;
+    }
+    let magnitude = value_of(digits);
+    if LARGEST < magnitude {
         return Word::Unreadable;
     }
     Word::Number(Read {
-        value: with_sign(minus, value_of(digits)),
+        value: with_sign(minus, magnitude),
         minus,
         next: Cursor { at: end },
     })

@@ -4,7 +4,7 @@
 use crate::call::{Call, Outcome};
 use crate::compare::as_bytes;
 use crate::door::{Answer, Asked, Lengths, Program, Way};
-use crate::reference::{Board, Configuration, State, DONE, FAILED};
+use crate::reference::{Board, Configuration, State, ALL_PRESENT, DONE, FAILED};
 use std::hint::black_box;
 use std::io::{self, BufReader, Write};
 use std::process::{Child, Command, Stdio};
@@ -45,7 +45,7 @@ pub fn run(program: &Program) {
         let frame = vec![0x5A; FRAME];
         let cases = [
             ("report", &running, report(frame.clone())),
-            ("tick", &running, Call::Tick { ms: 10, frame }),
+            ("tick", &running, tick(frame)),
             ("stop", &running, Call::Stop { cycle: 0 }),
             ("19 02", &running, request(room.len())),
             ("save", &stopped, Call::Save { room: room.len() }),
@@ -79,6 +79,15 @@ fn report(frame: Vec<u8>) -> Call {
         event: 0,
         code: FAILED,
         frame,
+        present: ALL_PRESENT,
+    }
+}
+
+fn tick(frame: Vec<u8>) -> Call {
+    Call::Tick {
+        ms: 10,
+        frame,
+        present: ALL_PRESENT,
     }
 }
 
@@ -87,7 +96,7 @@ fn request(room: usize) -> Call {
     Call::Request { request, room }
 }
 
-/// Kinds in turn, all events in cycle 0.
+/// Kinds in turn, all events in cycle 0; each needs condition 0.
 fn configuration(events: usize) -> Vec<i32> {
     let mut numbers = vec![events as i32, PLACES as i32, FRAME as i32];
     for event in 0..events as i32 {
@@ -98,7 +107,7 @@ fn configuration(events: usize) -> Vec<i32> {
             1 => [2, -500, 500, 0, 0, 0],
             _ => [0, 0, 0, 0, 0, 0],
         });
-        numbers.extend([2, 3, 4, 1]);
+        numbers.extend([2, 3, 4, 1, 1]);
     }
     numbers
 }

@@ -10,10 +10,12 @@ pub enum Call {
         event: usize,
         code: u32,
         frame: Vec<u8>,
+        present: u32,
     },
     Tick {
         ms: u32,
         frame: Vec<u8>,
+        present: u32,
     },
     Start {
         cycle: u32,
@@ -53,6 +55,10 @@ pub enum Call {
     ListGrey {
         numbers: usize,
     },
+    ReadMissing {
+        event: usize,
+        present: u32,
+    },
 }
 
 /// What a call answers beside its number and the board.
@@ -65,6 +71,10 @@ pub enum Values {
     Counter(i64),
     /// 0 grey, 1 red, 2 live.
     Paint(u8),
+    Missing {
+        count: usize,
+        lowest: usize,
+    },
     Frame {
         start: usize,
         length: usize,
@@ -78,10 +88,10 @@ pub struct Outcome {
     pub values: Values,
 }
 
-/// The fifteen calls, and the numbers each can answer with.
-pub const ANSWERS: [(&str, &[u8]); 15] = [
+/// The sixteen calls, and the numbers each can answer with.
+pub const ANSWERS: [(&str, &[u8]); 16] = [
     ("fresh", &[0, 2, 3]),
-    ("report", &[0, 2, 3, 4, 1, 6, 9, 5]),
+    ("report", &[0, 2, 3, 4, 1, 6, 9, 5, 11]),
     ("tick", &[0, 2, 3, 1, 9]),
     ("start", &[0, 2, 3, 4, 5]),
     ("stop", &[0, 2, 3, 4, 5]),
@@ -95,6 +105,7 @@ pub const ANSWERS: [(&str, &[u8]); 15] = [
     ("read table", &[0, 2, 3]),
     ("read paint", &[0, 2, 3, 4]),
     ("list grey", &[0, 2, 3, 7]),
+    ("read missing", &[0, 2, 3, 4]),
 ];
 
 impl Call {
@@ -116,6 +127,7 @@ impl Call {
             Call::ReadTable => 12,
             Call::ReadPaint { .. } => 13,
             Call::ListGrey { .. } => 14,
+            Call::ReadMissing { .. } => 15,
         }
     }
 
@@ -146,11 +158,22 @@ impl Call {
             Call::ReadStatus { event }
             | Call::ReadFrame { event }
             | Call::ReadCounter { event }
-            | Call::ReadPaint { event } => (*event, 0),
+            | Call::ReadPaint { event }
+            | Call::ReadMissing { event, .. } => (*event, 0),
             Call::Tick { ms, .. } => (*ms as usize, 0),
             Call::Start { cycle } | Call::Stop { cycle } => (*cycle as usize, 0),
             Call::Clear { code } => (*code as usize, 0),
             _ => (0, 0),
+        }
+    }
+
+    /// The set of conditions that are present; none for a call that takes none.
+    pub fn present(&self) -> u32 {
+        match self {
+            Call::Report { present, .. }
+            | Call::Tick { present, .. }
+            | Call::ReadMissing { present, .. } => *present,
+            _ => 0,
         }
     }
 
@@ -164,6 +187,7 @@ impl Call {
                 | Call::ReadTable
                 | Call::ReadPaint { .. }
                 | Call::ListGrey { .. }
+                | Call::ReadMissing { .. }
                 | Call::Save { .. }
         )
     }
@@ -171,10 +195,14 @@ impl Call {
     pub fn by_reference(&self, config: &[i32], state: &mut State, room: &mut [u8]) -> Outcome {
         match self {
             Call::Fresh => nothing(reference::fresh(config, state)),
-            Call::Report { event, code, frame } => {
-                verdict(reference::report(config, state, *event, *code, frame))
+            Call::Report { event, code, .. } => {
+                let (frame, present) = (self.input(), self.present());
+                let answered = reference::report(config, state, *event, *code, frame, present);
+                verdict(answered)
             }
-            Call::Tick { ms, frame } => nothing(reference::tick(config, state, *ms, frame)),
+            Call::Tick { ms, frame, present } => {
+                nothing(reference::tick(config, state, *ms, frame, *present))
+            }
             Call::Start { cycle } => nothing(reference::start(config, state, *cycle)),
             Call::Stop { cycle } => nothing(reference::stop(config, state, *cycle)),
             Call::Clear { code } => nothing(reference::clear(config, state, *code)),
@@ -191,6 +219,9 @@ impl Call {
             Call::ListGrey { .. } => list(room, |list| {
                 length(reference::list_grey(config, state, list))
             }),
+            Call::ReadMissing { event, present } => {
+                missing(reference::read_missing(config, state, *event, *present))
+            }
         }
     }
 }
@@ -266,6 +297,18 @@ pub fn put_numbers(room: &mut [u8], numbers: &[u16]) {
     }
 }
 
+/// "a refusal (4 for an unknown event) answers 0 and 0"
+fn missing(answered: Result<(usize, usize), u8>) -> Outcome {
+    let none = Values::Missing {
+        count: 0,
+        lowest: 0,
+    };
+    outcome(answered, none, |(count, lowest)| Values::Missing {
+        count,
+        lowest,
+    })
+}
+
 fn frame(answered: Result<(usize, usize), u8>) -> Outcome {
     let empty = Values::Frame {
         start: 0,
@@ -286,16 +329,19 @@ impl fmt::Display for Call {
         let name = ANSWERS[self.index()].0;
         match self {
             Call::Fresh | Call::ReadTable => write!(f, "{name}"),
-            Call::Report { event, code, frame } => {
+            Call::Report {
+                event, code, frame, ..
+            } => {
                 write!(f, "{name} event {event} code {code} frame {}", hex(frame))
             }
-            Call::Tick { ms, frame } => write!(f, "{name} {ms} ms frame {}", hex(frame)),
+            Call::Tick { ms, frame, .. } => write!(f, "{name} {ms} ms frame {}", hex(frame)),
             Call::Start { cycle } | Call::Stop { cycle } => write!(f, "{name} cycle {cycle}"),
             Call::Clear { code } => write!(f, "{name} code {code}"),
             Call::ReadStatus { event }
             | Call::ReadFrame { event }
             | Call::ReadCounter { event }
-            | Call::ReadPaint { event } => {
+            | Call::ReadPaint { event }
+            | Call::ReadMissing { event, .. } => {
                 write!(f, "{name} event {event}")
             }
             Call::ListGrey { numbers } => write!(f, "{name} of {numbers} numbers"),
@@ -304,6 +350,12 @@ impl fmt::Display for Call {
             Call::Request { request, room } => {
                 write!(f, "{name} {} room {room}", hex(request))
             }
+        }?;
+        match self {
+            Call::Report { present, .. }
+            | Call::Tick { present, .. }
+            | Call::ReadMissing { present, .. } => write!(f, " conditions {present:#x}"),
+            _ => Ok(()),
         }
     }
 }
@@ -317,6 +369,7 @@ impl fmt::Display for Outcome {
             Values::Status(status) => write!(f, " status {status:02X}h"),
             Values::Counter(counter) => write!(f, " counter {counter}"),
             Values::Paint(paint) => write!(f, " paint {paint}"),
+            Values::Missing { count, lowest } => write!(f, " {count} missing, lowest {lowest}"),
             Values::Frame { start, length } => write!(f, " frame at {start}, {length} long"),
             Values::Length(length) => write!(f, " length {length}"),
         }

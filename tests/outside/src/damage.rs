@@ -6,7 +6,7 @@ use crate::reference::{Configuration, State, ROW};
 /// Numbers of the configuration in front of its rows.
 const FRONT: usize = 3;
 
-/// The bounds of the three numbers in front, and of a row's thirteen.
+/// The bounds of the three numbers in front, and of a row's fourteen.
 const FRONT_BOUNDS: [(i32, i32); FRONT] = [(1, 512), (1, 64), (0, 32)];
 const ROW_BOUNDS: [(i32, i32); ROW] = [
     (1, 16_777_214),
@@ -22,6 +22,7 @@ const ROW_BOUNDS: [(i32, i32); ROW] = [
     (1, 255),
     (1, 255),
     (0, 1),
+    (0, i32::MAX),
 ];
 
 /// A configuration that mostly breaks its table, from one that keeps it.
@@ -30,7 +31,7 @@ pub fn configuration(random: &mut Random, right: &[i32]) -> Vec<i32> {
     let rows = (right.len() - FRONT) / ROW;
     match random.below(12) {
         0 => {
-            let length = random.pick(&[0, 1, 2, 3, 4, 15, 16, 17, 29, 200]);
+            let length = random.pick(&[0, 1, 2, 3, 4, 16, 17, 18, 31, 200]);
             return (0..length).map(|_| any_number(random)).collect();
         }
         1 => numbers[FRONT..].fill_with(|| any_number(random)),
@@ -39,7 +40,7 @@ pub fn configuration(random: &mut Random, right: &[i32]) -> Vec<i32> {
             numbers.truncate(right.len() - by.min(right.len()));
         }
         3 => {
-            let by = random.pick(&[1, 12, ROW, 2 * ROW]);
+            let by = random.pick(&[1, ROW - 1, ROW, 2 * ROW]);
             numbers.extend((0..by).map(|_| any_number(random)));
         }
         // A table that is filled in half.
@@ -53,9 +54,17 @@ pub fn configuration(random: &mut Random, right: &[i32]) -> Vec<i32> {
             }
         }
         6 => one_event(random, &mut numbers),
+        // Rows as document 01 alone has them.
+        7 => numbers = without_needed(right),
         _ => one_number(random, &mut numbers),
     }
     numbers
+}
+
+fn without_needed(right: &[i32]) -> Vec<i32> {
+    let (front, rows) = right.split_at(FRONT);
+    let rows = rows.chunks_exact(ROW).flat_map(|row| &row[..ROW - 1]);
+    front.iter().chain(rows).copied().collect()
 }
 
 /// One event more or less, with the length to match: past 512, down to none.
@@ -88,14 +97,14 @@ fn one_number(random: &mut Random, numbers: &mut [i32]) {
         low - 1,
         low,
         high,
-        high + 1,
+        high.wrapping_add(1),
         0,
         -1,
         1,
         was - 1,
-        was + 1,
-        was + 256,
-        was + 65_536,
+        was.wrapping_add(1),
+        was.wrapping_add(256),
+        was.wrapping_add(65_536),
         -was,
         i32::MIN,
         i32::MAX,

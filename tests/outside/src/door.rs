@@ -110,7 +110,8 @@ impl Asked<'_> {
             input.len(),
             self.room.len(),
         ];
-        for number in [self.turn, event as u64, u64::from(code)] {
+        let present = u64::from(self.call.present());
+        for number in [self.turn, event as u64, u64::from(code), present] {
             to.extend(number.to_le_bytes());
         }
         for length in lengths {
@@ -145,8 +146,9 @@ pub struct Answer {
     pub broken: u8,
     pub board: Board,
     pub turn: u64,
-    /// Of a frame; or a counter, as a signed number.
+    /// Of a frame; or a counter, as a signed number; or how many conditions are missing.
     pub start: usize,
+    /// Or the lowest missing condition.
     pub length: usize,
     pub nanoseconds: u64,
     pub config: Vec<i32>,

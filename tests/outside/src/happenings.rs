@@ -2,12 +2,13 @@
 //! event ever ages says nothing of ageing.
 
 use crate::call::Call;
+use crate::making::NO_CONDITION;
 use crate::reference::{
-    grey_events, Configuration, State, CONFIRMED, FAILED_THIS_CYCLE, NOT_COMPLETED_THIS_CYCLE,
-    PENDING, TEST_FAILED, WARNING,
+    grey_events, Configuration, State, CONFIRMED, FAILED_THIS_CYCLE, KIND_TIME,
+    NOT_COMPLETED_THIS_CYCLE, PENDING, TEST_FAILED, WARNING,
 };
 
-const NEEDED: [&str; 45] = [
+const NEEDED: [&str; 55] = [
     "an event confirms",
     "an event asks for the indicator",
     "an event fails by a tick",
@@ -53,6 +54,16 @@ const NEEDED: [&str; 45] = [
     "a table with bits in two cycles",
     "a restore with entries",
     "a restore with overflow",
+    "a report is refused for its conditions",
+    "a report is refused for its conditions, with bit 31 lent",
+    "a report counts with what it needs and no more",
+    "a tick leaves the D of an event that waits for its conditions",
+    "a tick leaves one D, and moves another",
+    "a D that waited goes on",
+    "a D waits with bit 31 lent",
+    "none of the needed conditions is missing",
+    "one of the needed conditions is missing",
+    "several of the needed conditions are missing",
 ];
 
 /// So many trouble codes are many: four halvings or more leave one of them.
@@ -60,12 +71,15 @@ const MANY: usize = 16;
 
 pub struct Happenings {
     counts: [u64; NEEDED.len()],
+    /// The D at which each event last waited in this story, 0 where it did not.
+    waited: Vec<i32>,
 }
 
 impl Default for Happenings {
     fn default() -> Self {
         Happenings {
             counts: [0; NEEDED.len()],
+            waited: Vec::new(),
         }
     }
 }
@@ -91,32 +105,48 @@ impl Happenings {
         after: &State,
     ) {
         match call {
-            Call::Report { event, .. } => {
+            Call::Fresh => self.waited = vec![0; config.events],
+            Call::Report { event, present, .. } => {
                 self.failures(before, after, false);
                 self.storing(config, *event, before, after);
+                let just = *present != 0 && *present == config.row(*event).needed as u32;
+                self.met("a report counts with what it needs and no more", just);
             }
-            Call::Tick { .. } => self.failures(before, after, true),
+            Call::Tick { ms, present, .. } => {
+                self.failures(before, after, true);
+                if *ms > 0 {
+                    self.waiting(config, *present, before, after);
+                }
+            }
             Call::Stop { .. } => self.stops(config, before, after),
             Call::Clear { code } => self.clears(config, *code, before, after),
             Call::Request { request, room: 3.. } => self.replies(request, room, before == after),
             Call::ReadPaint { event } => self.paints(config, *event, after),
-            Call::ListGrey { .. } => {
-                let grey = grey_events(config, after).len();
-                let some = 0 < grey && grey < config.events;
-                self.met("some events are listed as grey, and some are not", some);
-                self.met("no event is listed as grey", grey == 0);
-            }
-            Call::ReadTable => {
-                let cycles = room.chunks_exact(16);
-                let counted = cycles.filter(|counts| counts.iter().any(|byte| *byte != 0));
-                self.met("a table with bits in two cycles", counted.count() > 1);
-            }
+            Call::ReadMissing { event, present } => self.missed(config, *event, *present),
+            Call::ListGrey { .. } => self.lists(config, after),
+            Call::ReadTable => self.tables(room),
             Call::Restore { .. } => {
                 self.met("a restore with entries", after.memory[0] > 0);
                 self.met("a restore with overflow", after.board.overflow);
             }
             _ => {}
         }
+        if !matches!(call, Call::Tick { .. }) {
+            self.forget(before, after);
+        }
+    }
+
+    fn lists(&mut self, config: &Configuration, state: &State) {
+        let grey = grey_events(config, state).len();
+        let some = 0 < grey && grey < config.events;
+        self.met("some events are listed as grey, and some are not", some);
+        self.met("no event is listed as grey", grey == 0);
+    }
+
+    fn tables(&mut self, room: &[u8]) {
+        let cycles = room.chunks_exact(16);
+        let counted = cycles.filter(|counts| counts.iter().any(|byte| *byte != 0));
+        self.met("a table with bits in two cycles", counted.count() > 1);
     }
 
     fn clears(&mut self, config: &Configuration, code: u32, before: &State, after: &State) {
@@ -139,6 +169,63 @@ impl Happenings {
         self.met("a code below the first of many is unknown", below);
         self.met("a code between two of many is unknown", between);
         self.met("a code above the last of many is unknown", above);
+    }
+
+    /// Looks at a report that was refused for its conditions.
+    pub fn switched(&mut self, present: u32) {
+        let top = present & NO_CONDITION != 0;
+        self.met("a report is refused for its conditions", true);
+        self.met(
+            "a report is refused for its conditions, with bit 31 lent",
+            top,
+        );
+    }
+
+    /// What a tick of more than 0 ms did to the events whose D was under way.
+    fn waiting(&mut self, config: &Configuration, present: u32, before: &State, after: &State) {
+        let (mut left, mut moved) = (false, false);
+        for (event, row) in config.rows().enumerate() {
+            let (was, is) = (before.debounce[event], after.debounce[event]);
+            let under_way = row.bottom() < was && was < row.top() && was != 0;
+            if row.kind != KIND_TIME || !under_way {
+                continue;
+            }
+            let waits = !row.enabled(present) && is == was;
+            let went_on = is != was && self.waited[event] == was;
+            left |= waits;
+            moved |= is != was;
+            self.waited[event] = if waits { was } else { 0 };
+            self.met("a D that waited goes on", went_on);
+        }
+        self.met(
+            "a tick leaves the D of an event that waits for its conditions",
+            left,
+        );
+        self.met("a tick leaves one D, and moves another", left && moved);
+        let top = present & NO_CONDITION != 0;
+        self.met("a D waits with bit 31 lent", left && top);
+    }
+
+    /// A D that another call changed does not wait any more.
+    fn forget(&mut self, before: &State, after: &State) {
+        let numbers = before.debounce.iter().zip(&after.debounce);
+        for (waited, (was, is)) in self.waited.iter_mut().zip(numbers) {
+            if was != is {
+                *waited = 0;
+            }
+        }
+    }
+
+    fn missed(&mut self, config: &Configuration, event: usize, present: u32) {
+        let needed = config.row(event).needed as u32;
+        let missing = (needed & !present).count_ones();
+        let some = needed != 0;
+        self.met(
+            "none of the needed conditions is missing",
+            some && missing == 0,
+        );
+        self.met("one of the needed conditions is missing", missing == 1);
+        self.met("several of the needed conditions are missing", missing > 1);
     }
 
     fn paints(&mut self, config: &Configuration, event: usize, state: &State) {

@@ -13,12 +13,13 @@ const CAN_STRUCTS: &str = include_str!("../../../crates/can_panel/src/lib.rt");
 const MANUAL: &str = include_str!("../../../crates/manual/src/lib.rt");
 
 /// The header's structs under the crate's names.
-const STRUCTS: [(&str, &str); 17] = [
+const STRUCTS: [(&str, &str); 18] = [
     ("PanelBoard", "grelpicado_board"),
     ("PanelAnswer", "grelpicado_answer"),
     ("PanelReport", "grelpicado_report_answer"),
     ("PanelStatus", "grelpicado_status_answer"),
     ("PanelCounter", "grelpicado_counter_answer"),
+    ("PanelMissing", "grelpicado_missing_answer"),
     ("PanelTable", "grelpicado_table_answer"),
     ("PanelPaint", "grelpicado_paint_answer"),
     ("PanelFrame", "grelpicado_frame_answer"),
@@ -33,7 +34,7 @@ const STRUCTS: [(&str, &str); 17] = [
     ("PanelTaken", "grelpicado_can_take_answer"),
 ];
 
-/// The thirteen columns of document 01, in its order.
+/// The thirteen columns of document 01, in its order, and the fourteenth of document 02.
 const COLUMNS: [&str; r::ROW] = [
     "trouble_code",
     "priority",
@@ -48,6 +49,7 @@ const COLUMNS: [&str; r::ROW] = [
     "heal",
     "age",
     "indicator",
+    "needed",
 ];
 
 pub fn run(program: &Program, can: &Program) -> Tally {
@@ -121,6 +123,7 @@ fn fields(name: &str) -> Vec<(String, String)> {
 fn size_of(kind: &str) -> (usize, usize) {
     match kind {
         "u8" | "i8" => (1, 1),
+        "u32" => (4, 4),
         "usize" => (8, 8),
         "[u8; manual::CYCLES]" => (cycles(), 1),
         "[u16; manual::CYCLES * manual::BITS]" => (2 * cycles() * bits(), 2),
@@ -168,6 +171,9 @@ fn numbers() -> Vec<String> {
     for (n, m, f) in [(1, 1, 0), (2, 1, 5), (7, 3, 5), (7, 3, 32), (512, 64, 32)] {
         lines.extend(sizes(n, m, f));
     }
+    for k in 0..r::CONDITIONS {
+        lines.push(format!("GRELPICADO_CONDITION({k}) {}", 1u32 << k));
+    }
     lines.push("GRELPICADO_LEND(5) 5".to_string());
     let of_seven = 3 + r::ROW * 7;
     lines.push(format!("GRELPICADO_LEND_CONFIG(7) {of_seven}"));
@@ -190,8 +196,8 @@ fn sizes(n: usize, m: usize, f: usize) -> [String; 7] {
     ]
 }
 
-const NAMED: [(&str, u32); 60] = [
-    ("HEADER_VERSION", 2002),
+const NAMED: [(&str, u32); 64] = [
+    ("HEADER_VERSION", 3000),
     ("MAX_EVENTS", 512),
     ("MAX_PLACES", 64),
     ("MAX_FRAME", 32),
@@ -208,6 +214,9 @@ const NAMED: [(&str, u32); 60] = [
     ("JUMP_UP", r::JUMP_UP as u32),
     ("JUMP_DOWN", r::JUMP_DOWN as u32),
     ("JUMP_BOTH", (r::JUMP_UP | r::JUMP_DOWN) as u32),
+    ("CONDITIONS", r::CONDITIONS),
+    ("ALL_PRESENT", r::ALL_PRESENT),
+    ("NONE_MISSING", r::NONE_MISSING),
     ("DONE", r::DONE as u32),
     ("BAD_ARGUMENT", r::BAD_ARGUMENT as u32),
     ("BAD_CONFIGURATION", r::BAD_CONFIGURATION as u32),
@@ -219,6 +228,7 @@ const NAMED: [(&str, u32); 60] = [
     ("BAD_IMAGE", r::BAD_IMAGE as u32),
     ("WRONG_FRAME", r::WRONG_FRAME as u32),
     ("NO_ENTRY", r::NO_ENTRY as u32),
+    ("MISSING_CONDITION", r::MISSING_CONDITION as u32),
     ("TEST_FAILED", r::TEST_FAILED as u32),
     (
         "TEST_FAILED_THIS_OPERATION_CYCLE",

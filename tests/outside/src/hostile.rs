@@ -9,14 +9,14 @@ use crate::random::Random;
 use crate::reference::{self, Board, Configuration, State, ALL_CODES};
 use crate::tally::Tally;
 
-/// The test fails when some answer of document 01's table was not given in so many calls.
+/// The test fails when some answer of the documents' table was not given in so many calls.
 const ENOUGH: u64 = 100_000;
 
 /// Calls made under one configuration.
 const CALLS_EACH: usize = 30;
 
 /// How often each call gave each answer.
-pub type Counts = [[u64; 11]; ANSWERS.len()];
+pub type Counts = [[u64; 12]; ANSWERS.len()];
 
 pub fn run(program: &Program, rounds: u64, seed: u64) -> (Tally, Counts) {
     let mut random = Random::new(!seed);
@@ -96,14 +96,11 @@ fn board_bytes(random: &mut Random, board: &Board) -> door::Board {
 fn call(random: &mut Random, config: &Configuration, state: &State) -> Call {
     match random.below(ANSWERS.len()) {
         0 => Call::Fresh,
-        1 => Call::Report {
-            event: event(random, config),
-            code: report_code(random),
-            frame: frame(random, config),
-        },
+        1 => report(random, config),
         2 => Call::Tick {
             ms: ms(random),
             frame: frame(random, config),
+            present: present(random, config, config.events),
         },
         3 => Call::Start {
             cycle: cycle(random),
@@ -128,17 +125,39 @@ fn call(random: &mut Random, config: &Configuration, state: &State) -> Call {
         14 => Call::ListGrey {
             numbers: list(random, config, state),
         },
-        which => reading(which, event(random, config)),
+        which => reading(random, config, which),
     }
 }
 
+fn report(random: &mut Random, config: &Configuration) -> Call {
+    let event = event(random, config);
+    Call::Report {
+        event,
+        code: report_code(random),
+        frame: frame(random, config),
+        present: present(random, config, event),
+    }
+}
+
+/// A set of conditions: for this event, or for any where there is no such event.
+fn present(random: &mut Random, config: &Configuration, event: usize) -> u32 {
+    let any = random.below(config.events);
+    let event = if event < config.events { event } else { any };
+    making::present(random, config.row(event).needed)
+}
+
 /// The calls that read one event, by their rows in ANSWERS.
-fn reading(which: usize, event: usize) -> Call {
+fn reading(random: &mut Random, config: &Configuration, which: usize) -> Call {
+    let event = event(random, config);
     match which {
         6 => Call::ReadStatus { event },
         7 => Call::ReadFrame { event },
         11 => Call::ReadCounter { event },
-        _ => Call::ReadPaint { event },
+        13 => Call::ReadPaint { event },
+        _ => {
+            let present = present(random, config, event);
+            Call::ReadMissing { event, present }
+        }
     }
 }
 
@@ -341,6 +360,6 @@ pub fn print(counts: &Counts) {
             let times = row[usize::from(*number)];
             format!(" {number}:{times}")
         });
-        println!("  {name:11}{}", met.collect::<String>());
+        println!("  {name:12}{}", met.collect::<String>());
     }
 }

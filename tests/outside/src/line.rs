@@ -100,6 +100,10 @@ fn outcome(call: &Call, answer: &Answer) -> Outcome {
         Call::ReadCounter { .. } => Values::Counter(answer.start as i64),
         Call::ReadPaint { .. } => Values::Paint(answer.value),
         Call::ReadFrame { .. } => Values::Frame { start, length },
+        Call::ReadMissing { .. } => Values::Missing {
+            count: start,
+            lowest: length,
+        },
         Call::Save { .. } | Call::Request { .. } | Call::ListGrey { .. } => Values::Length(length),
         _ => Values::Nothing,
     };

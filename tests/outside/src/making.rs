@@ -2,9 +2,9 @@
 
 use crate::random::Random;
 use crate::reference::{
-    image_head, Board, Configuration, Row, State, CONFIRMED, FAILED_SINCE_CLEAR, FAILED_THIS_CYCLE,
-    FRESH_STATUS, KIND_COUNTER, KIND_INTERNAL, NOT_COMPLETED_SINCE_CLEAR, NOT_COMPLETED_THIS_CYCLE,
-    PENDING, TEST_FAILED, WARNING,
+    image_head, Board, Configuration, Row, State, ALL_PRESENT, CONDITIONS, CONFIRMED,
+    FAILED_SINCE_CLEAR, FAILED_THIS_CYCLE, FRESH_STATUS, KIND_COUNTER, KIND_INTERNAL,
+    NOT_COMPLETED_SINCE_CLEAR, NOT_COMPLETED_THIS_CYCLE, PENDING, TEST_FAILED, WARNING,
 };
 
 /// The largest trouble code.
@@ -50,6 +50,7 @@ pub fn configuration(random: &mut Random) -> Vec<i32> {
         numbers.extend([code, random.pick(priorities), random.pick(cycles)]);
         numbers.extend(debouncing(random));
         numbers.extend(counts(random));
+        numbers.push(needed(random));
         code += if from_end {
             1
         } else {
@@ -83,6 +84,47 @@ fn counts(random: &mut Random) -> [i32; 4] {
     let count = |random: &mut Random| random.pick(&[1, 1, 2, 2, 3, 4, 254, 255]);
     let (confirm, heal, age) = (count(random), count(random), count(random));
     [confirm, heal, age, random.between(0, 1)]
+}
+
+/// The set of conditions that an event needs: mostly none, one or a few, rarely many or all.
+fn needed(random: &mut Random) -> i32 {
+    let mut one = || 1 << random.below(CONDITIONS as usize);
+    let few = one() | one() | one();
+    match random.below(20) {
+        0..10 => 0,
+        10..14 => 1 << random.below(3),
+        14..18 => few,
+        18 => random.next() as i32 & i32::MAX,
+        _ => i32::MAX,
+    }
+}
+
+/// Bit 31 of a set, which is no condition.
+pub const NO_CONDITION: u32 = 1 << 31;
+
+/// The set that is lent as present, for an event that needs this one: all, just what it needs,
+/// short of one or of all of that, or any; with and without bit 31.
+pub fn present(random: &mut Random, needed: i32) -> u32 {
+    let needed = needed as u32;
+    let is_needed = |number: &u32| needed & (1u32 << number) != 0;
+    let numbers: Vec<u32> = (0..CONDITIONS).filter(is_needed).collect();
+    let one = match numbers.is_empty() {
+        true => 0,
+        false => 1u32 << random.pick(&numbers),
+    };
+    let set = match random.below(12) {
+        0..4 => ALL_PRESENT,
+        4..6 => needed,
+        6..8 => ALL_PRESENT & !one,
+        8 => needed & !one,
+        9 => ALL_PRESENT & !needed,
+        10 => 0,
+        _ => random.next() as u32,
+    };
+    match random.one_in(4) {
+        true => set | NO_CONDITION,
+        false => set,
+    }
 }
 
 /// Any well-formed state, also such as no story comes to soon.

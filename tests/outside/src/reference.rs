@@ -1,4 +1,4 @@
-//! Document 01 in plain code that shares nothing with the archive.
+//! Documents 01 and 02 in plain code that shares nothing with the archive.
 //!
 //! Each call judges first, in the document's order, and only then changes the
 //! lent blocks, in place. `Err` is a refusal and holds the number answered.
@@ -14,6 +14,7 @@ pub const ROOM_TOO_SMALL: u8 = 7;
 pub const BAD_IMAGE: u8 = 8;
 pub const WRONG_FRAME: u8 = 9;
 pub const NO_ENTRY: u8 = 10;
+pub const MISSING_CONDITION: u8 = 11;
 
 /// The bits of the status byte.
 pub const TEST_FAILED: u8 = 0x01;
@@ -35,8 +36,14 @@ pub const PRE_FAILED: u32 = 3;
 /// "Clear, by one trouble code or FFFFFFh for all".
 pub const ALL_CODES: u32 = 0xFF_FFFF;
 
+/// Document 02: "31 enable conditions, numbers 0 to 30, a set of bits".
+pub const CONDITIONS: u32 = 31;
+pub const ALL_PRESENT: u32 = 2_147_483_647;
+/// "the lowest missing number, or 32 when none is"
+pub const NONE_MISSING: u32 = 32;
+
 /// Numbers of a row of the configuration.
-pub const ROW: usize = 13;
+pub const ROW: usize = 14;
 
 pub const KIND_INTERNAL: i32 = 0;
 pub const KIND_COUNTER: i32 = 1;
@@ -86,7 +93,7 @@ impl Clone for State {
     }
 }
 
-/// One event's 13 numbers.
+/// One event's 14 numbers.
 pub struct Row {
     pub trouble_code: i32,
     pub priority: i32,
@@ -101,6 +108,7 @@ pub struct Row {
     pub heal: i32,
     pub age: i32,
     pub indicator: i32,
+    pub needed: i32,
 }
 
 impl Row {
@@ -120,6 +128,7 @@ impl Row {
             heal: numbers[10],
             age: numbers[11],
             indicator: numbers[12],
+            needed: numbers[13],
         }
     }
 
@@ -148,6 +157,7 @@ impl Row {
             && (1..=255).contains(&self.heal)
             && (1..=255).contains(&self.age)
             && (0..=1).contains(&self.indicator)
+            && (0..=2_147_483_647).contains(&self.needed)
     }
 
     /// The least D: P, or P−1 for kind 2. Kind 0 has P = 0.
@@ -182,6 +192,19 @@ impl Row {
 
     fn runs(&self, board: &Board) -> bool {
         board.running[self.cycle as usize]
+    }
+
+    /// Whether its "needed conditions" are "all present". No event needs bit 31.
+    pub fn enabled(&self, present: u32) -> bool {
+        let needed = self.needed as u32;
+        needed & present == needed
+    }
+
+    /// The numbers of the conditions that it needs and that are not present, rising.
+    fn missing(&self, present: u32) -> impl Iterator<Item = u32> {
+        let needed = self.needed as u32;
+        let has = |set: u32, number: u32| set & (1 << number) != 0;
+        (0..CONDITIONS).filter(move |number| has(needed, *number) && !has(present, *number))
     }
 }
 
@@ -365,6 +388,7 @@ pub fn report(
     event: usize,
     code: u32,
     frame: &[u8],
+    present: u32,
 ) -> Result<Verdict, u8> {
     let config = judge(config, state)?;
     if event >= config.events {
@@ -382,6 +406,10 @@ pub fn report(
     }
     if !row.runs(&state.board) {
         return Err(WRONG_CYCLE_STATE);
+    }
+    // "refused with new number 11, checked last"
+    if !row.enabled(present) {
+        return Err(MISSING_CONDITION);
     }
     let (d, verdict) = debounced(&row, state.debounce[event], code);
     state.debounce[event] = d;
@@ -539,7 +567,13 @@ fn leave(config: &Configuration, state: &mut State, event: usize) {
     }
 }
 
-pub fn tick(config: &[i32], state: &mut State, ms: u32, frame: &[u8]) -> Result<(), u8> {
+pub fn tick(
+    config: &[i32],
+    state: &mut State,
+    ms: u32,
+    frame: &[u8],
+    present: u32,
+) -> Result<(), u8> {
     let config = judge(config, state)?;
     if ms > 60_000 {
         return Err(BAD_ARGUMENT);
@@ -549,6 +583,10 @@ pub fn tick(config: &[i32], state: &mut State, ms: u32, frame: &[u8]) -> Result<
     }
     for (event, row) in config.rows().enumerate() {
         if row.kind != KIND_TIME || !row.runs(&state.board) {
+            continue;
+        }
+        // "A tick doesn't move such an event's D."
+        if !row.enabled(present) {
             continue;
         }
         let d = state.debounce[event];
@@ -713,6 +751,23 @@ fn counter_of(row: &Row, d: i32, status: u8) -> i8 {
         _ => -(128 * distance / -row.p),
     };
     counter.try_into().expect("D lies in its range")
+}
+
+/// Document 02: "how many of the conditions it needs are still missing, and the lowest missing
+/// number".
+pub fn read_missing(
+    config: &[i32],
+    state: &State,
+    event: usize,
+    present: u32,
+) -> Result<(usize, usize), u8> {
+    let config = judge(config, state)?;
+    if event >= config.events {
+        return Err(NO_SUCH);
+    }
+    let row = config.row(event);
+    let lowest = row.missing(present).next().unwrap_or(NONE_MISSING);
+    Ok((row.missing(present).count(), lowest as usize))
 }
 
 /// Document 02: "four by eight", cycle by cycle, bit 0 first.

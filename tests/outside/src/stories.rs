@@ -8,8 +8,8 @@ use crate::happenings::Happenings;
 use crate::making;
 use crate::random::Random;
 use crate::reference::{
-    grey_events, Board, Configuration, State, ALL_CODES, DONE, FAILED, KIND_INTERNAL, KIND_TIME,
-    NO_SUCH, PASSED, PRE_FAILED, PRE_PASSED,
+    grey_events, Board, Configuration, State, ALL_CODES, ALL_PRESENT, DONE, FAILED, KIND_INTERNAL,
+    KIND_TIME, MISSING_CONDITION, NO_SUCH, PASSED, PRE_FAILED, PRE_PASSED,
 };
 use crate::tally::Tally;
 
@@ -53,6 +53,8 @@ struct Mood {
     failing: usize,
     /// Percent of reports that are pre-results.
     pre: usize,
+    /// Percent of reports and ticks that are not lent all conditions.
+    switching: usize,
     /// Most reports go to this many events from `first` on.
     first: usize,
     events: usize,
@@ -66,6 +68,7 @@ impl Mood {
             turning: random.pick(&[5, 15, 30, 60]),
             failing: random.pick(&[20, 50, 50, 90]),
             pre: random.pick(&[20, 60]),
+            switching: random.pick(&[0, 10, 40]),
             first: random.below(config.events - events + 1),
             events,
         }
@@ -113,8 +116,10 @@ impl Story<'_> {
             self.happenings
                 .observe(&self.config, &call, room, &self.before, &self.state);
         }
-        if let (NO_SUCH, Call::Clear { code }) = (outcome.number, &call) {
-            self.happenings.unknown(&self.config, *code);
+        match (outcome.number, &call) {
+            (NO_SUCH, Call::Clear { code }) => self.happenings.unknown(&self.config, *code),
+            (MISSING_CONDITION, Call::Report { present, .. }) => self.happenings.switched(*present),
+            _ => {}
         }
         Some(outcome)
     }
@@ -144,7 +149,8 @@ impl Story<'_> {
             0..60 => return self.report(),
             60..72 => return self.tick(),
             72..82 => return self.request(),
-            82..87 => return self.save(),
+            82..86 => return self.save(),
+            86..87 => return self.missing(),
             87..88 => self.call(Call::ReadStatus { event }),
             88..90 => self.call(Call::ReadFrame { event }),
             90..92 => self.call(Call::ReadCounter { event }),
@@ -209,8 +215,28 @@ impl Story<'_> {
             (false, true) => PRE_PASSED,
             (true, true) => PRE_FAILED,
         };
-        let frame = self.frame();
-        self.call(Call::Report { event, code, frame })?;
+        let call = Call::Report {
+            event,
+            code,
+            frame: self.frame(),
+            present: self.present(event),
+        };
+        self.call(call)?;
+        Some(())
+    }
+
+    /// The conditions that are lent: all, or a set that this event may find wanting.
+    fn present(&mut self, event: usize) -> u32 {
+        match self.random.percent(self.mood.switching) {
+            true => making::present(self.random, self.config.row(event).needed),
+            false => ALL_PRESENT,
+        }
+    }
+
+    fn missing(&mut self) -> Option<()> {
+        let event = self.event();
+        let present = making::present(self.random, self.config.row(event).needed);
+        self.call(Call::ReadMissing { event, present })?;
         Some(())
     }
 
@@ -232,7 +258,8 @@ impl Story<'_> {
                 .pick(&[0, 1, 2, 5, 499, 500, 30_000, 60_000, 60_001]),
         };
         let frame = self.frame();
-        self.call(Call::Tick { ms, frame })?;
+        let present = self.present(event);
+        self.call(Call::Tick { ms, frame, present })?;
         Some(())
     }
 

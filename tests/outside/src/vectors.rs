@@ -4,7 +4,7 @@ use crate::call::{Call, Outcome, Values};
 use crate::compare::{as_bytes, stored_frame};
 use crate::door::{Asked, Program, Way};
 use crate::line::{Expected, Line};
-use crate::reference::{self, Board, Configuration, State, DONE};
+use crate::reference::{self, Board, Configuration, State, ALL_PRESENT, DONE};
 use crate::tally::{first_difference, Tally};
 
 /// The files, which the program `call_cases` runs too.
@@ -295,17 +295,24 @@ fn state_of(text: &str) -> State {
 /// `CALL ARGUMENTS`.
 fn call_of(text: &str) -> Call {
     let words: Vec<&str> = text.split_whitespace().collect();
-    let room = |word: &str| number(word.trim_start_matches("room="));
-    match words[..] {
+    let call = changing(&words).or_else(|| reading(&words));
+    call.unwrap_or_else(|| panic!("{text} is no call"))
+}
+
+/// The calls that change the state.
+fn changing(words: &[&str]) -> Option<Call> {
+    Some(match *words {
         ["fresh"] => Call::Fresh,
-        ["report", event, code, frame] => Call::Report {
+        ["report", event, code, frame, ref rest @ ..] => Call::Report {
             event: number(event),
             code: number(code),
             frame: bytes(frame),
+            present: conditions(rest),
         },
-        ["tick", ms, frame] => Call::Tick {
+        ["tick", ms, frame, ref rest @ ..] => Call::Tick {
             ms: number(ms),
             frame: bytes(frame),
+            present: conditions(rest),
         },
         ["start", cycle] => Call::Start {
             cycle: number(cycle),
@@ -314,28 +321,67 @@ fn call_of(text: &str) -> Call {
             cycle: number(cycle),
         },
         ["clear", code] => Call::Clear { code: number(code) },
+        ["restore", image] => Call::Restore {
+            image: bytes(image),
+        },
+        ["diagnose", request, room] => Call::Request {
+            request: bytes(request),
+            room: room_of(room),
+        },
+        _ => return None,
+    })
+}
+
+/// Those that leave it.
+fn reading(words: &[&str]) -> Option<Call> {
+    Some(match *words {
         ["read_status", event] => read(event, |event| Call::ReadStatus { event }),
         ["read_frame", event] => read(event, |event| Call::ReadFrame { event }),
         ["read_counter", event] => read(event, |event| Call::ReadCounter { event }),
         ["table"] => Call::ReadTable,
         ["paint", event] => read(event, |event| Call::ReadPaint { event }),
+        ["missing", event, present] => Call::ReadMissing {
+            event: number(event),
+            present: number(present),
+        },
         ["grey_list", length] => Call::ListGrey {
             numbers: number(length.trim_start_matches("room16=")),
         },
-        ["save", length] => Call::Save { room: room(length) },
-        ["restore", image] => Call::Restore {
-            image: bytes(image),
+        ["save", room] => Call::Save {
+            room: room_of(room),
         },
-        ["diagnose", request, length] => Call::Request {
-            request: bytes(request),
-            room: room(length),
-        },
-        _ => panic!("{text} is no call"),
+        _ => return None,
+    })
+}
+
+fn room_of(word: &str) -> usize {
+    number(word.trim_start_matches("room="))
+}
+
+/// `conditions=N`: "the conditions lent; without the word all are present".
+fn conditions(rest: &[&str]) -> u32 {
+    match rest {
+        [] => ALL_PRESENT,
+        [word] => {
+            let set = word.strip_prefix("conditions=");
+            number(set.unwrap_or_else(|| panic!("{word} tells no conditions")))
+        }
+        _ => panic!("{rest:?} is more than the conditions"),
     }
 }
 
 fn read(event: &str, call: impl Fn(usize) -> Call) -> Call {
     call(number(event))
+}
+
+/// A frame as `from:to`.
+fn part_of(part: &str) -> Values {
+    let (from, to) = part.split_once(':').expect("a part is from:to");
+    let (start, end) = (number::<usize>(from), number::<usize>(to));
+    Values::Frame {
+        start,
+        length: end - start,
+    }
 }
 
 /// `ANSWER VALUES ROOM`, the mark included.
@@ -348,14 +394,7 @@ fn answer_of(call: &Call, text: &str) -> (Outcome, Vec<u8>) {
         (Call::Report { .. }, ["1"]) => Values::Verdict(2),
         (Call::ReadStatus { .. }, [status]) => Values::Status(number(status)),
         (Call::ReadCounter { .. }, [counter]) => Values::Counter(number(counter)),
-        (Call::ReadFrame { .. }, [part]) => {
-            let (from, to) = part.split_once(':').expect("a part is from:to");
-            let (start, end) = (number::<usize>(from), number::<usize>(to));
-            Values::Frame {
-                start,
-                length: end - start,
-            }
-        }
+        (Call::ReadFrame { .. }, [part]) => part_of(part),
         (Call::ReadTable, [counts]) => {
             room = pairs(counts);
             Values::Nothing
@@ -363,6 +402,10 @@ fn answer_of(call: &Call, text: &str) -> (Outcome, Vec<u8>) {
         (Call::ReadPaint { .. }, ["grey"]) => Values::Paint(0),
         (Call::ReadPaint { .. }, ["red"]) => Values::Paint(1),
         (Call::ReadPaint { .. }, ["live"]) => Values::Paint(2),
+        (Call::ReadMissing { .. }, [count, lowest]) => Values::Missing {
+            count: number(count),
+            lowest: number(lowest),
+        },
         (Call::ListGrey { .. }, [length, after]) => {
             room = pairs(after);
             Values::Length(number(length))

@@ -10,8 +10,8 @@ use Rattle.config.proofs.part_of.Tie as tie
 returns : tie.Need-returns
 returns c =
     let a = c .before .before .args in
-    let n : 13 * a .event .0 + 16 - 13 * a .event .0 ≡ 16 = omega arith in
-    ap (λ (k : ℕ). take k (drop (13 * a .event .0) (now (a .cfg)))) n
+    let n : 14 * a .event .0 + 17 - 14 * a .event .0 ≡ 17 = omega arith in
+    ap (λ (k : ℕ). take k (drop (14 * a .event .0) (now (a .cfg)))) n
 
 pub part-of-spec : {M : Type 1} → statement M
 part-of-spec =

@@ -14,18 +14,20 @@ returns : tie.Need-returns
 unfolding rowOk
 returns c =
     let c8 = c .before .before .before .before .before .before .before .before in
-    let cfg = now (c8 .before .before .args .cfg) in
-    let e = c8 .before .before .args .event .0 in
+    let cfg = now (c8 .before .before .before .args .cfg) in
+    let e = c8 .before .before .before .args .event .0 in
     (λ i.
-    c8 .in-range .ensures i
-    && c .before .before .before .before .before .before .before .in-range2 .ensures i
-    && c .before .before .before .before .before .before .in-range3 .ensures i
-    && c .before .before .before .before .before .in-range4 .ensures i
-    && (rw (c8 .before .count-within .ensures) at (c .before .before .before .before .of-kind-ok .ensures)) i
-    && c .before .before .before .in-range5 .ensures i
-    && c .before .before .in-range6 .ensures i
-    && c .before .in-range7 .ensures i
-    && c .in-range8 .ensures i)
+    c8 .before .in-range .ensures i
+    && c8 .in-range2 .ensures i
+    && c .before .before .before .before .before .before .before .in-range3 .ensures i
+    && c .before .before .before .before .before .before .in-range4 .ensures i
+    && (rw (c8 .before .before .count-within .ensures)
+    at (c .before .before .before .before .before .of-kind-ok .ensures)) i
+    && c .before .before .before .before .in-range5 .ensures i
+    && c .before .before .before .in-range6 .ensures i
+    && c .before .before .in-range7 .ensures i
+    && c .before .in-range8 .ensures i
+    && c .in-range9 .ensures i)
     ∙ joined-amid _ _ _ _ (ofKind (kindOf cfg e) cfg e) _
 
 pub row-ok-spec : {M : Type 1} → statement M
@@ -34,4 +36,5 @@ row-ok-spec =
     (tie.spec
     (λ c κs. search needs) (λ c κs. search needs) (λ c κs. search needs) (λ c κs. search needs) (λ c κs. search needs)
     (λ c κs. search needs) (λ c κs. search needs) (λ c κs. search needs) (λ c κs. search needs) (λ c κs. search needs)
+    (λ c κs. search needs)
     returns)

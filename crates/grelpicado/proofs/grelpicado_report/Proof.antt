@@ -13,7 +13,7 @@ returns c =
     let c8 = c .before .before .before .before .before .before .before .before in
     let a = c8 .before .before .before .before .before .before .args in
     through crosses
-    (λ b. report (a .cfg .now) (a .event) (a .code) (a .frame .now) alone
+    (λ b. report (a .cfg .now) (a .event) (a .code) (a .frame .now) (a .present) alone
     (lent (a .records .now) (a .debounce .now) (a .memory .now) b))
     (a .board) (c .report-of .ensures _ _ _) (c .before .before .before .before .before .before .report .ensures)
     (c8 .before .before .board-of .ensures)

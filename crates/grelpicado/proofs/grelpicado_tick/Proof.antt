@@ -13,7 +13,7 @@ returns c =
     let c8 = c .before .before .before .before .before .before .before .before in
     let a = c8 .before .before .before .before .before .before .args in
     through crosses
-    (λ b. tick (a .cfg .now) (a .ms) (a .frame .now) alone
+    (λ b. tick (a .cfg .now) (a .ms) (a .frame .now) (a .present) alone
     (lent (a .records .now) (a .debounce .now) (a .memory .now) b))
     (a .board) (c .answer-of .ensures _ _ _) (c .before .before .before .before .before .before .tick .ensures)
     (c8 .before .before .board-of .ensures)

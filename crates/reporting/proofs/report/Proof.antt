@@ -11,7 +11,7 @@ enum-told c = search needs
 
 accept-report-requires : tie.Need-accept-report-requires
 accept-report-requires c κs =
-    may-report _ _ _ _ _
+    may-report _ _ _ _ _ _
     (passed-by _ (c .before .before .before .before .before .judge-report .ensures)
     (c .before .before .before .enum-told .given .1))
 

@@ -8,26 +8,26 @@ use borrow.Author.Needs.{needs}
 use Rattle.reporting.proofs.tick_event.Statement.{statement}
 use Rattle.reporting.proofs.tick_event.Tie as tie
 
-time-runs-requires : tie.Need-time-runs-requires
-time-runs-requires c κs =
+tick-moves-requires : tie.Need-tick-moves-requires
+tick-moves-requires c κs =
     let ready = c .before .before .before .pre .0 in
     row-within _ _ (ready .event .configured) (ready .event .blocks .below)
 
 returns : tie.Need-returns
-returns c = rw (← c .before .time-runs .ensures, not-true (c .before .time-runs .result) (c .if1 .taken))
+returns c = rw (← c .before .tick-moves .ensures, not-true (c .before .tick-moves .result) (c .if1 .taken))
 
 returns-2 : tie.Need-returns-2
 returns-2 c =
     let c8 = c .before .before .before .before .before .before .before .before in
-    let time-runs = c8 .before .before .time-runs in
+    let tick-moves = c8 .before .before .tick-moves in
     let left = ap (λ (x : Stepped State). x .left) (c .before .before .before .before .before .ticks .ensures) in
-    rw (← time-runs .ensures, not-false (time-runs .result) (c8 .before .if1 .left)) left
+    rw (← tick-moves .ensures, not-false (tick-moves .result) (c8 .before .if1 .left)) left
 
 pub tick-event-spec : {M : Type 1} → statement M
 tick-event-spec =
     tie.close
     (tie.spec
-    time-runs-requires
+    tick-moves-requires
     returns
     (λ c κs. search needs) (λ c. search needs) (λ c. search needs) (λ c. search needs)
     returns-2)

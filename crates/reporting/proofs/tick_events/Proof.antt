@@ -6,7 +6,7 @@ use denote.Ref.{now}
 use lib.ListN.{length}
 use Rattle.manual.specs.Configuration.{events}
 use Rattle.manual.specs.State.{lent}
-use Rattle.manual.specs.Calls.{timeRuns, ticks}
+use Rattle.manual.specs.Calls.{tickMoves, ticks}
 use Rattle.one_event.specs.Ready.{flagged}
 use Rattle.one_event.proofs.TurnsLaws.{no-turn, next-turn, last-turn}
 use Rattle.reporting.proofs.TickLaws.{tickedBelow, turn-ready}
@@ -15,20 +15,20 @@ use Rattle.reporting.proofs.tick_events.Statement.{statement}
 use Rattle.reporting.proofs.tick_events.Tie as tie
 
 abbrev Inv-loop : tie.InvT-loop
-Inv-loop cfg records₀ debounce₀ memory₀ board ms frame n running flag₀ event₀ records debounce memory flag event =
+Inv-loop cfg records₀ debounce₀ memory₀ board ms frame present n running flag₀ event₀ records debounce memory flag event =
     (event ≤ n) ×
     (lent records debounce memory (flagged board flag)
-    ≡ tickedBelow cfg (lent records₀ debounce₀ memory₀ board) ms frame event)
+    ≡ tickedBelow cfg (lent records₀ debounce₀ memory₀ board) ms frame present event)
     × (length records ≡ length records₀) × (length debounce ≡ length debounce₀) × (length memory ≡ length memory₀)
 
 abbrev μ-loop : tie.MeasureT-loop
-μ-loop cfg records₀ debounce₀ memory₀ board ms frame n running flag₀ event₀ records debounce memory flag event =
+μ-loop cfg records₀ debounce₀ memory₀ board ms frame present n running flag₀ event₀ records debounce memory flag event =
     n - event
 
 loop-holds : tie.Need-loop-holds Inv-loop μ-loop
 loop-holds c = let a = c .before .before .before .before .before .args in (
   omega arith,
-  no-turn (timeRuns (now (a .cfg)) (a .board)) (ticks (now (a .cfg)) (a .ms) (now (a .frame))) _,
+  no-turn (tickMoves (now (a .cfg)) (a .present) (a .board)) (ticks (now (a .cfg)) (a .ms) (now (a .frame))) _,
   refl,
   refl,
   refl,
@@ -46,7 +46,7 @@ tick-event-requires c κs =
       c .before .before .before .loop-test .taken,
       c .before .before .before .before .before .before .events .ensures,
     ) in
-    (turn-ready _ _ _ _ m (loop .event) below (loop .inv .1), (m .frame-fits, m .short))
+    (turn-ready _ _ _ _ _ m (loop .event) below (loop .inv .1), (m .frame-fits, m .short))
 
 loop-again : tie.Need-loop-again Inv-loop μ-loop
 loop-again c =
@@ -56,7 +56,7 @@ loop-again c =
     let a = c8 .before .before .before .before .before .before .before .before .args in
     let tick-event = c .before .before .before .before .before .tick-event in (
       omega arith,
-      next-turn (timeRuns (now (a .cfg)) (a .board)) (ticks (now (a .cfg)) (a .ms) (now (a .frame))) (loop .event) _
+      next-turn (tickMoves (now (a .cfg)) (a .present) (a .board)) (ticks (now (a .cfg)) (a .ms) (now (a .frame))) (loop .event) _
           (inv .1) (tick-event .ensures),
       tick-event .kept .1 .0 ∙ inv .2,
       tick-event .kept .1 .1 .0 ∙ inv .3,
@@ -68,7 +68,7 @@ returns c =
     let a = c .before .before .before .before .before .before .before .args in
     let all : c .before .loop .event ≡ events (now (a .cfg)) =
     omega (arith, c .before .before .before .events .ensures) in
-    last-turn (timeRuns (now (a .cfg)) (a .board)) (ticks (now (a .cfg)) (a .ms) (now (a .frame))) (now (a .cfg))
+    last-turn (tickMoves (now (a .cfg)) (a .present) (a .board)) (ticks (now (a .cfg)) (a .ms) (now (a .frame))) (now (a .cfg))
     (c .before .loop .event) _ all (c .before .loop .inv .1)
 
 pub tick-events-spec : {M : Type 1} → statement M

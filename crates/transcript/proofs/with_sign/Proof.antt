@@ -1,4 +1,4 @@
--- `with_sign`: a number below 10 ^ 9 and its negative both fit.
+-- `with_sign`: a number up to the largest and its negative both fit.
 use mathlib.Core.Bool.{true}
 use Prim.Native.Nat.{_^_, _<_}
 use native.Mathlib.Omega.{arith}
