@@ -6,7 +6,7 @@ use mathlib.Core.Logic.{_⊎_, inl, inr, _↔_}
 use mathlib.Core.Bool.{Bool, true, false, not, _||_, cond}
 use Prim.Native.Nat.{ℕ, _<_}
 use lib.Dec.{T}
-use borrow.Author.Tests.{not-true}
+use borrow.Author.Tests.{not-true, lt-leb}
 use Rattle.history.specs.StatusByte.{testFailed, testNotCompletedThisOperationCycle}
 use Rattle.history.specs.History.{reading}
 use Rattle.history.specs.Legal.{running}
@@ -18,9 +18,11 @@ use Rattle.manual.specs.declared.Paint.the-variants.{Grey, Red, Live}
 use Rattle.manual.specs.Configuration.{Configuration, events, limitsOf}
 use Rattle.manual.specs.State.{State, storedAt}
 use Rattle.manual.specs.Sequences.{Reached}
-use Rattle.manual.specs.Untested.{isGrey, paintOf}
+use Rattle.manual.specs.Answers.{Beside, firstThatApplies, judged}
+use Rattle.manual.specs.Untested.{isGrey, paintOf, readPaintRules, readPaint, paintRead}
 use Rattle.manual.proofs.SequencesLaws.{Histories}
 use Rattle.manual.proofs.HistoriesAreLegal.{run-goes-on}
+use Rattle.manual.proofs.WellFormedInEverySequence.{config-accepted, well-formed}
 use Rattle.manual.proofs.ByteIsReadingInEverySequence.{bit-is-reading-in-sequence}
 
 -- ---- the paint by three tests: the cycle runs, a result lies there, the last one is failed
@@ -108,3 +110,9 @@ module _ (cfg : Configuration) {s : State} {H : Histories} (reached : Reached cf
           (so _ (ap (paintIs true false false) (sym paint-is ∙ q))),
       λ g. paint-is ∙ by-grey (running (H e)) (isTested (H e)) lastFailed g,
     )
+
+    -- read paint answers this paint: in such a sequence it is not refused
+    pub read-paint-tells : (b : Beside) → paintRead cfg e b s .paint ≡ paintOf cfg s e
+    unfolding paintRead readPaint readPaintRules firstThatApplies judged
+    read-paint-tells b =
+        rw (config-accepted cfg reached, well-formed cfg reached, lt-leb (events cfg) e below)
