@@ -166,7 +166,9 @@ typedef struct grelpicado_event {
 
 /*
  * There are 31 conditions, 0 to 30. What each stands for, as that the pump is on, is the caller's to
- * say. A set of them has a bit for each: the set that an event needs, and the set that is present.
+ * say. A set of them has a bit for each: the set that an event needs, and the set that is present,
+ * of which bit 31 is ignored. k is 0 to 30; cast the set to int32_t where `needed` gets one that is
+ * known at run time only.
  */
 #define GRELPICADO_CONDITIONS 31
 #define GRELPICADO_CONDITION(k) (1u << (k))
@@ -281,7 +283,8 @@ typedef struct grelpicado_counter_answer {
     int8_t counter;
 } grelpicado_counter_answer;
 
-/* How many needed conditions are missing, and the lowest of their numbers; 0 and 0 beside a refusal. */
+/* How many needed conditions are missing, and the lowest of their numbers; 0 and 0 beside a refusal, so
+ * look at the number first. */
 typedef struct grelpicado_missing_answer {
     uint8_t number;
     uint32_t count;
@@ -334,8 +337,8 @@ grelpicado_answer grelpicado_fresh(
 
 /*
  * A test's result for one event: code GRELPICADO_PASSED to GRELPICADO_PRE_FAILED, the frame, of F bytes,
- * that is stored should this be a fresh failure, and the set of conditions that are present, of which
- * bit 31 is ignored: GRELPICADO_ALL_PRESENT where there are none to watch.
+ * that is stored should this be a fresh failure, and the set of conditions that are present:
+ * GRELPICADO_ALL_PRESENT where there are none to watch.
  * Refusals, in order: 2, 3, 4 (event), 1 (code), 6, 9, 5 (cycle stopped), 11 (one it needs is missing).
  */
 grelpicado_report_answer grelpicado_report(
@@ -350,7 +353,7 @@ grelpicado_report_answer grelpicado_report(
 
 /*
  * ms milliseconds have passed, 0 to 60,000, with these conditions present. Every event that fails by it
- * takes the frame. The debounce number of an event that needs another one too stays where it is.
+ * takes the frame. An event that needs a condition which is not among them keeps its debounce number.
  * Refusals, in order: 2, 3, 1 (ms), 9.
  */
 grelpicado_answer grelpicado_tick(
@@ -428,7 +431,8 @@ grelpicado_counter_answer grelpicado_read_counter(
 
 /*
  * What keeps an event from being tested: how many of the conditions that it needs are missing from those
- * present, and the lowest of their numbers, 32 where none is. Writes nothing.
+ * present, and the lowest of their numbers, 32 where none is. Writes nothing. While any is missing the
+ * event's status, paint and counter stay as they were, live too: paint its value grey.
  * Refusals, in order: 2, 3, 4 (event).
  */
 grelpicado_missing_answer grelpicado_read_missing(

@@ -150,7 +150,8 @@ static void print_event(const struct panel *panel, const char *name, size_t even
     putchar('\n');
 }
 
-static const char *const reasons[] = {[PUMP_ON] = "the pump is off"};
+/* Each condition that an event needs has a text here. */
+static const char *const reasons[GRELPICADO_CONDITIONS] = {[PUMP_ON] = "the pump is off"};
 
 static void print_panel(const struct panel *panel, const char *moment)
 {

@@ -358,7 +358,7 @@ fn room_of(word: &str) -> usize {
     number(word.trim_start_matches("room="))
 }
 
-/// `conditions=N`: "the conditions lent; without the word all are present".
+/// `conditions=N`: the conditions that are lent; without the word all are present.
 fn conditions(rest: &[&str]) -> u32 {
     match rest {
         [] => ALL_PRESENT,
