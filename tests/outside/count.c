@@ -124,6 +124,8 @@ struct side {
     __typeof__(grelpicado_stop) *stop;
     __typeof__(grelpicado_clear) *clear;
     __typeof__(grelpicado_read_status) *read_status;
+    __typeof__(grelpicado_read_counter) *read_counter;
+    __typeof__(grelpicado_read_missing) *read_missing;
     __typeof__(grelpicado_read_table) *read_table;
     __typeof__(grelpicado_read_paint) *read_paint;
     __typeof__(grelpicado_list_grey) *list_grey;
@@ -135,13 +137,14 @@ struct side {
 
 static const struct side archive = {
     grelpicado_fresh, grelpicado_report, grelpicado_tick, grelpicado_start, grelpicado_stop, grelpicado_clear,
-    grelpicado_read_status, grelpicado_read_table, grelpicado_read_paint, grelpicado_list_grey, grelpicado_read_frame,
-    grelpicado_save, grelpicado_restore, grelpicado_request,
+    grelpicado_read_status, grelpicado_read_counter, grelpicado_read_missing, grelpicado_read_table, grelpicado_read_paint,
+    grelpicado_list_grey, grelpicado_read_frame, grelpicado_save, grelpicado_restore, grelpicado_request,
 };
 
 static const struct side plain = {
     plain_fresh, plain_report, plain_tick, plain_start, plain_stop, plain_clear,
-    plain_read_status, plain_read_table, plain_read_paint, plain_list_grey, plain_read_frame, plain_save, plain_restore, plain_request,
+    plain_read_status, plain_read_counter, plain_read_missing, plain_read_table, plain_read_paint, plain_list_grey,
+    plain_read_frame, plain_save, plain_restore, plain_request,
 };
 
 /* ---- the calls */
@@ -243,6 +246,21 @@ static void read_status(const struct side *by, struct world *world)
     world->value = got.status;
 }
 
+/* Event 0 is of kind time and on its way to a fault. */
+static void read_counter(const struct side *by, struct world *world)
+{
+    grelpicado_counter_answer got = by->read_counter(LENT, 0);
+    world->number = got.number;
+    world->value = (uint8_t)got.counter;
+}
+
+static void read_missing(const struct side *by, struct world *world)
+{
+    grelpicado_missing_answer got = by->read_missing(LENT, middle(), 0);
+    world->number = got.number;
+    world->value = (uint8_t)(got.count + got.lowest);
+}
+
 static void read_table(const struct side *by, struct world *world)
 {
     grelpicado_table_answer got = by->read_table(LENT);
@@ -299,6 +317,29 @@ static void list_all(const struct side *by, struct world *world)
     request(by, world, (const uint8_t[]){0x19, 0x0A}, 2);
 }
 
+static void list_near(const struct side *by, struct world *world)
+{
+    request(by, world, (const uint8_t[]){0x19, 0x14}, 2);
+}
+
+/* Sub-function 04 or 06, of the event whose entry stands in the middle. */
+static void show(const struct side *by, struct world *world, uint8_t sub_function)
+{
+    uint32_t code = middle_code();
+    const uint8_t bytes[] = {0x19, sub_function, (uint8_t)(code >> 16), (uint8_t)(code >> 8), (uint8_t)code, 0x01};
+    request(by, world, bytes, sizeof bytes);
+}
+
+static void show_frame(const struct side *by, struct world *world)
+{
+    show(by, world, 0x04);
+}
+
+static void show_details(const struct side *by, struct world *world)
+{
+    show(by, world, 0x06);
+}
+
 static void request_clear_one(const struct side *by, struct world *world)
 {
     uint32_t code = middle_code();
@@ -326,6 +367,8 @@ static const struct scene {
     {"clear one", clear_one, true},
     {"clear all", clear_all, true},
     {"read status", read_status, true},
+    {"read counter", read_counter, true},
+    {"read missing", read_missing, true},
     {"read table", read_table, true},
     {"read paint", read_paint, true},
     {"list grey, some", list_grey, true},
@@ -336,6 +379,9 @@ static const struct scene {
     {"19 01, all match", count_by_mask, true},
     {"19 02, all match", list_by_mask, true},
     {"19 0A", list_all, true},
+    {"19 14, a third are near", list_near, true},
+    {"19 04", show_frame, true},
+    {"19 06", show_details, true},
     {"14, one code", request_clear_one, true},
     {"14, all codes", request_clear_all, true},
 };

@@ -25,8 +25,8 @@ use Rattle.manual.proofs.MemoryStaysGood.{MemoryGood}
 use Rattle.manual.proofs.WellFormedLaws.{state-tells}
 use Rattle.manual.proofs.StaysWellFormed.{sound}
 use Rattle.one_event.specs.Steps.{resetting}
-use Rattle.fresh_state.specs.Filled.{filledFrom}
-use Rattle.fresh_state.proofs.FilledLaws.{filled-whole}
+use Rattle.writing.specs.Filled.{filledFrom}
+use Rattle.writing.proofs.FilledLaws.{filled-whole}
 
 -- ---- the loop over all events
 

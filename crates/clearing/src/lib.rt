@@ -13,11 +13,12 @@ ghost use Prim.Native.Nat.{ℕ, _*_, _<_};
 ghost use lib.IntN.{ℤ};
 ghost use lib.ListN.{length};
 ghost use Rattle.manual.specs.Words.{forBelow};
-ghost use Rattle.manual.specs.Configuration.{Configuration, mostEvents, events, configOk};
+ghost use Rattle.manual.specs.Configuration.{Configuration, events, configOk};
 ghost use Rattle.manual.specs.State.{recordWidth, lent};
 ghost use Rattle.manual.specs.WellFormed.{wellFormed};
 ghost use Rattle.manual.specs.Answers.{alone, _if_, firstThatApplies, ofAnswer, leaves};
 ghost use Rattle.manual.specs.Calls.{covers, unknownCode, overflowCleared, cleared, clearRules, clearCode};
+ghost use Rattle.config.specs.Rows.{RowWithin};
 ghost use Rattle.judgement.specs.Checks.{checkNumber};
 ghost use Rattle.one_event.specs.Ready.{EventFits};
 ghost use Rattle.one_event.specs.Steps.{resetting};
@@ -44,10 +45,10 @@ pub fn is_unknown(cfg: &[i32], code: u32) -> bool
 
 // "Clear, by one trouble code or FFFFFFh for all"
 fn covers(cfg: &[i32], code: u32, event: EventNumber) -> bool
-    requires { ⌜ event .0 < mostEvents ⌝ }
+    requires { ⌜ RowWithin (now cfg) (event .0) ⌝ }
     ensures { λ r. ⌜ r ≡ covers (now (cfg .entry)) code (event .0) ⌝ }
 {
-    (code == FOR_ALL) | (config::code_of(cfg, event) == code as usize)
+    (code == FOR_ALL) | (config::code_within(cfg, event) == code as usize)
 }
 
 // ---- clearing them
@@ -134,7 +135,7 @@ fn clear_all(
         ≡ cleared (now (cfg .entry)) 0xFFFFFF
         (lent (now (records .entry)) (now (debounce .entry)) (now (memory .entry)) board) ⌝ }
 {
-    fresh_state::zero_from(memory, 0);
+    writing::zero_from(memory, 0);
     reset_all(cfg, records, debounce);
     overflow_cleared(board, FOR_ALL)
 }

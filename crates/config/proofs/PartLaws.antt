@@ -12,7 +12,7 @@ use Rattle.manual.specs.Words.{natOf}
 use Rattle.manual.specs.Configuration.{Configuration, inFront, rowWidth, events, column, limitsOf, configOk}
 use Rattle.manual.specs.Configuration.{neededOf}
 use Rattle.manual.proofs.ConfigurationLaws.{config-tells}
-use Rattle.config.specs.Rows.{partOf, RowWithin}
+use Rattle.config.specs.Rows.{partOf, RowWithin, RowsWithin}
 
 module _ (cfg : Configuration) (e : ℕ) where
   pub column-is : (k : ℕ) → k ≤ rowWidth → column k (partOf cfg e) 0 ≡ column k cfg e
@@ -43,3 +43,10 @@ module _ (cfg : Configuration) (e : ℕ) where
       let exactly : length cfg ≡ inFront + rowWidth * events cfg =
       eqb-true (length cfg) (inFront + rowWidth * events cfg) (part _ ok 4) in
       record { event-below = omega (arith, config-tells cfg ok .n-most); within = omega (arith, exactly) }
+
+pub rows-within : (cfg : Configuration) {n : ℕ} → configOk cfg ≡ true → n ≡ events cfg → RowsWithin cfg n
+unfolding configOk
+rows-within cfg ok q =
+    let exactly : length cfg ≡ inFront + rowWidth * events cfg =
+    eqb-true (length cfg) (inFront + rowWidth * events cfg) (part _ ok 4) in
+    record { most = omega (arith, q, config-tells cfg ok .n-most); within = omega (arith, q, exactly) }

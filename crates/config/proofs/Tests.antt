@@ -1,6 +1,6 @@
 -- Laws of tests and of `allBelow` as code makes them: joined one after the other, gathered in a loop.
 use mathlib.Core.Path.{_≡_, refl, sym, _∙_}
-use mathlib.Core.Bool.{Bool, true, false, not, _&&_, _||_, cond}
+use mathlib.Core.Bool.{Bool, true, false, _&&_}
 use mathlib.Core.List.{List, [], _∷_, _++_}
 use Prim.Native.Nat.{ℕ, zero, suc, _+_}
 use native.Mathlib.Numerals.{add-one}
@@ -29,12 +29,6 @@ pub joined-amid : (a b c d : Bool) (xs ys : List Bool)
 unfolding holds
 joined-amid a b c d xs ys =
     joined-is a (b ∷ c ∷ d ∷ holds xs ∷ ys) ∙ (λ i. a && (b && (c && (d && holds-both xs ys i))))
-
--- one of two tests, chosen by a third without a branch
-pub chosen : (t a b : Bool) → (t && a) || (not t && b) ≡ cond t a b
-chosen true true b = refl
-chosen true false b = refl
-chosen false a b = refl
 
 -- a loop that gathers a test of each number below n
 pub all-none : (f : ℕ → Bool) → allBelow 0 f ≡ true

@@ -249,6 +249,35 @@ fn count_within(cfg: &[i32], event: EventNumber, k: usize) -> usize
     count_of(number_within(cfg, event, k))
 }
 
+// "1 | trouble code"
+pub fn code_within(cfg: &[i32], event: EventNumber) -> usize
+    requires { ⌜ RowWithin (now cfg) (event .0) ⌝ }
+    ensures { λ r. ⌜ r ≡ codeOf (now (cfg .entry)) (event .0) ⌝ }
+{
+    count_within(cfg, event, TROUBLE_CODE)
+}
+
+// "3 | cycle"
+pub fn cycle_within(cfg: &[i32], event: EventNumber) -> usize
+    requires { ⌜ RowWithin (now cfg) (event .0) ⌝ }
+    ensures { λ r. ⌜ r ≡ cycleOf (now (cfg .entry)) (event .0) ⌝ }
+{
+    count_within(cfg, event, CYCLE)
+}
+
+// "10, 11, 12 | C confirm, H heal, A age", and whether "13 | indicator" is 1
+pub fn limits_within(cfg: &[i32], event: EventNumber) -> Limits
+    requires { ⌜ RowWithin (now cfg) (event .0) ⌝ }
+    ensures { λ r. ⌜ limitsIs r ≡ limitsOf (now (cfg .entry)) (event .0) ⌝ }
+{
+    Limits {
+        confirm: count_within(cfg, event, CONFIRM),
+        heal: count_within(cfg, event, HEAL),
+        age: count_within(cfg, event, AGE),
+        indicator: count_within(cfg, event, INDICATOR) == 1,
+    }
+}
+
 const PART_WIDTH: usize = IN_FRONT + ROW_WIDTH;
 
 // The event's row with the three numbers before it: read as a configuration, it is the row of event 0. It is as long

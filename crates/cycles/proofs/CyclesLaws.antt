@@ -18,6 +18,8 @@ use Rattle.manual.proofs.AnswersLaws.{none-applies}
 use Rattle.manual.proofs.ConfigurationLaws.{config-tells}
 use Rattle.manual.proofs.WellFormedLaws.{state-tells}
 use Rattle.manual.proofs.StaysWellFormed.{stops-keep}
+use Rattle.config.specs.Rows.{RowWithin}
+use Rattle.config.proofs.PartLaws.{row-within}
 use Rattle.judgement.specs.Fits.{RecordsFor}
 use Rattle.one_event.specs.Ready.{EventFits}
 use Rattle.cycles.specs.Cycles.{fourFive, MayStop}
@@ -42,9 +44,9 @@ module _ (cfg : Configuration) (s : State) (c : ℕ) (wrong : Bool)
 
 pub record-within : (cfg : Configuration) (records records′ : List ℕ) (e : ℕ) → RecordsFor cfg records
     → length records′ ≡ length records → e < events cfg
-    → (e < 512) × (recordWidth * e + recordWidth ≤ length records′)
+    → RowWithin cfg e × (recordWidth * e + recordWidth ≤ length records′)
 record-within cfg records records′ e r l h =
-    let most = config-tells cfg (r .accepted) .n-most in let long = r .as-long in (omega arith, omega arith)
+    let long = r .as-long in (row-within cfg e (r .accepted) h, omega arith)
 
 pub stop-fits : (cfg : Configuration) (s : State) (c : ℕ) → MayStop cfg s c → (i : ℕ) {t : State} → i < events cfg
     → t ≡ forBelow i (turn (ofCycle cfg c) (stops cfg)) s

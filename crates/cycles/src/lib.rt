@@ -13,12 +13,12 @@ ghost use lib.Dec.{ltb};
 ghost use lib.IntN.{ℤ};
 ghost use lib.ListN.{length};
 ghost use Rattle.history.specs.History.{start};
-ghost use Rattle.manual.specs.Configuration.{mostEvents};
 ghost use Rattle.manual.specs.declared.Board.{Board};
 ghost use Rattle.manual.specs.State.{recordWidth, lent, withCycle};
 ghost use Rattle.manual.specs.OneEvent.{happens, stops, forThose};
 ghost use Rattle.manual.specs.Answers.{alone, refused, done, firstThatApplies, numberOf, ofAnswer, leaves};
 ghost use Rattle.manual.specs.Calls.{begins, ofCycle, startCycle, stopCycle};
+ghost use Rattle.config.specs.Rows.{RowWithin};
 ghost use Rattle.judgement.specs.Checks.{checkNumber};
 ghost use Rattle.judgement.specs.Fits.{RecordsFor};
 ghost use Rattle.one_event.specs.Ready.{EventFits};
@@ -91,10 +91,10 @@ fn done(board: Board) -> Returned
 
 // Whether the event is one of the cycle.
 fn of_cycle(cfg: &[i32], cycle: usize, event: EventNumber) -> bool
-    requires { ⌜ event .0 < mostEvents ⌝ }
+    requires { ⌜ RowWithin (now cfg) (event .0) ⌝ }
     ensures { λ r. ⌜ r ≡ ofCycle (now (cfg .entry)) cycle (event .0) ⌝ }
 {
-    config::cycle_of(cfg, event) == cycle
+    config::cycle_within(cfg, event) == cycle
 }
 
 // The board with the cycle turned on or off.
@@ -115,7 +115,7 @@ fn turned(board: Board, cycle: usize, on: bool) -> Board
 
 // The event, where it is one of the cycle.
 fn start_event(cfg: &[i32], records: &mut [u8], cycle: usize, event: EventNumber)
-    requires { ⌜ (event .0 < mostEvents) × (recordWidth * event .0 + recordWidth ≤ length (now records)) ⌝ }
+    requires { ⌜ (RowWithin (now cfg) (event .0)) × (recordWidth * event .0 + recordWidth ≤ length (now records)) ⌝ }
     ensures { λ _. ⌜ ((d : List ℤ) (m : List ℕ) (b : Board)
         → lent (now (records .exit)) d m b
         ≡ cond (ofCycle (now (cfg .entry)) cycle (event .0))

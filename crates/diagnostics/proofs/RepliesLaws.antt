@@ -171,11 +171,11 @@ module _ (cfg : Configuration) where
         (number-in (Matching (maskOf cfg request))
         ∙ sym (e ∙ ap (λ k. countBelow (events cfg) (asks cfg (Matching k) read)) m))
 
-    pub list-length : (head : List ℕ) (asked : Asked) {number : ℕ}
-        → number ≡ countBelow (events cfg) (asks cfg asked read)
-        → length (head ++ linesAsked cfg asked s) ≡ length head + 4 * number
-    list-length head asked e =
-        let l = lines-length asked s ∙ ap (λ k. 4 * k) (number-in asked ∙ sym e) in
+    pub list-length : (head : List ℕ) (asked : Asked)
+        → length (head ++ linesAsked cfg asked s)
+        ≡ length head + 4 * countBelow (events cfg) (asks cfg asked read)
+    list-length head asked =
+        let l = lines-length asked s ∙ ap (λ k. 4 * k) (number-in asked) in
         omega (arith, length-append head (linesAsked cfg asked s))
 
     -- the tests of 01, and of a sub-function that lists
@@ -187,15 +187,15 @@ module _ (cfg : Configuration) where
       number-tests m e =
           record { length-is = refl; suppressed-is = p; bytes-are = number-reply request m e; long-is = refl }
 
-      pub list-tests : (head : List ℕ) (size : ℕ) (asked : Asked) {number : ℕ}
-          → number ≡ countBelow (events cfg) (asks cfg asked read)
+      pub list-tests : (head : List ℕ) (size : ℕ) (asked : Asked) {long : Bool}
+          → long ≡ ltb room (length head + 4 * countBelow (events cfg) (asks cfg asked read))
           → Tests cfg (listing cfg head size asked) request room s (head ++ linesAsked cfg asked s)
-          (not (eqb (length request) size)) suppressed (ltb room (length head + 4 * number))
+          (not (eqb (length request) size)) suppressed long
       list-tests head size asked e = record {
         length-is = refl;
         suppressed-is = p;
         bytes-are = refl;
-        long-is = ap (ltb room) (sym (list-length head asked e));
+        long-is = e ∙ ap (ltb room) (sym (list-length head asked));
       }
 
   -- the sub-functions that list

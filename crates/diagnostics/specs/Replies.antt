@@ -18,6 +18,8 @@ use Rattle.manual.specs.Diagnostics.{Reply, positive, negative, Served, served,
 use Rattle.manual.specs.Diagnostics.{matches, line, lines, isNear, counterByte, suppresses, subFunctionReply, replied}
 use Rattle.diagnostics.specs.declared.Asked.{Asked}
 use Rattle.diagnostics.specs.declared.Asked.the-variants.{All, Matching, Near}
+use Rattle.diagnostics.specs.declared.LineByte.{LineByte}
+use Rattle.diagnostics.specs.declared.LineByte.the-variants.{Shown, Nothing}
 use Rattle.diagnostics.specs.declared.Turn.{Turn}
 use Rattle.diagnostics.specs.declared.Turn.the-variants.{Write, Suppressed}
 use Rattle.diagnostics.specs.declared.ClearRequest.{ClearRequest}
@@ -55,6 +57,11 @@ module _ (cfg : Configuration) where
 
   abbrev pub lineIfAsked : Asked → State → ℕ → List ℕ
   lineIfAsked asked s e = cond (asks asked s e) (line cfg (shows asked s) e) []
+
+  -- the event's line with the byte that it shows, or no line
+  abbrev pub lineWith : ℕ → LineByte → List ℕ
+  lineWith e (Shown byte) = line cfg (λ x. byte) e
+  lineWith e Nothing = []
 
   abbrev pub linesAsked : Asked → State → List ℕ
   linesAsked asked s = lines cfg (asks asked s) (shows asked s)

@@ -10,13 +10,13 @@ use memory::Find;
 ghost use mathlib.Core.Path.{_≡_};
 ghost use mathlib.Core.Bool.{true, cond};
 ghost use mathlib.Core.List.{List, [], _∷_};
-ghost use Prim.Native.Nat.{_+_, _%_, _<_, _≤_};
-ghost use lib.IntN.{ℤ};
+ghost use Prim.Native.Nat.{_+_, _*_, _%_, _<_, _≤_};
+ghost use lib.IntN.{ℤ, pos};
 ghost use lib.ListN.{length, getD};
 ghost use lib.Dec.{eqb, ltb};
-ghost use Rattle.manual.specs.Words.{countBelow, threeAt};
+ghost use Rattle.manual.specs.Words.{countBelow, threeAt, between, twosComplement};
 ghost use Rattle.manual.specs.Configuration.{Configuration, mostEvents, events, entryFrames, configOk};
-ghost use Rattle.manual.specs.State.{State, lent};
+ghost use Rattle.manual.specs.State.{State, lent, statusByte};
 ghost use Rattle.manual.specs.WellFormed.{wellFormed};
 ghost use Rattle.manual.specs.Answers.{lentRoom, _if_, firstThatApplies, ofLength, leaves};
 ghost use Rattle.manual.specs.Diagnostics.{negative, replyBytes, served, subFunction, line, maskOf, suppresses};
@@ -29,7 +29,8 @@ ghost use Rattle.config.specs.Search.{searchIs};
 ghost use Rattle.judgement.specs.Checks.{checkNumber};
 ghost use Rattle.memory.specs.Places.{atPlace};
 ghost use Rattle.writing.specs.Writing.{written, append};
-ghost use Rattle.diagnostics.specs.Replies.{InStatesWith, holding, sentIs, asks, shows, lineIfAsked, linesAsked};
+ghost use Rattle.diagnostics.specs.Replies.{InStatesWith, holding, sentIs, asks, lineIfAsked, lineWith};
+ghost use Rattle.diagnostics.specs.Replies.{linesAsked};
 ghost use Rattle.diagnostics.specs.Replies.{EventFits, BytesFit, Accepted, MayList, subFunctionOutcome, listing};
 ghost use Rattle.diagnostics.specs.Replies.{TurnBy};
 ghost use Rattle.diagnostics.specs.Showing.{remembering, numberOf, tells, toldLength, shownLength, showsOne};
@@ -51,6 +52,12 @@ enum Asked {
     All,
     Matching(u8),
     Near,
+}
+
+// The byte that a line shows of an event, or nothing of one that is not asked for.
+enum LineByte {
+    Shown(u8),
+    Nothing,
 }
 
 // What a reply shows of an event's entry: its frame, or its details.
@@ -159,14 +166,20 @@ fn matches(records: &[u8], event: EventNumber, mask: u8) -> bool
     status.0 & mask != 0
 }
 
+// "counter is 1 to 126"
+fn tells_near(counter: i64) -> bool
+    ensures { λ r. ⌜ r ≡ between (pos 1) (pos 126) counter ⌝ }
+{
+    (1 <= counter) & (counter <= 126)
+}
+
 // "each event whose counter is 1 to 126"
 fn is_near(cfg: &[i32], records: &[u8], debounce: &[i32], event: EventNumber) -> bool
     requires { ⌜ event .0 < mostEvents ⌝ }
     ensures { λ r. ⌜ r
         ≡ isNear (now (cfg .entry)) (holding (now (records .entry)) (now (debounce .entry))) (event .0) ⌝ }
 {
-    let counter = counter::counter_of(cfg, records, debounce, event);
-    (1 <= counter) & (counter <= 126)
+    tells_near(counter::counter_of(cfg, records, debounce, event))
 }
 
 // Whether a reply lists or counts the event.
@@ -182,28 +195,12 @@ fn is_asked(cfg: &[i32], records: &[u8], debounce: &[i32], event: EventNumber, a
     }
 }
 
-// "counter byte (two's complement)", of an event that is listed by its counter.
-fn counter_byte(cfg: &[i32], records: &[u8], debounce: &[i32], event: EventNumber) -> u8
-    requires { ⌜ (event .0 < mostEvents)
-        × (isNear (now cfg) (holding (now records) (now debounce)) (event .0) ≡ true) ⌝ }
-    ensures { λ r. ⌜ r
-        ≡ counterByte (now (cfg .entry)) (holding (now (records .entry)) (now (debounce .entry))) (event .0) ⌝ }
+// "counter byte (two's complement)", of a counter that is listed.
+fn counter_byte(counter: i64) -> u8
+    requires { ⌜ between (pos 1) (pos 126) counter ≡ true ⌝ }
+    ensures { λ r. ⌜ r ≡ twosComplement counter ⌝ }
 {
-    counter::counter_of(cfg, records, debounce, event) as u8
-}
-
-// The byte that a line shows of an event that is asked for.
-fn shown(cfg: &[i32], records: &[u8], debounce: &[i32], event: EventNumber, asked: Asked) -> u8
-    requires { ⌜ (event .0 < mostEvents)
-        × (asks (now cfg) asked (holding (now records) (now debounce)) (event .0) ≡ true) ⌝ }
-    ensures { λ r. ⌜ r
-        ≡ shows (now (cfg .entry)) asked (holding (now (records .entry)) (now (debounce .entry))) (event .0) ⌝ }
-{
-    match asked {
-        Asked::All => status::status_of(records, event).0,
-        Asked::Matching(_) => status::status_of(records, event).0,
-        Asked::Near => counter_byte(cfg, records, debounce, event),
-    }
+    counter as u8
 }
 
 // A number that rises by one where a test holds.
@@ -252,11 +249,59 @@ fn write_line(cfg: &[i32], event: EventNumber, byte: u8, room: &mut [u8], at: us
     ensures { λ r. ⌜ written r (now (room .exit))
         ≡ append (line (now (cfg .entry)) (λ e. byte) (event .0)) (written at (now (room .entry))) ⌝ }
 {
-    let code = config::code_of(cfg, event);
+    let code = config::code_within(cfg, event);
     let high = (code / 65536) as u8;
     let middle = (code / 256 % 256) as u8;
     let low = (code % 256) as u8;
     writing::write(room, at, &[high, middle, low, byte])
+}
+
+// The byte of the event's line, where its status and the mask share a set bit.
+fn byte_where_matching(records: &[u8], event: EventNumber, mask: u8) -> LineByte
+    ensures { λ r. ⌜ ((cfg : Configuration) (d : List ℤ)
+        → lineWith cfg (event .0) r
+        ≡ cond (matches cfg mask (holding (now (records .entry)) d) (event .0))
+        (line cfg (statusByte (holding (now (records .entry)) d)) (event .0)) []) ⌝ }
+{
+    if matches(records, event, mask) {
+        return LineByte::Shown(status::status_of(records, event).0);
+    }
+    LineByte::Nothing
+}
+
+// The byte of the event's line, where it is near a fault.
+fn byte_where_near(cfg: &[i32], records: &[u8], debounce: &[i32], event: EventNumber) -> LineByte
+    requires { ⌜ event .0 < mostEvents ⌝ }
+    ensures { λ r. ⌜ lineWith (now (cfg .entry)) (event .0) r
+        ≡ cond (isNear (now (cfg .entry)) (holding (now (records .entry)) (now (debounce .entry))) (event .0))
+        (line (now (cfg .entry))
+        (counterByte (now (cfg .entry)) (holding (now (records .entry)) (now (debounce .entry)))) (event .0)) [] ⌝ }
+{
+    let counter = counter::counter_of(cfg, records, debounce, event);
+    if tells_near(counter) {
+        return LineByte::Shown(counter_byte(counter));
+    }
+    LineByte::Nothing
+}
+
+// The byte that the event's line shows, where the event is asked for.
+fn line_byte(
+    cfg: &[i32],
+    records: &[u8],
+    debounce: &[i32],
+    event: EventNumber,
+    asked: Asked,
+) -> LineByte
+    requires { ⌜ event .0 < mostEvents ⌝ }
+    ensures { λ r. ⌜ lineWith (now (cfg .entry)) (event .0) r
+        ≡ lineIfAsked (now (cfg .entry)) asked (holding (now (records .entry)) (now (debounce .entry)))
+        (event .0) ⌝ }
+{
+    match asked {
+        Asked::All => LineByte::Shown(status::status_of(records, event).0),
+        Asked::Matching(mask) => byte_where_matching(records, event, mask),
+        Asked::Near => byte_where_near(cfg, records, debounce, event),
+    }
 }
 
 // The line of an event that is asked for, and nothing of another.
@@ -276,11 +321,10 @@ fn write_line_if_asked(
         (lineIfAsked (now (cfg .entry)) asked (holding (now (records .entry)) (now (debounce .entry))) (event .0))
         (written at (now (room .entry))) ⌝ }
 {
-    if is_asked(cfg, records, debounce, event, asked) {
-        let byte = shown(cfg, records, debounce, event, asked);
-        return write_line(cfg, event, byte, room, at);
+    match line_byte(cfg, records, debounce, event, asked) {
+        LineByte::Shown(byte) => write_line(cfg, event, byte, room, at),
+        LineByte::Nothing => at,
     }
-    at
 }
 
 // The lines of the events that are asked for, "rising".
@@ -363,6 +407,30 @@ fn number_by_mask(
     }
 }
 
+// Whether the lines of the events that are asked for, behind a head of so many bytes, are longer than the room. The
+// events are counted only where the room does not hold a line of each.
+fn is_too_long(
+    cfg: &[i32],
+    records: &[u8],
+    debounce: &[i32],
+    asked: Asked,
+    head: usize,
+    room: usize,
+) -> bool
+    requires { ⌜ (configOk (now cfg) ≡ true) × (head ≤ 3) ⌝ }
+    ensures { λ r. ⌜ r
+        ≡ ltb room
+        (head +
+        4 *
+        countBelow (events (now (cfg .entry)))
+        (asks (now (cfg .entry)) asked (holding (now (records .entry)) (now (debounce .entry))))) ⌝ }
+{
+    if head + LINE_WIDTH * config::events(cfg) <= room {
+        return false;
+    }
+    room < head + LINE_WIDTH * number_asked(cfg, records, debounce, asked)
+}
+
 // The head of the reply, "then per matching event trouble code (3 bytes high first) and status, rising", or "all events
 // likewise", or those that are near a fault with their counters.
 fn list_asked(
@@ -385,8 +453,7 @@ fn list_asked(
         (now (request .entry)) (now (room .entry)) s)
         ⌝ }
 {
-    let too_long = room.len()
-        < head.len() + LINE_WIDTH * number_asked(cfg, records, debounce, asked);
+    let too_long = is_too_long(cfg, records, debounce, asked, head.len(), room.len());
     match turn_of(request.len() != size, suppresses(request), too_long) {
         Turn::Negative(code) => negative(0x19, code, room),
         Turn::Suppressed => 0,

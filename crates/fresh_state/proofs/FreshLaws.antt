@@ -16,8 +16,8 @@ use Rattle.manual.specs.Calls.{freshRecords, freshState}
 use Rattle.manual.proofs.WellFormedLaws.{LengthsTell, lengths-tell}
 use Rattle.manual.proofs.RecordsFollowHistories.{fresh-follows}
 use Rattle.writing.proofs.PartlyWritten.{mix, mix-more, mix-all}
-use Rattle.fresh_state.specs.Filled.{filledFrom}
-use Rattle.fresh_state.proofs.FilledLaws.{filled-whole}
+use Rattle.writing.specs.Filled.{filledFrom}
+use Rattle.writing.proofs.FilledLaws.{filled-whole}
 
 -- ---- the records
 

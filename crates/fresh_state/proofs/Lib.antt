@@ -1,3 +1,2 @@
-pub mod FilledLaws
 pub mod FreshLaws
 pub mod OneOutcomeOnly

@@ -17,7 +17,6 @@ ghost use Rattle.manual.specs.State.{recordWidth, stored, withStored, allStoppe
 ghost use Rattle.manual.specs.WellFormed.{lengthsFit};
 ghost use Rattle.manual.specs.Answers.{alone, ofAnswer, leaves};
 ghost use Rattle.manual.specs.Calls.{freshRecords, freshState, fresh};
-ghost use Rattle.fresh_state.specs.Filled.{filledFrom};
 
 // ---- the blocks
 
@@ -48,16 +47,6 @@ pub fn reset_numbers(debounce: &mut [i32])
     }
 }
 
-// Bytes 0 from `from` on, as behind the last entry of memory; those before stay.
-pub fn zero_from(memory: &mut [u8], from: usize)
-    requires { ⌜ from ≤ length (now memory) ⌝ }
-    ensures { λ _. ⌜ now (memory .exit) ≡ filledFrom 0 from (now (memory .entry)) ⌝ }
-{
-    for i in from..memory.len() {
-        memory[i] = 0;
-    }
-}
-
 // ---- the board
 
 // "cycles stopped"
@@ -80,7 +69,7 @@ fn make_fresh(cfg: &[i32], records: &mut [u8], debounce: &mut [i32], memory: &mu
 {
     fresh_records(cfg, records);
     reset_numbers(debounce);
-    zero_from(memory, 0);
+    writing::zero_from(memory, 0);
     stopped_board(false)
 }
 

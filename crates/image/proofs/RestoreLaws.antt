@@ -31,7 +31,7 @@ use Rattle.image.specs.Ready.{Restorable}
 use Rattle.image.proofs.LayoutLaws.{Fitting, usedPart, flagByte, headerPart}
 use Rattle.image.proofs.LayoutLaws.{parts-fit, parts-joined, length-least}
 use Rattle.image.proofs.JudgementLaws.{accepted-length, records-cut, used-cut, state-in}
-use Rattle.fresh_state.specs.Filled.{filledFrom}
+use Rattle.writing.specs.Filled.{filledFrom}
 
 -- ---- the judge
 

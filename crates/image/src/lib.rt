@@ -301,7 +301,7 @@ fn fill_memory(memory: &mut [u8], used: &[u8])
         ≡ now (used .entry) ++ replicate (length (now (memory .entry)) - length (now (used .entry))) 0 ⌝ }
 {
     let end = writing::write(memory, 0, used);
-    fresh_state::zero_from(memory, end);
+    writing::zero_from(memory, end);
 }
 
 // Makes the state that the image tells: its records, every D 0, its entries, all cycles stopped, its overflow flag.

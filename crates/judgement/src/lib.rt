@@ -10,12 +10,13 @@ ghost use lib.ListN.{length, getD};
 ghost use Prim.Native.Nat.{_+_, _*_, _≤_};
 ghost use Rattle.manual.specs.declared.Board.{Board};
 ghost use Rattle.manual.specs.Words.{allBelow};
-ghost use Rattle.manual.specs.Configuration.{events, configOk};
+ghost use Rattle.manual.specs.Configuration.{events, limitsOf, configOk};
 ghost use Rattle.manual.specs.State.{recordWidth, runs, opened, storedAt, lent};
 ghost use Rattle.manual.specs.WellFormed.{lengthsFit, recordOk, DOk, wellFormed};
 ghost use Rattle.manual.specs.Answers.{firstThatApplies};
 ghost use Rattle.manual.specs.Calls.{begins, beginsWithLengths};
-ghost use Rattle.config.specs.Rows.{RowWithin};
+ghost use Rattle.config.specs.Rows.{RowWithin, RowsWithin};
+ghost use Rattle.status.specs.Clauses.{bytesOk, limitsKept};
 ghost use Rattle.judgement.specs.Checks.{checkNumber, twoThree};
 ghost use Rattle.judgement.specs.Fits.{EventIn, RecordsFor, NumbersFor};
 
@@ -52,29 +53,64 @@ pub fn lengths_fit(cfg: &[i32], records: &[u8], debounce: &[i32], memory: &[u8])
         & (memory.len() == memory_length)
 }
 
-// The event's record, by the clauses from "bit 4 set means …" to "… g = 0 when bit 3 is clear".
-fn record_ok(cfg: &[i32], records: &[u8], event: EventNumber) -> bool
-    requires { ⌜ (RowWithin (now cfg) (event .0)) × (recordWidth * event .0 + recordWidth ≤ length (now records)) ⌝ }
-    ensures { λ r. ⌜ r
-        ≡ recordOk (now (cfg .entry)) (event .0) (opened (storedAt (event .0) (now (records .entry)))) ⌝ }
+// The clauses on an event's record that ask for no number of its row. They are judged in a pass of their own: on bytes
+// alone the compiler judges more records at once.
+fn bytes_ok(records: &[u8], event: EventNumber) -> bool
+    requires { ⌜ recordWidth * event .0 + recordWidth ≤ length (now records) ⌝ }
+    ensures { λ r. ⌜ r ≡ bytesOk (opened (storedAt (event .0) (now (records .entry)))) ⌝ }
 {
-    let limits = config::limits_of(config::part_of(cfg, event), EventNumber(0));
-    let record = status::read_record(records, event);
-    status::record_ok(limits.heal, limits.age, limits.indicator, record)
+    status::bytes_ok(status::read_record(records, event))
 }
 
-// "for each event": the clauses on its record.
+// "for each event": these clauses.
+fn all_bytes_ok(records: &[u8], n: usize) -> bool
+    requires { ⌜ recordWidth * n ≤ length (now records) ⌝ }
+    ensures { λ r. ⌜ r ≡ allBelow n (λ e. bytesOk (opened (storedAt e (now (records .entry))))) ⌝ }
+{
+    let mut ok = true;
+    for event in 0..n {
+        ok = ok & bytes_ok(records, EventNumber(event));
+    }
+    ok
+}
+
+// The clauses on an event's record that ask for a limit, where bit 3 or 7 is set: most rows need not be read for them.
+fn limits_kept(cfg: &[i32], records: &[u8], event: EventNumber) -> bool
+    requires { ⌜ (RowWithin (now cfg) (event .0)) × (recordWidth * event .0 + recordWidth ≤ length (now records)) ⌝ }
+    ensures { λ r. ⌜ r
+        ≡ limitsKept (limitsOf (now (cfg .entry)) (event .0)) (opened (storedAt (event .0) (now (records .entry)))) ⌝ }
+{
+    let record = status::read_record(records, event);
+    if !status::is_limited(record) {
+        return true;
+    }
+    let limits = config::limits_within(cfg, event);
+    status::limits_ok(limits.heal, limits.age, limits.indicator, record)
+}
+
+// "for each event": these clauses.
+fn all_limits_kept(cfg: &[i32], records: &[u8], n: usize) -> bool
+    requires { ⌜ (RowsWithin (now cfg) n) × (recordWidth * n ≤ length (now records)) ⌝ }
+    ensures { λ r. ⌜ r
+        ≡ allBelow n
+        (λ e. limitsKept (limitsOf (now (cfg .entry)) e) (opened (storedAt e (now (records .entry))))) ⌝ }
+{
+    let mut ok = true;
+    for event in 0..n {
+        ok = ok & limits_kept(cfg, records, EventNumber(event));
+    }
+    ok
+}
+
+// "for each event": the clauses on its record, from "bit 4 set means …" to "… g = 0 when bit 3 is clear".
 pub fn records_ok(cfg: &[i32], records: &[u8]) -> bool
     requires { ⌜ RecordsFor (now cfg) (now records) ⌝ }
     ensures { λ r. ⌜ r
         ≡ allBelow (events (now (cfg .entry)))
         (λ e. recordOk (now (cfg .entry)) e (opened (storedAt e (now (records .entry))))) ⌝ }
 {
-    let mut ok = true;
-    for event in 0..config::events(cfg) {
-        ok = ok & record_ok(cfg, records, EventNumber(event));
-    }
-    ok
+    let n = config::events(cfg);
+    all_bytes_ok(records, n) & all_limits_kept(cfg, records, n)
 }
 
 // As `runs`, by comparing the cycle with each of the four: in a pass over the events an index that a row gives keeps
@@ -88,8 +124,8 @@ fn one_runs(board: Board, cycle: usize) -> bool
         | (board.running[3] & (cycle == 3))
 }
 
-// "D is 0 if the event's cycle is stopped or its kind is 0, else in P..Q (kind 1) or P−1..Q+1 (kind 2)". Any number may
-// be judged. A branch, too, would keep the compiler from judging several at once.
+// "D is 0 if the event's cycle is stopped or its kind is 0, else in P..Q (kind 1) or P−1..Q+1 (kind 2)": 0 is right for
+// every event. Any number may be judged. A branch, too, would keep the compiler from judging several at once.
 pub fn number_ok(cfg: &[i32], board: Board, event: EventNumber, d: i32) -> bool
     requires { ⌜ EventIn (now cfg) (event .0) ⌝ }
     ensures { λ r. ⌜ r ≡ DOk (now (cfg .entry)) board (event .0) d ⌝ }
@@ -97,9 +133,9 @@ pub fn number_ok(cfg: &[i32], board: Board, event: EventNumber, d: i32) -> bool
     let part = config::part_of(cfg, event);
     let row = debounce::row_of(part, EventNumber(0));
     let running = one_runs(board, config::cycle_of(part, EventNumber(0)));
-    let must_be_zero = !running | (row.kind == config::INTERNAL);
+    let moves = running & (row.kind != config::INTERNAL);
     let within = (debounce::bottom(row) <= d) & (d <= debounce::top(row));
-    (must_be_zero & (d == 0)) | (!must_be_zero & within)
+    (d == 0) | (moves & within)
 }
 
 // "for each event": the clause on its debounce number.

@@ -12,10 +12,6 @@ use Rattle.memory.specs.Places.{atPlace}
 unfoldable pub closed : ℕ → ℕ → List ℕ → List ℕ
 closed at w m = take at m ++ (drop (at + w) m ++ replicate w 0)
 
--- m with the eight bytes that stand w behind `at` written from there on
-unfoldable pub eightMoved : ℕ → ℕ → List ℕ → List ℕ
-eightMoved at w m = sets m at (take 8 (drop (at + w) m))
-
 -- the block with the bytes of the entry at place p taken out
 unfoldable pub gapClosed : ℕ → ℕ → List ℕ → List ℕ
 gapClosed F p m = closed (bytesInUse F p) (entryWidth F) m

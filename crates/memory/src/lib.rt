@@ -109,6 +109,20 @@ pub fn payload_at<'a>(memory: &'a [u8], payload_bytes: usize, place: Place) -> &
     &memory[start..end]
 }
 
+// Whether the entry at a place is the event's. Most are told by the low byte of their number, so it is looked at first.
+fn is_of(memory: &[u8], payload_bytes: usize, place: Place, event: EventNumber) -> bool
+    requires { ⌜ PlaceFits «payload_bytes» (now memory) (place .0) ⌝ }
+    ensures { λ r. ⌜ r
+        ≡ eqb (eventOf (atPlace (place .0) (entriesOf «payload_bytes» (now (memory .entry))))) (event .0) ⌝ }
+{
+    let start = start_of(payload_bytes, place);
+    let low = block::wide(memory[start + 1]);
+    if low != event.0 % 256 {
+        return false;
+    }
+    block::wide(memory[start]) * 256 + low == event.0
+}
+
 // The place of the event's entry.
 pub fn place_of(memory: &[u8], payload_bytes: usize, event: EventNumber) -> Find
     requires { ⌜ EntriesFit «payload_bytes» (now memory) ⌝ }
@@ -117,8 +131,7 @@ pub fn place_of(memory: &[u8], payload_bytes: usize, event: EventNumber) -> Find
     let entries = entry_count(memory);
     let mut i = 0;
     while i < entries {
-        let other = event_at(memory, payload_bytes, Place(i));
-        if other.0 == event.0 {
+        if is_of(memory, payload_bytes, Place(i), event) {
             return Find::At(Place(i));
         }
         i += 1;

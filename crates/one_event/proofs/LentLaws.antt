@@ -1,11 +1,11 @@
 -- What a step of the code leaves in the lent blocks is what the manual says of the state that they are.
-use mathlib.Core.Path.{_≡_, sym, ap, subst, _∙_}
+use mathlib.Core.Path.{_≡_, refl, sym, ap, subst, _∙_}
 use mathlib.Core.Bool.{Bool, true, false, _||_, cond}
-use mathlib.Core.List.{List}
-use Prim.Native.Nat.{ℕ, _+_, _*_, _≤_}
+use mathlib.Core.List.{List, [], _∷_}
+use Prim.Native.Nat.{ℕ, zero, suc, _+_, _*_, _≤_, _<_}
 use native.Mathlib.Omega.{arith}
 use lib.IntN.{ℤ, pos}
-use lib.ListN.{length, set}
+use lib.ListN.{length, getD, set}
 use Rattle.history.specs.StatusByte as status
 use Rattle.history.specs.StatusByte.{freshRecord, freshFailure, agesAtStop}
 use Rattle.history.specs.History.{Token, failed, stop, step}
@@ -30,11 +30,12 @@ use Rattle.debounce.proofs.RowsLaws.{reported-is, ticked-is, small-report, smal
 use Rattle.status.specs.declared.Record.{Record}
 use Rattle.status.specs.declared.AfterFailed.{AfterFailed}
 use Rattle.status.specs.declared.AfterStop.{AfterStop}
-use Rattle.status.specs.Records.{storedIs, recordIs, limits, FailedIs, RoomToRise, StoppedIs}
+use Rattle.status.specs.Records.{storedIs, recordIs, limits, FailedIs, RoomToRise, StoppedIs, restsAtStop}
 use Rattle.status.proofs.RecordsLaws.{step-written, has-room}
+use Rattle.status.proofs.RestsLaws.{rests}
 use Rattle.memory.specs.Store.{quietIn, Left, leftWith, stores}
-use Rattle.one_event.specs.Ready.{flagged, accepts, BlocksFit, EventFits, Ready}
-use Rattle.one_event.specs.Steps.{resetting, Stepped, stepped, tellsMemory, failing, qualifying}
+use Rattle.one_event.specs.Ready.{flagged, accepts, BlocksFit, RecordFits, Ready}
+use Rattle.one_event.specs.Steps.{recordStopped, resetting, Stepped, stepped, tellsMemory, failing, qualifying}
 use Rattle.one_event.specs.Steps.{applying, reporting, ticking}
 
 -- ---- what the functions of the crates below ask
@@ -43,12 +44,11 @@ pub record-within : {cfg : Configuration} {records memory : List ℕ} {e : ℕ} 
     → recordWidth * e + recordWidth ≤ length records
 record-within f = omega (arith, f .below, f .records-fit)
 
-pub may-stop : {cfg : Configuration} {records : List ℕ} {debounce : List ℤ} {memory : List ℕ} {e : ℕ}
-    → EventFits cfg records debounce memory e
+pub may-stop : {cfg : Configuration} {records : List ℕ} {e : ℕ} → RecordFits cfg records e
     → (r : Record) → storedIs r ≡ storedAt e records → RoomToRise r
 may-stop {cfg} {e = e} f r p =
-    let t = config-tells cfg (f .configured) .row e (f .blocks .below) in has-room (limitsOf cfg e) r p (t .heal-most)
-    (t .age-most) (f .kept)
+    let t = config-tells cfg (f .configured) .row e (f .below) in
+    has-room (limitsOf cfg e) r p (t .heal-most) (t .age-most) (f .kept)
 
 -- ---- the record
 
@@ -61,6 +61,50 @@ module _ (cfg : Configuration) (e : ℕ) (records : List ℕ) where
   unfolding happens
   happens-is t r r′ p q w d m b =
       ap (λ (l : List ℕ). lent l d m b) (step-written (limitsOf cfg e) t e records r r′ p q w)
+
+-- ---- the record at a stop
+
+set-own : (l : List ℕ) (i : ℕ) → set l i (getD l i 0) ≡ l
+set-own [] i = refl
+set-own (x ∷ l) zero = refl
+set-own (x ∷ l) (suc i) = ap (λ (r : List ℕ). x ∷ r) (set-own l i)
+
+-- a record written over itself
+stored-own : (e : ℕ) (m : List ℕ) → withStored e (storedAt e m) m ≡ m
+unfolding withStored storedAt
+stored-own e m =
+    let at = recordWidth * e in
+    ap (λ (l : List ℕ). set (set (set l (at + 1) (getD m (at + 1) 0)) (at + 2) (getD m (at + 2) 0)) (at + 3)
+    (getD m (at + 3) 0)) (set-own m at)
+    ∙ ap (λ (l : List ℕ). set (set l (at + 2) (getD m (at + 2) 0)) (at + 3) (getD m (at + 3) 0)) (set-own m (at + 1))
+    ∙ ap (λ (l : List ℕ). set l (at + 3) (getD m (at + 3) 0)) (set-own m (at + 2))
+    ∙ set-own m (at + 3)
+
+module _ (cfg : Configuration) (e : ℕ) (records : List ℕ) (r : Record) (p : storedIs r ≡ storedAt e records) where
+  abbrev ageing : Bool
+  ageing = agesAtStop (limitsOf cfg e) (opened (storedAt e records))
+
+  aged-is : {f : AfterStop} → StoppedIs (limitsOf cfg e) r f → f .aged ≡ ageing
+  aged-is is = is .aged ∙ ap (λ (x : Stored). agesAtStop (limitsOf cfg e) (opened x)) p
+
+  pub rests-there : r .status .0 < 256 → restsAtStop (recordIs r) ≡ true
+      → (records ≡ recordStopped cfg e records) × (false ≡ ageing)
+  rests-there b t =
+      let is = rests (limitsOf cfg e) r b t in (
+        sym (stored-own e records)
+            ∙ ap (λ (x : Stored). withStored e x records)
+            (sym p ∙ is .after ∙ ap (λ (x : Stored). stored (step (limitsOf cfg e) stop (opened x))) p),
+        aged-is is,
+      )
+
+  pub stopped-there : {records′ : List ℕ} (l : Limits) (f : AfterStop) → limitsIs l ≡ limitsOf cfg e
+      → ((C : ℕ) (i : Bool) → StoppedIs (limits C (l .heal) (l .age) i) r f)
+      → records′ ≡ withStored e (storedIs (f .«record»)) records
+      → (records′ ≡ recordStopped cfg e records) × (f .aged ≡ ageing)
+  stopped-there l f q s w =
+      let is : StoppedIs (limitsOf cfg e) r f =
+      subst (λ (n : status.Limits). StoppedIs n r f) q (s (l .confirm) (l .indicator)) in
+      (step-written (limitsOf cfg e) stop e records r (f .«record») p (is .after) w, aged-is is)
 
 -- ---- the entry
 
@@ -85,21 +129,16 @@ module _ (cfg : Configuration) (e : ℕ) (memory : List ℕ) where
 module _ (cfg : Configuration) (e : ℕ) (records : List ℕ) (debounce : List ℤ) (memory : List ℕ) {records′ : List ℕ}
     {debounce′ : List ℤ} {memory′ : List ℕ}
     (d : debounce′ ≡ set debounce e (pos 0)) where
-  pub stops-is : (l : Limits) (r : Record) (f : AfterStop) → limitsIs l ≡ limitsOf cfg e
-      → storedIs r ≡ storedAt e records
-      → ((C : ℕ) (i : Bool) → StoppedIs (limits C (l .heal) (l .age) i) r f)
-      → records′ ≡ withStored e (storedIs (f .«record»)) records
-      → ((r : List ℕ) (d : List ℤ) (b : Board) → lent r d memory′ b ≡ leavesIf cfg e memory (f .aged) r d b)
+  pub stops-is : {aged : Bool} → records′ ≡ recordStopped cfg e records
+      → aged ≡ agesAtStop (limitsOf cfg e) (opened (storedAt e records))
+      → ((r : List ℕ) (d : List ℤ) (b : Board) → lent r d memory′ b ≡ leavesIf cfg e memory aged r d b)
       → (b : Board) → lent records′ debounce′ memory′ b ≡ stops cfg e (lent records debounce memory b)
-  unfolding stops
-  stops-is l r f p q s w m b =
-      let is : StoppedIs (limitsOf cfg e) r f =
-      subst (λ (n : status.Limits). StoppedIs n r f) p (s (l .confirm) (l .indicator)) in
-      let after = happens-is cfg e records stop r (f .«record») q (is .after) w debounce memory b in
-      let aged : f .aged ≡ agesAtStop (limitsOf cfg e) (opened (storedAt e records)) =
-      is .aged ∙ ap (λ (x : Stored). agesAtStop (limitsOf cfg e) (opened x)) q in
+  unfolding stops happens
+  stops-is w q m b =
+      let after : lent records′ debounce memory b ≡ happens cfg stop e (lent records debounce memory b) =
+      ap (λ (l : List ℕ). lent l debounce memory b) w in
       ap (λ (x : List ℤ). lent records′ x memory′ b) d
-      ∙ ap (withD e (pos 0)) (m records′ debounce b ∙ (λ i. cond (aged i) (entryLeaves cfg e (after i)) (after i)))
+      ∙ ap (withD e (pos 0)) (m records′ debounce b ∙ (λ i. cond (q i) (entryLeaves cfg e (after i)) (after i)))
 
 module _ (cfg : Configuration) (e : ℕ) (records : List ℕ) (debounce : List ℤ) {records′ : List ℕ}
     {debounce′ : List ℤ} where

@@ -27,6 +27,13 @@ pub record BlocksFit (cfg : Configuration) (records memory : List ℕ) (e : ℕ)
   pub records-fit : length records ≡ recordWidth * events cfg
   pub in-order : InOrder (events cfg) (places cfg) (entryFrames cfg) memory
 
+-- under an accepted configuration, the event has a record, and it is as "well formed" asks
+pub record RecordFits (cfg : Configuration) (records : List ℕ) (e : ℕ) : Type 0 where
+  pub configured : configOk cfg ≡ true
+  pub below : e < events cfg
+  pub records-fit : length records ≡ recordWidth * events cfg
+  pub kept : recordOk cfg e (opened (storedAt e records)) ≡ true
+
 -- under an accepted configuration, the debounce numbers have room for it too, and its record is as "well formed" asks
 pub record EventFits (cfg : Configuration) (records : List ℕ) (debounce : List ℤ) (memory : List ℕ) (e : ℕ)
     : Type 0 where

@@ -2,11 +2,11 @@
 use mathlib.Core.List.{List}
 use Prim.Native.Nat.{ℕ}
 use lib.IntN.{pos}
-use Rattle.history.specs.History.{clear}
+use Rattle.history.specs.History.{stop, clear, step}
 use Rattle.manual.specs.declared.StoreAnswer.{StoreAnswer}
 use Rattle.manual.specs.declared.Verdict.{Verdict}
-use Rattle.manual.specs.Configuration.{Configuration}
-use Rattle.manual.specs.State.{State, withD}
+use Rattle.manual.specs.Configuration.{Configuration, limitsOf}
+use Rattle.manual.specs.State.{State, opened, stored, storedAt, withStored, withD}
 use Rattle.manual.specs.Answers.{Outcome, alone}
 use Rattle.manual.specs.Debouncing.{Debounced}
 use Rattle.manual.specs.OneEvent.{happens, storedFor, memoryTold, fails, failsDid, qualifies, qualifiesDid}
@@ -19,6 +19,10 @@ pub record Stepped (A : Type 0) : Type 0 where
 
 abbrev pub stepped : {A : Type 0} → A → StoreAnswer → Stepped A
 stepped x did = record { left = x; did = did }
+
+-- the records with event e's after parts (a) and (b) of a stop
+abbrev pub recordStopped : Configuration → ℕ → List ℕ → List ℕ
+recordStopped cfg e m = withStored e (stored (step (limitsOf cfg e) stop (opened (storedAt e m)))) m
 
 -- "status 50h, K = h = g = D = 0": what a clear does to event e beside memory
 abbrev pub resetting : Configuration → ℕ → State → State

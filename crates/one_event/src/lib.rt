@@ -9,16 +9,17 @@ ghost use mathlib.Core.List.{List};
 ghost use Prim.Native.Nat.{ℕ, _+_, _*_, _≤_, _<_};
 ghost use lib.IntN.{ℤ, pos};
 ghost use lib.ListN.{length, set};
+ghost use Rattle.history.specs.StatusByte.{agesAtStop};
 ghost use Rattle.history.specs.History.{passed, start};
-ghost use Rattle.manual.specs.Configuration.{Configuration, events, places, frameBytes, entryFrames};
-ghost use Rattle.manual.specs.State.{recordWidth, lent};
+ghost use Rattle.manual.specs.Configuration.{Configuration, events, places, frameBytes, entryFrames, limitsOf};
+ghost use Rattle.manual.specs.State.{recordWidth, opened, storedAt, lent};
 ghost use Rattle.manual.specs.Memory.{isLost};
 ghost use Rattle.manual.specs.OneEvent.{happens, entryLeaves, stops, clears};
 ghost use Rattle.debounce.specs.Rows.{answered};
 ghost use Rattle.memory.specs.InOrder.{InOrder};
 ghost use Rattle.memory.specs.Store.{MayStore};
-ghost use Rattle.one_event.specs.Ready.{flagged, accepts, BlocksFit, EventFits, Ready};
-ghost use Rattle.one_event.specs.Steps.{resetting, stepped, tellsMemory, failing, qualifying};
+ghost use Rattle.one_event.specs.Ready.{flagged, accepts, BlocksFit, RecordFits, EventFits, Ready};
+ghost use Rattle.one_event.specs.Steps.{recordStopped, resetting, stepped, tellsMemory, failing, qualifying};
 ghost use Rattle.one_event.specs.Steps.{applying, reporting, ticking};
 
 // "Start of a stopped cycle: for its events clears 1, sets 6."
@@ -62,6 +63,23 @@ fn reset_number(debounce: &mut [i32], event: EventNumber)
     status::write_number(debounce, event, 0);
 }
 
+// (a) and (b) on the event's record: answers whether the event aged. A record that has nothing to do is not written.
+fn stop_record(cfg: &[i32], records: &mut [u8], event: EventNumber) -> bool
+    requires { ⌜ RecordFits (now cfg) (now records) (event .0) ⌝ }
+    ensures { λ r. ⌜ (now (records .exit) ≡ recordStopped (now (cfg .entry)) (event .0) (now (records .entry)))
+        × (r ≡ agesAtStop (limitsOf (now (cfg .entry)) (event .0))
+        (opened (storedAt (event .0) (now (records .entry))))) ⌝ }
+{
+    let before = status::read_record(records, event);
+    if status::rests_at_stop(before) {
+        return false;
+    }
+    let limits = config::limits_within(cfg, event);
+    let after = status::stopped(limits.heal, limits.age, before);
+    status::write_record(records, event, after.record);
+    after.aged
+}
+
 // "Stop, for its events: (a) … (b) … at A the event ages: …, its entry leaves memory. (c) D = 0."
 pub fn stops(
     cfg: &[i32],
@@ -76,11 +94,8 @@ pub fn stops(
         ≡ stops (now (cfg .entry)) (event .0)
         (lent (now (records .entry)) (now (debounce .entry)) (now (memory .entry)) b)) ⌝ }
 {
-    let limits = config::limits_of(cfg, event);
-    let before = status::read_record(records, event);
-    let after = status::stopped(limits.heal, limits.age, before);
-    status::write_record(records, event, after.record);
-    entry_leaves_if(after.aged, cfg, memory, event);
+    let aged = stop_record(cfg, records, event);
+    entry_leaves_if(aged, cfg, memory, event);
     reset_number(debounce, event);
 }
 

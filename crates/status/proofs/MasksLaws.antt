@@ -183,6 +183,11 @@ neither-set true b = refl
 neither-set false true = refl
 neither-set false false = refl
 
+pub one-of-two : (a b : Bool) → a || (b || false) ≡ (a || b)
+one-of-two true b = refl
+one-of-two false true = refl
+one-of-two false false = refl
+
 pub one-of-three : (a b c : Bool) → a || (b || (c || false)) ≡ (a || b || c)
 one-of-three true b c = refl
 one-of-three false true c = refl

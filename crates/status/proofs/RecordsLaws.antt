@@ -1,15 +1,14 @@
 -- Laws of specs/Records.antt: a record's bytes after a step, in the lent block too, and what its clauses give.
 use mathlib.Core.Path.{_≡_, ap, _∙_}
-use mathlib.Core.Bool.{Bool, true, _&&_}
-use mathlib.Core.List.{List, [], _∷_}
+use mathlib.Core.Bool.{true}
+use mathlib.Core.List.{List}
 use Prim.Native.Nat.{ℕ, _≤_, _<_}
 use native.Mathlib.Omega.{arith}
 use borrow.Author.Tests.{ltb-true}
-use Rattle.history.specs.Words.{holds}
 use Rattle.history.specs.StatusByte.{Status, statusOf, Limits}
 use Rattle.history.specs.WellFormed.{wellFormedRecord}
 use Rattle.history.specs.History.{Token, step}
-use Rattle.history.proofs.WordsLaws.{and-true, and-assoc, part}
+use Rattle.history.proofs.WordsLaws.{part}
 use Rattle.manual.specs.State.{Stored, opened, stored, storedAt, withStored}
 use Rattle.status.specs.declared.Record.{Record}
 use Rattle.status.specs.Records.{storedIs, recordIs, RoomToRise}
@@ -37,9 +36,3 @@ has-room n r {x} e p q w =
     let h : r .h < n .H = rw (ap (λ (y : Stored). y .h) e) (ltb-true (x .h) (n .H) (part _ w 5)) in
     let g : r .g < n .A = rw (ap (λ (y : Stored). y .g) e) (ltb-true (x .g) (n .A) (part _ w 7)) in
     record { h-below = omega arith; g-below = omega arith }
-
--- the nine clauses, the last four in pairs
-pub nine-hold : (a b c d e f g h i : Bool)
-    → a && b && c && d && e && (f && g) && (h && i) ≡ holds (a ∷ b ∷ c ∷ d ∷ e ∷ f ∷ g ∷ h ∷ i ∷ [])
-unfolding holds
-nine-hold a b c d e f g h i = simp (and-assoc, and-true)

@@ -1,8 +1,10 @@
 -- The code's record of an event as the manual's four bytes and as history's record. Assumes nothing.
 use mathlib.Core.Path.{_≡_}
-use mathlib.Core.Bool.{Bool}
+use mathlib.Core.Bool.{Bool, not, _&&_, _||_}
 use Prim.Native.Nat.{ℕ, _<_}
-use Rattle.history.specs.StatusByte.{EventRecord, Limits, freshFailure, agesAtStop}
+use lib.Dec.{eqb}
+use Rattle.history.specs.StatusByte.{pendingDTC, confirmedDTC, warningIndicatorRequested, EventRecord, Limits}
+use Rattle.history.specs.StatusByte.{freshFailure, cleanCycle, agesAtStop}
 use Rattle.history.specs.History.{failed, stop, step}
 use Rattle.manual.specs.State.{Stored, opened, stored}
 use Rattle.status.specs.declared.Record.{Record}
@@ -34,3 +36,9 @@ pub record RoomToRise (r : Record) : Type 0 where
 pub record StoppedIs (n : Limits) (r : Record) (s : AfterStop) : Type 0 where
   pub after : storedIs (s .«record») ≡ stored (step n stop (recordIs r))
   pub aged : s .aged ≡ agesAtStop n (recordIs r)
+
+-- a stop finds nothing to do: bit 1 or 6 is set, or bits 2, 3 and 7 are clear and K is 0
+abbrev pub restsAtStop : EventRecord → Bool
+restsAtStop r =
+    not (cleanCycle (r .status))
+    || (not (r .status pendingDTC || r .status confirmedDTC || r .status warningIndicatorRequested) && eqb (r .K) 0)

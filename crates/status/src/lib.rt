@@ -11,11 +11,13 @@ ghost use lib.ListN.{length, getD, set};
 ghost use Rattle.history.specs.Words.{implies, same};
 ghost use Rattle.history.specs.StatusByte.{Limits, statusOf, freshRecord, cleanCycle};
 ghost use Rattle.history.specs.StatusByte.{stopA, countsForAgeing, ages, stopB};
-ghost use Rattle.history.specs.WellFormed.{untestedIsFresh, faultyHasFailed, failedIsPending, warningIsConfirmed};
-ghost use Rattle.history.specs.WellFormed.{pendingHasCycles, wellFormedRecord};
+ghost use Rattle.history.specs.WellFormed.{untestedIsFresh, faultyHasFailed, failedIsPending, pendingHasCycles};
+ghost use Rattle.history.specs.WellFormed.{wellFormedRecord};
 ghost use Rattle.history.specs.History.{step, passed, start};
 ghost use Rattle.manual.specs.State.{recordWidth, stored, storedAt, withStored};
 ghost use Rattle.status.specs.Records.{storedIs, recordIs, limits, FailedIs, RoomToRise, StoppedIs};
+ghost use Rattle.status.specs.Records.{restsAtStop};
+ghost use Rattle.status.specs.Clauses.{bytesOk, isLimited, limitsOk};
 
 // "The eight bits have the names and weights of ISO 14229-1."
 pub struct Status(pub u8);
@@ -152,6 +154,14 @@ fn risen_if(test: bool, count: u8) -> u8
     }
 }
 
+// The same of a count that has room to rise.
+fn rises_if(test: bool, count: u8) -> u8
+    requires { ⌜ count < 255 ⌝ }
+    ensures { λ r. ⌜ r ≡ cond test (min 255 (suc count)) count ⌝ }
+{
+    if test { count + 1 } else { count }
+}
+
 // A count that is 0 where a test holds.
 fn zero_if(test: bool, count: u8) -> u8
     ensures { λ r. ⌜ r ≡ cond test 0 count ⌝ }
@@ -221,7 +231,7 @@ fn stop_a(heal: usize, r: Record) -> Record
     let s = r.status;
     let clean = clean_cycle(s);
     let counts = clean & s.contains(Status::WARNING_INDICATOR_REQUESTED);
-    let h = risen_if(counts, r.h);
+    let h = rises_if(counts, r.h);
     let heals = counts & (h as usize == heal);
     Record {
         status: s.clear_if(clean, Status::PENDING_DTC)
@@ -249,7 +259,7 @@ fn stop_b(age: usize, r: Record) -> AfterStop
 {
     let s = r.status;
     let counts = counts_for_ageing(s) & s.contains(Status::CONFIRMED_DTC);
-    let g = risen_if(counts, r.g);
+    let g = rises_if(counts, r.g);
     let ages = counts & (g as usize == age);
     AfterStop {
         record: Record {
@@ -263,6 +273,17 @@ fn stop_b(age: usize, r: Record) -> AfterStop
         },
         aged: ages,
     }
+}
+
+// Whether neither (a) nor (b) has a thing to do: most records of a stop are so.
+pub fn rests_at_stop(r: Record) -> bool
+    ensures { λ o. ⌜ o ≡ restsAtStop (recordIs r) ⌝ }
+{
+    let s = r.status;
+    let to_do = s.shares(
+        Status::PENDING_DTC | Status::CONFIRMED_DTC | Status::WARNING_INDICATOR_REQUESTED,
+    );
+    !clean_cycle(s) | (!to_do & (r.k == 0))
 }
 
 // "Stop, for its events: (a) … (b) …": the record after both. The debounce number and the entry are the caller's.
@@ -321,16 +342,6 @@ fn failed_is_pending(s: Status) -> bool
     )
 }
 
-// "bit 7 set means bit 3 set and indicator 1"
-fn warning_is_confirmed(indicator: bool, s: Status) -> bool
-    ensures { λ r. ⌜ ((C H A : ℕ) → r ≡ warningIsConfirmed (limits C H A indicator) (statusOf (s .0))) ⌝ }
-{
-    implies(
-        s.contains(Status::WARNING_INDICATOR_REQUESTED),
-        s.contains(Status::CONFIRMED_DTC) & indicator,
-    )
-}
-
 // "K ≥ 1 exactly when bit 2 is set"
 fn pending_has_cycles(r: Record) -> bool
     ensures { λ o. ⌜ o ≡ pendingHasCycles (recordIs r) ⌝ }
@@ -339,25 +350,45 @@ fn pending_has_cycles(r: Record) -> bool
     same(1 <= r.k, s.contains(Status::PENDING_DTC))
 }
 
-// "h < H, and h = 0 when bit 7 is clear", "g < A, and g = 0 when bit 3 is clear"
-fn count_ok(limit: usize, count: u8, bit: bool) -> bool
-    ensures { λ r. ⌜ r ≡ (ltb count limit && implies (not bit) (eqb count 0)) ⌝ }
-{
-    ((count as usize) < limit) & implies(!bit, count == 0)
-}
-
-// Whether all clauses on an event's record hold; C has no part in them.
-pub fn record_ok(heal: usize, age: usize, indicator: bool, r: Record) -> bool
-    ensures { λ o. ⌜ ((C : ℕ) → o ≡ wellFormedRecord (limits C heal age indicator) (recordIs r)) ⌝ }
+// The clauses on an event's record that ask for no number of its row.
+pub fn bytes_ok(r: Record) -> bool
+    ensures { λ o. ⌜ o ≡ bytesOk (recordIs r) ⌝ }
 {
     let s = r.status;
+    let warns = s.contains(Status::WARNING_INDICATOR_REQUESTED);
+    let confirmed = s.contains(Status::CONFIRMED_DTC);
     untested_is_fresh(s)
         & faulty_has_failed(s)
         & failed_is_pending(s)
-        & warning_is_confirmed(indicator, s)
+        & implies(warns, confirmed)
         & pending_has_cycles(r)
-        & count_ok(heal, r.h, s.contains(Status::WARNING_INDICATOR_REQUESTED))
-        & count_ok(age, r.g, s.contains(Status::CONFIRMED_DTC))
+        & implies(!warns, r.h == 0)
+        & implies(!confirmed, r.g == 0)
+}
+
+// Those that ask for a limit: "bit 7 set means … indicator 1", "h < H", "g < A". C has no part in them.
+pub fn limits_ok(heal: usize, age: usize, indicator: bool, r: Record) -> bool
+    ensures { λ o. ⌜ ((C : ℕ) → o ≡ limitsOk (limits C heal age indicator) (recordIs r)) ⌝ }
+{
+    let s = r.status;
+    implies(s.contains(Status::WARNING_INDICATOR_REQUESTED), indicator)
+        & ((r.h as usize) < heal)
+        & ((r.g as usize) < age)
+}
+
+// Whether a limit has something to say of the record: bit 3 or 7 is set.
+pub fn is_limited(r: Record) -> bool
+    ensures { λ o. ⌜ o ≡ isLimited (recordIs r) ⌝ }
+{
+    let s = r.status;
+    s.shares(Status::CONFIRMED_DTC | Status::WARNING_INDICATOR_REQUESTED)
+}
+
+// Whether all clauses on an event's record hold.
+pub fn record_ok(heal: usize, age: usize, indicator: bool, r: Record) -> bool
+    ensures { λ o. ⌜ ((C : ℕ) → o ≡ wellFormedRecord (limits C heal age indicator) (recordIs r)) ⌝ }
+{
+    bytes_ok(r) & limits_ok(heal, age, indicator, r)
 }
 
 // ---- the records and the debounce numbers in the lent blocks
@@ -391,20 +422,28 @@ pub fn write_record(records: &mut [u8], event: EventNumber, r: Record)
     records[at + 3] = r.g;
 }
 
-// The event's status byte; 0 for an event whose byte lies past the end of the records.
+// The event's status byte; 0 for an event whose byte lies past the end of the records. How many events have theirs
+// within is known before a loop over events, so that one test is left in it.
 pub fn status_of(records: &[u8], event: EventNumber) -> Status
     ensures { λ s. ⌜ s .0 ≡ storedAt (event .0) (now (records .entry)) .status ⌝ }
 {
     let e = event.0;
-    if records.len() / manual::RECORD_WIDTH < e {
-        return Status(0);
-    }
-    let at = manual::RECORD_WIDTH * e;
-    if at < records.len() {
-        Status(records[at])
+    let whole = records.len() / manual::RECORD_WIDTH;
+    let begun = (records.len() % manual::RECORD_WIDTH + 3) / manual::RECORD_WIDTH;
+    if e < whole + begun {
+        Status(records[manual::RECORD_WIDTH * e])
     } else {
         Status(0)
     }
+}
+
+// The event's status byte, where its record lies within the block.
+pub fn status_within(records: &[u8], event: EventNumber) -> Status
+    requires { ⌜ recordWidth * event .0 + recordWidth ≤ length (now records) ⌝ }
+    ensures { λ s. ⌜ s .0 ≡ storedAt (event .0) (now (records .entry)) .status ⌝ }
+{
+    let e = event.0;
+    Status(records[manual::RECORD_WIDTH * e])
 }
 
 // The event's debounce number. "Debounce numbers: n lent signed 32-bit numbers, one D per event."

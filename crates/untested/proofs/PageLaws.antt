@@ -27,6 +27,7 @@ use Rattle.manual.specs.declared.Refusal.{Refusal}
 use Rattle.manual.specs.Words.{countBelow}
 use Rattle.manual.specs.Configuration.{Configuration, events, cycleOf, configOk}
 use Rattle.manual.specs.State.{State, lent, storedAt}
+use Rattle.manual.specs.WellFormed.{wellFormed}
 use Rattle.manual.specs.Answers.{lentRoom, alone, Outcome, refused, firstThatApplies, numberOf, ofLength, leaves}
 use Rattle.manual.specs.Calls.{begins, noSuchEvent}
 use Rattle.manual.specs.Replies.{bitAt}
@@ -36,12 +37,16 @@ use Rattle.manual.specs.Untested.{noCounts, tabled, tableRead, painted, paintRe
 use Rattle.manual.proofs.AnswersLaws.{none-applies, goes-through, stops-with}
 use Rattle.manual.proofs.OneOutcomeOnly.{not-done}
 use Rattle.manual.proofs.ConfigurationLaws.{config-tells}
+use Rattle.manual.proofs.WellFormedLaws.{state-tells}
 use Rattle.manual.proofs.BelowLaws.{count-none, count-more, count-most}
 use Rattle.manual.proofs.UntestedLaws.{table-length, count-at}
+use Rattle.config.proofs.PartLaws.{row-within}
 use Rattle.writing.specs.Writing.{written, append, filled}
 use Rattle.writing.specs.Writing as writing
+use Rattle.judgement.specs.Fits.{RecordsFor}
 use Rattle.queries.specs.Reading.{four}
-use Rattle.untested.specs.Page.{RowFits, Risen, holding, anyBoard, CountsBelow, OneMore, MayList}
+use Rattle.queries.proofs.ReadingLaws.{event-below}
+use Rattle.untested.specs.Page.{RowFits, Risen, holding, anyBoard, CountsBelow, OneMore, EventWithin, MayList}
 use Rattle.untested.specs.Page.{tableTold, paintTold}
 
 -- ---- the eight bits and their numbers
@@ -220,6 +225,17 @@ module _ (cfg : Configuration) (s : State) where
   unfolding greyEvents isGrey
   list-in = refl
 
+-- ---- the records that were judged
+
+pub judged-records : (cfg : Configuration) (s : State) → configOk cfg ≡ true → wellFormed cfg s ≡ true
+    → RecordsFor cfg (s .records)
+judged-records cfg s ok w = record { accepted = ok; as-long = state-tells cfg s w .lengths .records }
+
+pub event-within : (cfg : Configuration) (records : List ℕ) → RecordsFor cfg records → (e : ℕ) → e < events cfg
+    → EventWithin cfg records e
+event-within cfg records r e h =
+    record { row = row-within cfg e (r .accepted) h; record-within = omega (arith, r .as-long, h) }
+
 -- ---- one number written
 
 pub one-written : (x at : ℕ) (list : List ℕ) → written (at + 1) (set list at x) ≡ append (x ∷ []) (written at list)
@@ -245,6 +261,14 @@ module _ (cfg : Configuration) (s : State) where
       here ∙ ap (λ (o : Outcome). tabled o (table cfg s)) (stops-with _ alone s _ r q)
 
   -- read paint, where 2, 3 and 4 do not apply, and where one does
+  pub event-read : (e : ℕ) → firstThatApplies (begins cfg s true (four (noSuchEvent cfg e))) ≡ 0
+      → EventWithin cfg (s .records) e
+  event-read e z =
+      event-within cfg (s .records)
+      (judged-records cfg s (not-false (configOk cfg) (none-applies _ z refl 0))
+      (not-false (wellFormed cfg s) (none-applies _ z refl 1)))
+      e (event-below cfg s e z)
+
   pub paint-is : (e : ℕ) {paint : Paint} → firstThatApplies (begins cfg s true (four (noSuchEvent cfg e))) ≡ 0
       → paint ≡ paintOf cfg (held cfg s) e
       → paintTold (Painted paint) s ≡ paintRead cfg e alone s
@@ -266,7 +290,9 @@ module _ (cfg : Configuration) (s : State) where
     pub may-list : MayList cfg (held cfg s) list
     unfolding listGreyRules
     may-list = record {
-      config = not-false (configOk cfg) (none-applies _ z refl 0);
+      judged =
+          judged-records cfg s (not-false (configOk cfg) (none-applies _ z refl 0))
+          (not-false (wellFormed cfg s) (none-applies _ z refl 1));
       within =
           rw (← list-in cfg s) (ltb-false (length list) (length (greyEvents cfg s)) (none-applies _ z refl 2));
     }

@@ -3,7 +3,7 @@ use mathlib.Core.Path.{_≡_}
 use mathlib.Core.Logic.{_⊎_}
 use mathlib.Core.Bool.{true, false, cond}
 use mathlib.Core.List.{List, [], _∷_}
-use Prim.Native.Nat.{ℕ, _+_, _≤_, _<_}
+use Prim.Native.Nat.{ℕ, _+_, _*_, _≤_, _<_}
 use lib.ListN.{length, getD}
 use Rattle.history.specs.StatusByte.{Bit}
 use Rattle.manual.specs.declared.Board.{Board}
@@ -11,10 +11,12 @@ use Rattle.manual.specs.declared.TableReturned.{TableReturned}
 use Rattle.manual.specs.declared.PaintAnswer.{PaintAnswer}
 use Rattle.manual.specs.Words.{countBelow}
 use Rattle.manual.specs.Configuration.{Configuration, events, configOk}
-use Rattle.manual.specs.State.{State, lent, allStopped}
+use Rattle.manual.specs.State.{State, recordWidth, lent, allStopped}
 use Rattle.manual.specs.Answers.{alone, ofAnswer, ofPaint, paintAnswered, leaves}
 use Rattle.manual.specs.Replies.{bitAt}
 use Rattle.manual.specs.Untested.{placeIn, counts, isGrey, greyEvents, TableRead, PaintRead}
+use Rattle.config.specs.Rows.{RowWithin}
+use Rattle.judgement.specs.Fits.{RecordsFor}
 
 -- ---- the table
 
@@ -55,15 +57,20 @@ module _ (cfg : Configuration) where
   abbrev pub ifGrey : State → ℕ → List ℕ
   ifGrey s e = cond (isGrey cfg s e) (e ∷ []) []
 
+  -- its row and its record lie within what is lent
+  pub record EventWithin (records : List ℕ) (e : ℕ) : Type 0 where
+    pub row : RowWithin cfg e
+    pub record-within : recordWidth * e + recordWidth ≤ length records
+
   -- there is room for it from `at` on
   pub record MayWrite (s : State) (e at : ℕ) (list : List ℕ) : Type 0 where
-    pub config : configOk cfg ≡ true
+    pub judged : RecordsFor cfg (s .records)
     pub event-below : e < events cfg
     pub within : at + length (ifGrey s e) ≤ length list
 
   -- there is room for all of them
   pub record MayList (s : State) (list : List ℕ) : Type 0 where
-    pub config : configOk cfg ≡ true
+    pub judged : RecordsFor cfg (s .records)
     pub within : length (greyEvents cfg s) ≤ length list
 
 -- ---- what an answer says of a state that is left as found

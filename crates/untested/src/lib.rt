@@ -14,6 +14,7 @@ ghost use mathlib.Core.Path.{_≡_};
 ghost use mathlib.Core.Bool.{true, cond};
 ghost use mathlib.Core.List.{List, [], _∷_};
 ghost use Prim.Native.Nat.{ℕ, _+_, _<_};
+ghost use lib.Dec.{ltb};
 ghost use lib.IntN.{ℤ};
 ghost use lib.ListN.{length};
 ghost use Rattle.manual.specs.declared.Board.{Board};
@@ -23,9 +24,10 @@ ghost use Rattle.manual.specs.Answers.{alone, lentRoom, _if_, firstThatApplies,
 ghost use Rattle.manual.specs.Untested.{table, isGrey, paintOf, greyEvents, tableRead, paintRead};
 ghost use Rattle.manual.specs.Untested.{listGreyRules, listGrey};
 ghost use Rattle.judgement.specs.Checks.{checkNumber};
+ghost use Rattle.judgement.specs.Fits.{RecordsFor};
 ghost use Rattle.writing.specs.Writing.{written, append, filled};
-ghost use Rattle.untested.specs.Page.{RowFits, Risen, OneMore, CountsBelow, holding, ifGrey, MayWrite, MayList};
-ghost use Rattle.untested.specs.Page.{tableTold, paintTold};
+ghost use Rattle.untested.specs.Page.{RowFits, Risen, OneMore, CountsBelow, holding, ifGrey, EventWithin};
+ghost use Rattle.untested.specs.Page.{MayWrite, MayList, tableTold, paintTold};
 
 // ---- the table
 
@@ -50,7 +52,7 @@ fn count_event(cfg: &[i32], records: &[u8], event: EventNumber, counts: &mut [u1
     requires { ⌜ OneMore (now cfg) (now records) (event .0) (now counts) ⌝ }
     ensures { λ _. ⌜ CountsBelow (now (cfg .entry)) (now (records .entry)) (event .0 + 1) (now (counts .exit)) ⌝ }
 {
-    let at = manual::BITS * config::cycle_of(cfg, event);
+    let at = manual::BITS * config::cycle_within(cfg, event);
     let status = status::status_of(records, event);
     count_bits(counts, at, status.0);
 }
@@ -98,17 +100,17 @@ pub fn read_table(
 
 // "grey if bit 6 is set or its cycle is stopped"
 fn is_grey(cfg: &[i32], records: &[u8], board: Board, event: EventNumber) -> bool
-    requires { ⌜ event .0 < mostEvents ⌝ }
+    requires { ⌜ EventWithin (now cfg) (now records) (event .0) ⌝ }
     ensures { λ r. ⌜ r ≡ isGrey (now (cfg .entry)) (holding (now (records .entry)) board) (event .0) ⌝ }
 {
-    let status = status::status_of(records, event);
-    let runs = judgement::runs(board, config::cycle_of(cfg, event));
+    let status = status::status_within(records, event);
+    let runs = judgement::runs(board, config::cycle_within(cfg, event));
     status.contains(Status::TEST_NOT_COMPLETED_THIS_OPERATION_CYCLE) | !runs
 }
 
 // "grey if bit 6 is set or its cycle is stopped, else red if bit 0 is set, else live"
 fn paint_of(cfg: &[i32], records: &[u8], board: Board, event: EventNumber) -> Paint
-    requires { ⌜ event .0 < mostEvents ⌝ }
+    requires { ⌜ EventWithin (now cfg) (now records) (event .0) ⌝ }
     ensures { λ r. ⌜ r ≡ paintOf (now (cfg .entry)) (holding (now (records .entry)) board) (event .0) ⌝ }
 {
     let status = status::status_of(records, event);
@@ -152,7 +154,7 @@ fn one_more_if(test: bool, number: usize) -> usize
 
 // The number of grey events.
 fn number_grey(cfg: &[i32], records: &[u8], board: Board) -> usize
-    requires { ⌜ configOk (now cfg) ≡ true ⌝ }
+    requires { ⌜ RecordsFor (now cfg) (now records) ⌝ }
     ensures { λ r. ⌜ r ≡ length (greyEvents (now (cfg .entry)) (holding (now (records .entry)) board)) ⌝ }
 {
     let n = config::events(cfg);
@@ -161,6 +163,19 @@ fn number_grey(cfg: &[i32], records: &[u8], board: Board) -> usize
         number = one_more_if(is_grey(cfg, records, board, EventNumber(event)), number);
     }
     number
+}
+
+// Whether a list of so many numbers is too short for the grey events. They are counted only where it is shorter than
+// all events.
+fn is_too_short(cfg: &[i32], records: &[u8], board: Board, numbers: usize) -> bool
+    requires { ⌜ RecordsFor (now cfg) (now records) ⌝ }
+    ensures { λ r. ⌜ r
+        ≡ ltb numbers (length (greyEvents (now (cfg .entry)) (holding (now (records .entry)) board))) ⌝ }
+{
+    if config::events(cfg) <= numbers {
+        return false;
+    }
+    numbers < number_grey(cfg, records, board)
 }
 
 // Writes the event's number where it is grey, and answers the place behind it.
@@ -224,7 +239,7 @@ fn judge_list(
         (lent (now (records .entry)) (now (debounce .entry)) (now (memory .entry)) board)) ⌝ }
 {
     match judgement::begin(cfg, records, debounce, memory, board, true) {
-        Check::Go => seven(list.len() < number_grey(cfg, records, board)),
+        Check::Go => seven(is_too_short(cfg, records, board, list.len())),
         Check::Stop(refusal) => Check::Stop(refusal),
     }
 }

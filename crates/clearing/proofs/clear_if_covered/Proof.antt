@@ -1,7 +1,12 @@
 use mathlib.Core.Path.{sym, _∙_}
+use Rattle.config.proofs.PartLaws.{row-within}
 use borrow.Author.Needs.{needs}
 use Rattle.clearing.proofs.clear_if_covered.Statement.{statement}
 use Rattle.clearing.proofs.clear_if_covered.Tie as tie
+
+covers-requires : tie.Need-covers-requires
+covers-requires c κs =
+    let fits = c .before .before .pre in row-within _ _ (fits .configured) (fits .blocks .below)
 
 returns : tie.Need-returns
 returns c =
@@ -17,6 +22,7 @@ pub clear-if-covered-spec : {M : Type 1} → statement M
 clear-if-covered-spec =
     tie.close
     (tie.spec
-    (λ c κs. search needs) (λ c κs. search needs) (λ c. search needs) (λ c. search needs) (λ c. search needs)
+    covers-requires
+    (λ c κs. search needs) (λ c. search needs) (λ c. search needs) (λ c. search needs)
     returns
     returns-2)

@@ -3,7 +3,7 @@ use Rattle.clearing.proofs.covers.Statement.{statement}
 use Rattle.clearing.proofs.covers.Tie as tie
 
 returns : tie.Need-returns
-returns c = rw (c .code-of .ensures)
+returns c = rw (c .code-within .ensures)
 
 pub covers-spec : {M : Type 1} → statement M
 covers-spec = tie.close

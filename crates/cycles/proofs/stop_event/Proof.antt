@@ -1,8 +1,13 @@
 -- `stop_event` meets its contract.
 use mathlib.Core.Path.{sym, _∙_}
+use Rattle.config.proofs.PartLaws.{row-within}
 use borrow.Author.Needs.{needs}
 use Rattle.cycles.proofs.stop_event.Statement.{statement}
 use Rattle.cycles.proofs.stop_event.Tie as tie
+
+of-cycle-requires : tie.Need-of-cycle-requires
+of-cycle-requires c κs =
+    let fits = c .before .before .pre in row-within _ _ (fits .configured) (fits .blocks .below)
 
 returns : tie.Need-returns
 returns c =
@@ -17,6 +22,7 @@ pub stop-event-spec : {M : Type 1} → statement M
 stop-event-spec =
     tie.close
     (tie.spec
-    (λ c κs. search needs) (λ c κs. search needs) (λ c. search needs) (λ c. search needs) (λ c. search needs)
+    of-cycle-requires
+    (λ c κs. search needs) (λ c. search needs) (λ c. search needs) (λ c. search needs)
     returns
     returns-2)

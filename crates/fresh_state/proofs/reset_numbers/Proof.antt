@@ -4,7 +4,7 @@ use native.Mathlib.Omega.{arith}
 use denote.Ref.{now}
 use lib.IntN.{pos}
 use lib.ListN.{length}
-use Rattle.fresh_state.proofs.FilledLaws.{filledTo, fill-none, fill-more, fill-all, filled-whole}
+use Rattle.writing.proofs.FilledLaws.{filledTo, fill-none, fill-more, fill-all, filled-whole}
 use Rattle.fresh_state.proofs.reset_numbers.Statement.{statement}
 use Rattle.fresh_state.proofs.reset_numbers.Tie as tie
 

@@ -1,22 +1,26 @@
-use mathlib.Core.Path.{_≡_, _∙_, ap, subst}
-use mathlib.Core.Bool.{not, _||_}
+use mathlib.Core.Path.{_≡_, sym, ap, subst, _∙_}
+use mathlib.Core.Bool.{true, false, not}
+use Prim.Native.Nat.{ℕ}
 use native.Mathlib.Omega.{arith}
 use lib.Dec.{eqb}
-use lib.IntN.{pos}
+use lib.IntN.{ℤ, pos}
 use denote.Ref.{now}
 use mir.Facts.{toZ-ofZ}
 use borrow.Author.Needs.{needs}
 use Rattle.manual.specs.Words.{between, eqZ, natOf}
-use Rattle.manual.specs.Configuration.{column, cycleOf}
+use Rattle.manual.specs.Configuration.{column, cycleOf, isInternal}
 use Rattle.manual.specs.Debouncing.{top, bottom}
 use Rattle.manual.specs.WellFormed.{DFits}
+use Rattle.manual.proofs.WordsLaws.{neither, eqZ-true}
+use Rattle.manual.proofs.ConfigurationLaws.{config-tells}
+use Rattle.manual.proofs.DebouncingLaws.{between-ends, zero-ok}
 use Rattle.config.proofs.SignedInCode.{zero-is}
-use Rattle.config.proofs.Tests.{chosen}
 use Rattle.config.proofs.PartLaws.{column-is, row-within}
 use Rattle.debounce.specs.Rows.{RowOf}
 use Rattle.debounce.proofs.SmallNumbersLaws.{held}
 use Rattle.debounce.proofs.RowsLaws.{small-row, top-is, bottom-is}
 use Rattle.debounce.proofs.RowOfPart.{row-is}
+use Rattle.judgement.proofs.WellFormedLaws.{or-zero}
 use Rattle.judgement.proofs.number_ok.Statement.{statement}
 use Rattle.judgement.proofs.number_ok.Tie as tie
 
@@ -58,6 +62,7 @@ returns c =
     let a = c5 .before .before .args in
     let d = a .d in
     let fits = c5 .before .before .fits .d in
+    let pre = c5 .before .before .pre in
     let low = held (c .before .bottom .ensures ∙ bottom-is _ _ _ (row c5)) (c .before .bottom .ok) in
     let high = held (c .top .ensures ∙ top-is _ _ _ (row c5)) (c .top .ok) in
     rw (
@@ -69,8 +74,17 @@ returns c =
       ← c .before .before .before .one-runs .ensures,
       ← row c5 .kind-is,
     )
-    (chosen (not (c .before .before .before .one-runs .result) || eqb (c5 .row-of .result .kind) 0) (eqZ d (pos 0))
-    (between (bottom (now (a .cfg)) (a .event .0)) (top (now (a .cfg)) (a .event .0)) d))
+    (or-zero (c .before .before .before .one-runs .result) (eqb (c5 .row-of .result .kind) 0) (eqZ d (pos 0))
+    (between (bottom (now (a .cfg)) (a .event .0)) (top (now (a .cfg)) (a .event .0)) d)
+    (λ moves zero.
+    let cfg = now (a .cfg) in
+    let e = a .event .0 in
+    let range = config-tells cfg (pre .accepted) .row e (pre .below) .range in
+    let internal : isInternal cfg e ≡ false =
+    ap (λ (k : ℕ). eqb k 0) (sym (row c5 .kind-is)) ∙
+    neither (not (c .before .before .before .one-runs .result)) (eqb (c5 .row-of .result .kind) 0) moves .1 in
+    subst (λ (z : ℤ). between (bottom cfg e) (top cfg e) z ≡ true) (sym (eqZ-true d (pos 0) zero))
+    (between-ends cfg (a .board) e (range internal) internal (pos 0) (zero-ok cfg (a .board) e range))))
 
 pub number-ok-spec : {M : Type 1} → statement M
 number-ok-spec =

@@ -2,7 +2,6 @@ use mathlib.Core.Path.{_≡_, refl, sym, _∙_}
 use Prim.Native.Nat.{_≤_, _<_, _-_}
 use native.Mathlib.Omega.{arith}
 use denote.Ref.{now}
-use borrow.Author.Tests.{eq-eqb, ne-eqb}
 use lib.ListN.{length, drop}
 use Rattle.manual.specs.Memory.{isOf, entriesOf}
 use Rattle.memory.specs.Places.{placeOf, firstPlaceFrom}
@@ -25,8 +24,8 @@ entry-count-requires c κs = omega (arith, c .before .pre .within)
 loop-holds : tie.Need-loop-holds Inv-loop μ-loop
 loop-holds c = (omega arith, refl)
 
-event-at-requires : tie.Need-event-at-requires Inv-loop μ-loop
-event-at-requires c κs =
+is-of-requires : tie.Need-is-of-requires Inv-loop μ-loop
+is-of-requires c κs =
     record {
       entries = (c .before .before .before .before .pre);
       below = omega (arith, c .before .before .entry-count .ensures, c .loop-test .taken);
@@ -34,35 +33,35 @@ event-at-requires c κs =
 
 returns : tie.Need-returns Inv-loop μ-loop
 returns c =
-    let c8 = c .before .before .before .before .before .before .before .before in
-    let xs = entriesOf (c8 .args .payload-bytes) (now (c8 .args .memory)) in
-    let h : c .before .before .before .before .before .loop .i < length xs =
+    let c6 = c .before .before .before .before .before .before in
+    let xs = entriesOf (c6 .args .payload-bytes) (now (c6 .args .memory)) in
+    let h : c .before .before .before .loop .i < length xs =
     omega (
       arith,
-      entries-are-count (c8 .args .payload-bytes) (now (c8 .args .memory)),
-      c .before .before .before .before .before .before .entry-count .ensures,
-      c .before .before .before .before .loop-test .taken,
+      entries-are-count (c6 .args .payload-bytes) (now (c6 .args .memory)),
+      c .before .before .before .before .entry-count .ensures,
+      c .before .before .loop-test .taken,
     ) in
     sym
-    (c .before .before .before .before .before .loop .inv .1
-    ∙ first-hit (isOf (c8 .args .event .0)) xs (c .before .before .before .before .before .loop .i) h
-    (eq-eqb _ _ (sym (c .before .before .before .event-at .ensures) ∙ c .if1 .taken)))
+    (c .before .before .before .loop .inv .1
+    ∙ first-hit (isOf (c6 .args .event .0)) xs (c .before .before .before .loop .i) h
+    (sym (c .before .is-of .ensures) ∙ c .if1 .taken))
 
 loop-again : tie.Need-loop-again Inv-loop μ-loop
 loop-again c =
-    let c8 = c .before .before .before .before .before .before .before .before in
-    let xs = entriesOf (c8 .args .payload-bytes) (now (c8 .args .memory)) in
-    let h : c .before .before .before .before .before .loop .i < length xs =
+    let c6 = c .before .before .before .before .before .before in
+    let xs = entriesOf (c6 .args .payload-bytes) (now (c6 .args .memory)) in
+    let h : c .before .before .before .loop .i < length xs =
     omega (
       arith,
-      entries-are-count (c8 .args .payload-bytes) (now (c8 .args .memory)),
-      c .before .before .before .before .before .before .entry-count .ensures,
-      c .before .before .before .before .loop-test .taken,
+      entries-are-count (c6 .args .payload-bytes) (now (c6 .args .memory)),
+      c .before .before .before .before .entry-count .ensures,
+      c .before .before .loop-test .taken,
     ) in (
       omega arith,
-      c .before .before .before .before .before .loop .inv .1
-          ∙ first-miss (isOf (c8 .args .event .0)) xs (c .before .before .before .before .before .loop .i) h
-          (ne-eqb _ _ (λ q. c .if1 .left (c .before .before .before .event-at .ensures ∙ q))),
+      c .before .before .before .loop .inv .1
+          ∙ first-miss (isOf (c6 .args .event .0)) xs (c .before .before .before .loop .i) h
+          (sym (c .before .is-of .ensures) ∙ c .if1 .left),
     )
 
 returns-2 : tie.Need-returns-2 Inv-loop μ-loop
@@ -88,7 +87,7 @@ place-of-spec =
     μ-loop
     entry-count-requires
     loop-holds
-    event-at-requires
+    is-of-requires
     returns
     (λ c. omega arith) (λ c. omega arith)
     loop-again

@@ -22,7 +22,7 @@ returns c =
     (c .before .before .before .before .before .contains .ensures) in
     let (h-is, heals-is) =
     counted (cleanCycle s) (s warningIndicatorRequested) (r .h) (start .args .heal) clean-is warned-is (start .pre)
-    (c .before .before .before .before .risen-if .ensures) in
+    (c .before .before .before .before .rises-if .ensures) in
     let bits =
     clear-if-is (warningIndicatorRequested ∷ []) (pending .result .0) _ (c .before .before .clear-if2 .ensures)
     (clear-if-is (pendingDTC ∷ []) (r .status .0) _ (pending .ensures) refl) in

@@ -19,7 +19,7 @@ returns c =
     let (g-is, ages-is) =
     counted (countsForAgeing s) (s confirmedDTC) (r .g) (start .args .age)
     (c .before .before .before .before .before .counts-for-ageing .ensures) confirmed-is (start .pre)
-    (c .before .before .before .risen-if .ensures) in
+    (c .before .before .before .rises-if .ensures) in
     let bits =
     clear-if-is (confirmedDTC ∷ warningIndicatorRequested ∷ []) (r .status .0) _
     (c .before .before .clear-if .ensures) refl in

@@ -10,11 +10,11 @@ returns : tie.Need-returns
 unfolding isGrey
 returns c =
     rw (
-      contains-is (c .before .before .before .status-of .result .0) testNotCompletedThisOperationCycle
+      contains-is (c .before .before .before .status-within .result .0) testNotCompletedThisOperationCycle
           (c .contains .ensures),
       c .before .runs .ensures,
-      c .before .before .cycle-of .ensures,
-      c .before .before .before .status-of .ensures,
+      c .before .before .cycle-within .ensures,
+      c .before .before .before .status-within .ensures,
     )
 
 pub is-grey-spec : {M : Type 1} → statement M

@@ -9,6 +9,7 @@ use Rattle.manual.proofs.ConfigurationLaws.{config-tells}
 use Rattle.manual.proofs.BelowLaws.{count-none, count-more, count-most}
 use Rattle.manual.proofs.UntestedLaws.{grey-number}
 use Rattle.untested.specs.Page.{holding}
+use Rattle.untested.proofs.PageLaws.{event-within}
 use Rattle.untested.proofs.number_grey.Statement.{statement}
 use Rattle.untested.proofs.number_grey.Tie as tie
 
@@ -28,13 +29,13 @@ loop-holds c = (omega arith, sym (count-none _))
 
 is-grey-requires : tie.Need-is-grey-requires Inv-loop μ-loop
 is-grey-requires c κs =
-    let t = config-tells _ (c .before .before .before .before .pre) in
-    omega (arith, c .before .before .events .ensures, c .loop-test .taken)
+    event-within _ _ (c .before .before .before .before .pre) _
+    (rw (c .before .before .events .ensures) at (c .loop-test .taken))
 
 one-more-if-requires : tie.Need-one-more-if-requires Inv-loop μ-loop
 one-more-if-requires c κs =
     let a = c .before .before .before .before .before .args in
-    let t = config-tells _ (c .before .before .before .before .before .pre) in
+    let t = config-tells _ (c .before .before .before .before .before .pre .accepted) in
     let grey = isGrey (a .cfg .now) (holding (a .records .now) (a .board)) in
     let most = count-most grey (c .before .before .loop .event) in
     omega (arith, c .before .before .before .events .ensures, c .before .before .loop .inv .1)

@@ -3,8 +3,7 @@ use mathlib.Core.Path.{sym, ap, _∙_}
 use denote.Ref.{now}
 use Rattle.manual.specs.State.{lent}
 use Rattle.judgement.specs.Checks.{checkNumber}
-use Rattle.queries.proofs.ReadingLaws.{event-most}
-use Rattle.untested.proofs.PageLaws.{paint-is, paint-refused}
+use Rattle.untested.proofs.PageLaws.{event-read, paint-is, paint-refused}
 use borrow.Author.Needs.{needs}
 use Rattle.untested.proofs.read_paint.Statement.{statement}
 use Rattle.untested.proofs.read_paint.Tie as tie
@@ -13,7 +12,7 @@ paint-of-requires : tie.Need-paint-of-requires
 paint-of-requires c κs =
     let a = c .before .before .before .before .before .args in
     let s = lent (now (a .records)) (now (a .debounce)) (now (a .memory)) (a .board) in
-    event-most (now (a .cfg)) s (a .event .0)
+    event-read (now (a .cfg)) s (a .event .0)
     (sym (c .before .before .judge .ensures) ∙ ap checkNumber (c .enum-told .given .1))
 
 returns : tie.Need-returns

@@ -37,7 +37,7 @@ write-if-grey-requires c κs =
     let grey = holding (a .records .now) (a .board) in
     let below = rw (c .before .before .before .events .ensures) at (c .before .loop-test .taken) in
     record {
-      config = fits .config;
+      judged = fits .judged;
       event-below = below;
       within =
           omega (

@@ -3,20 +3,18 @@ use mathlib.Core.Path.{sym, _∙_}
 use native.Mathlib.Omega.{arith}
 use Rattle.manual.proofs.ConfigurationLaws.{config-tells}
 use Rattle.writing.proofs.WritingLaws.{append-none}
-use Rattle.untested.proofs.PageLaws.{one-written}
+use Rattle.untested.proofs.PageLaws.{event-within, one-written}
 use borrow.Author.Needs.{needs}
 use Rattle.untested.proofs.write_if_grey.Statement.{statement}
 use Rattle.untested.proofs.write_if_grey.Tie as tie
 
 is-grey-requires : tie.Need-is-grey-requires
-is-grey-requires c κs =
-    let most = config-tells _ (c .before .before .pre .config) .n-most in
-    omega (arith, c .before .before .pre .event-below)
+is-grey-requires c κs = event-within _ _ (c .before .before .pre .judged) _ (c .before .before .pre .event-below)
 
 cast-list : tie.Need-cast-list
 cast-list c =
     let fits = c .before .before .before .before .pre in
-    let most = config-tells _ (fits .config) .n-most in omega (arith, fits .event-below)
+    let most = config-tells _ (fits .judged .accepted) .n-most in omega (arith, fits .event-below)
 
 slice-write-list : tie.Need-slice-write-list
 slice-write-list c =

@@ -1,0 +1,16 @@
+use mathlib.Core.Path.{refl}
+use Rattle.manual.specs.State.{storedAt}
+use borrow.Author.Needs.{needs}
+use Rattle.status.proofs.status_within.Statement.{statement}
+use Rattle.status.proofs.status_within.Tie as tie
+
+returns : tie.Need-returns
+unfolding storedAt
+returns c = refl
+
+pub status-within-spec : {M : Type 1} → statement M
+status-within-spec = tie.close
+    (tie.spec
+    (λ c. search needs)
+    (λ c. search needs)
+    returns)
