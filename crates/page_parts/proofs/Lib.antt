@@ -1,2 +1,1 @@
 pub mod RaisedLaws
-pub mod HeadsLaws

@@ -1,2 +1,1 @@
 pub mod Signals
-pub mod Heads

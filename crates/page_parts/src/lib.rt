@@ -1,8 +1,8 @@
-// The parts of the page that a person reads, each put into a lent buffer, from values that the calls answer.
+// The rows of the page that tell of one signal, each put into a lent buffer, from values that are read off the state.
 use manual::Paint;
 ghost use mathlib.Core.Path.{_≡_};
-ghost use mathlib.Core.List.{_++_, flatMap};
-ghost use Prim.Native.Nat.{_+_, _*_, _≤_, _<_};
+ghost use mathlib.Core.List.{_++_};
+ghost use Prim.Native.Nat.{_+_, _≤_};
 ghost use lib.ListN.{length};
 ghost use lib.IntN.{pos, _+ℤ_};
 ghost use Rattle.manual.specs.Words.{natOf};
@@ -11,8 +11,6 @@ ghost use Rattle.page_text.specs.Escape.{escaped};
 ghost use Rattle.page_text.specs.Numbers.{decimal};
 ghost use Rattle.page_parts.specs.Signals.{paintCell, shownName, signal, why, stored, lowered, near};
 ghost use Rattle.page_parts.specs.Signals.{lowNames, highNames, bits, untestedRow, failedRow, told, signalRow};
-ghost use Rattle.page_parts.specs.Heads.{summary, title, headline, tiles, number, cycleHead, cycleRow, memory};
-ghost use Rattle.page_parts.specs.Heads.{overflowed, calls, unreadable};
 
 // ---- which signal it is
 
@@ -294,174 +292,4 @@ pub fn signal_row(
     let next = put_signal(buffer, at, paint, event, name, code);
     let end = put_told(buffer, next, cycle, raised, count, status);
     page_text::put(buffer, end, b"</tr>\n")
-}
-
-// ---- the whole machine
-
-fn put_summary(buffer: &mut [u8], at: usize, untested: u16, failed: u16, live: u16) -> usize
-    requires { ⌜ at + 42 ≤ length (now buffer) ⌝ }
-    ensures { λ r. ⌜ Puts (summary untested failed live) 42 at r (now (buffer .entry)) (now (buffer .exit)) ⌝ }
-{
-    let a = page_text::put_decimal(buffer, at, untested);
-    let b = page_text::put(buffer, a, b" untested, ");
-    let c = page_text::put_decimal(buffer, b, failed);
-    let d = page_text::put(buffer, c, b" failed, ");
-    let e = page_text::put_decimal(buffer, d, live);
-    page_text::put(buffer, e, b" live")
-}
-
-// The title of the page.
-pub fn title(buffer: &mut [u8], at: usize, untested: u16, failed: u16, live: u16) -> usize
-    requires { ⌜ at + 64 ≤ length (now buffer) ⌝ }
-    ensures { λ r. ⌜ Puts (title untested failed live) 64 at r (now (buffer .entry)) (now (buffer .exit)) ⌝ }
-{
-    let a = page_text::put(buffer, at, b"<title>");
-    let b = put_summary(buffer, a, untested, failed, live);
-    page_text::put(buffer, b, b"</title>\n")
-}
-
-// Its first line.
-pub fn headline(
-    buffer: &mut [u8],
-    at: usize,
-    signals: u16,
-    untested: u16,
-    failed: u16,
-    live: u16,
-) -> usize
-    requires { ⌜ at + 64 ≤ length (now buffer) ⌝ }
-    ensures { λ r. ⌜ Puts (headline signals untested failed live) 64 at r (now (buffer .entry)) (now (buffer .exit)) ⌝ }
-{
-    let a = page_text::put(buffer, at, b"<h1>");
-    let b = put_summary(buffer, a, untested, failed, live);
-    let c = page_text::put(buffer, b, b", of ");
-    let d = page_text::put_decimal(buffer, c, signals);
-    page_text::put(buffer, d, b"</h1>\n")
-}
-
-// The three numbers in their colours.
-pub fn tiles(buffer: &mut [u8], at: usize, untested: u16, failed: u16, live: u16) -> usize
-    requires { ⌜ at + 200 ≤ length (now buffer) ⌝ }
-    ensures { λ r. ⌜ Puts (tiles untested failed live) 200 at r (now (buffer .entry)) (now (buffer .exit)) ⌝ }
-{
-    let a = page_text::put(
-        buffer,
-        at,
-        b"<div class=\"tiles\">\n<div class=\"tile grey\"><b>",
-    );
-    let b = page_text::put_decimal(buffer, a, untested);
-    let c = page_text::put(
-        buffer,
-        b,
-        b"</b> untested</div>\n<div class=\"tile red\"><b>",
-    );
-    let d = page_text::put_decimal(buffer, c, failed);
-    let e = page_text::put(
-        buffer,
-        d,
-        b"</b> failed</div>\n<div class=\"tile live\"><b>",
-    );
-    let f = page_text::put_decimal(buffer, e, live);
-    page_text::put(buffer, f, b"</b> live</div>\n</div>\n")
-}
-
-fn put_number(buffer: &mut [u8], at: usize, n: u16) -> usize
-    requires { ⌜ at + 24 ≤ length (now buffer) ⌝ }
-    ensures { λ r. ⌜ Puts (number n) 24 at r (now (buffer .entry)) (now (buffer .exit)) ⌝ }
-{
-    let a = page_text::put(buffer, at, b"<td class=\"n\">");
-    let b = page_text::put_decimal(buffer, a, n);
-    page_text::put(buffer, b, b"</td>")
-}
-
-fn put_numbers(buffer: &mut [u8], at: usize, counts: &[u16]) -> usize
-    requires { ⌜ at + 24 * length (now counts) ≤ length (now buffer) ⌝ }
-    ensures { λ r. ⌜ Puts (flatMap number (now (counts .entry))) (24 * length (now (counts .entry))) at r
-        (now (buffer .entry)) (now (buffer .exit)) ⌝ }
-{
-    let mut next = at;
-    for i in 0..counts.len() {
-        next = put_number(buffer, next, counts[i]);
-    }
-    next
-}
-
-// "the cycles that run"
-fn put_cycle(buffer: &mut [u8], at: usize, cycle: u16, runs: bool) -> usize
-    requires { ⌜ at + 60 ≤ length (now buffer) ⌝ }
-    ensures { λ r. ⌜ Puts (cycleHead cycle runs) 60 at r (now (buffer .entry)) (now (buffer .exit)) ⌝ }
-{
-    let a = page_text::put(buffer, at, b"<tr><th scope=\"row\">");
-    let b = page_text::put_decimal(buffer, a, cycle);
-    let c = page_text::put_if(buffer, b, runs, b" runs");
-    let d = page_text::put_if(buffer, c, !runs, b" is stopped");
-    page_text::put(buffer, d, b"</th>")
-}
-
-// A row of "the table of four cycles by eight bits".
-pub fn cycle_row(buffer: &mut [u8], at: usize, cycle: u16, runs: bool, counts: &[u16]) -> usize
-    requires { ⌜ (length (now counts) ≤ 8) × (at + 260 ≤ length (now buffer)) ⌝ }
-    ensures { λ r. ⌜ Puts (cycleRow cycle runs (now (counts .entry))) 260 at r
-        (now (buffer .entry)) (now (buffer .exit)) ⌝ }
-{
-    let head = put_cycle(buffer, at, cycle, runs);
-    let end = put_numbers(buffer, head, counts);
-    page_text::put(buffer, end, b"</tr>\n")
-}
-
-fn put_overflow(buffer: &mut [u8], at: usize, overflow: bool) -> usize
-    requires { ⌜ at + 90 ≤ length (now buffer) ⌝ }
-    ensures { λ r. ⌜ Puts (overflowed overflow) 90 at r (now (buffer .entry)) (now (buffer .exit)) ⌝ }
-{
-    if overflow {
-        return page_text::put(
-            buffer,
-            at,
-            b"<strong>Overflow: a failure found no place.</strong></p>\n",
-        );
-    }
-    page_text::put(
-        buffer,
-        at,
-        b"No overflow: no failure was left without a place since all was last cleared.</p>\n",
-    )
-}
-
-// The places of memory that are taken, and overflow.
-pub fn memory(buffer: &mut [u8], at: usize, taken: u16, places: u16, overflow: bool) -> usize
-    requires { ⌜ at + 140 ≤ length (now buffer) ⌝ }
-    ensures { λ r. ⌜ Puts (memory taken places overflow) 140 at r (now (buffer .entry)) (now (buffer .exit)) ⌝ }
-{
-    let a = page_text::put(buffer, at, b"<p>");
-    let b = page_text::put_decimal(buffer, a, taken);
-    let c = page_text::put(buffer, b, b" of ");
-    let d = page_text::put_decimal(buffer, c, places);
-    let e = page_text::put(buffer, d, b" places are taken. ");
-    put_overflow(buffer, e, overflow)
-}
-
-// How many calls the log has, and how many were refused.
-pub fn calls(buffer: &mut [u8], at: usize, made: u16, refused: u16) -> usize
-    requires { ⌜ at + 64 ≤ length (now buffer) ⌝ }
-    ensures { λ r. ⌜ Puts (calls made refused) 64 at r (now (buffer .entry)) (now (buffer .exit)) ⌝ }
-{
-    let a = page_text::put(buffer, at, b"<p>Calls in the log: ");
-    let b = page_text::put_decimal(buffer, a, made);
-    let c = page_text::put(buffer, b, b", refused: ");
-    let d = page_text::put_decimal(buffer, c, refused);
-    page_text::put(buffer, d, b".</p>\n")
-}
-
-// What is said of a log that cannot be read to its end.
-pub fn unreadable(buffer: &mut [u8], at: usize, behind: u16) -> usize
-    requires { ⌜ at + 160 ≤ length (now buffer) ⌝ }
-    ensures { λ r. ⌜ Puts (unreadable behind) 160 at r (now (buffer .entry)) (now (buffer .exit)) ⌝ }
-{
-    let a = page_text::put(buffer, at, b"<p class=\"message\">Bad input: behind byte ");
-    let b = page_text::put_decimal(buffer, a, behind);
-    page_text::put(
-        buffer,
-        b,
-        b" of the log there is no call that can be read. This page shows the state up to there.</p>\n",
-    )
 }

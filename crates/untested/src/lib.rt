@@ -59,7 +59,7 @@ fn count_event(cfg: &[i32], records: &[u8], event: EventNumber, counts: &mut [u1
 
 // "Count, for each of the four cycles and each of the eight bits, the events of that cycle with the bit set": one pass
 // over the events.
-fn table_of(cfg: &[i32], records: &[u8]) -> [u16; COUNTS]
+pub fn table_of(cfg: &[i32], records: &[u8]) -> [u16; COUNTS]
     requires { ⌜ configOk (now cfg) ≡ true ⌝ }
     ensures { λ r. ⌜ ((d : List ℤ) (m : List ℕ) (b : Board)
         → r ≡ table (now (cfg .entry)) (lent (now (records .entry)) d m b)) ⌝ }
@@ -109,7 +109,7 @@ fn is_grey(cfg: &[i32], records: &[u8], board: Board, event: EventNumber) -> boo
 }
 
 // "grey if bit 6 is set or its cycle is stopped, else red if bit 0 is set, else live"
-fn paint_of(cfg: &[i32], records: &[u8], board: Board, event: EventNumber) -> Paint
+pub fn paint_of(cfg: &[i32], records: &[u8], board: Board, event: EventNumber) -> Paint
     requires { ⌜ EventWithin (now cfg) (now records) (event .0) ⌝ }
     ensures { λ r. ⌜ r ≡ paintOf (now (cfg .entry)) (holding (now (records .entry)) board) (event .0) ⌝ }
 {

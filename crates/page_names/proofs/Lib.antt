@@ -1,0 +1,3 @@
+pub mod Utf8Laws
+pub mod NamesLaws
+pub mod Examples
