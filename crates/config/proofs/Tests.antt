@@ -18,17 +18,19 @@ unfolding holds
 joined-is a [] = rw (and-true a)
 joined-is a (b ∷ bs) = rw (joined-is (a && b) bs, and-assoc a b (holds bs))
 
--- tests that are joined on their own, amid others
 holds-both : (xs ys : List Bool) → holds xs && holds ys ≡ holds (xs ++ ys)
 unfolding holds
 holds-both [] ys = refl
 holds-both (x ∷ xs) ys = rw (← and-assoc x (holds xs) (holds ys), holds-both xs ys)
 
-pub joined-amid : (a b c d : Bool) (xs ys : List Bool)
-    → joined a (b ∷ c ∷ d ∷ holds xs ∷ ys) ≡ holds (a ∷ b ∷ c ∷ d ∷ (xs ++ ys))
+-- tests that are joined on their own, amid others; x stands for them where the test before it holds
+pub joined-amid : (a b c d x : Bool) (xs ys : List Bool) → d && x ≡ d && holds xs
+    → joined a (b ∷ c ∷ d ∷ x ∷ ys) ≡ holds (a ∷ b ∷ c ∷ d ∷ (xs ++ ys))
 unfolding holds
-joined-amid a b c d xs ys =
-    joined-is a (b ∷ c ∷ d ∷ holds xs ∷ ys) ∙ (λ i. a && (b && (c && (d && holds-both xs ys i))))
+joined-amid a b c d x xs ys e = joined-is a (b ∷ c ∷ d ∷ x ∷ ys) ∙ (λ i. a && (b && (c && amid i)))
+  where
+    amid : d && (x && holds ys) ≡ d && holds (xs ++ ys)
+    amid = rw (and-assoc d x (holds ys), e, ← and-assoc d (holds xs) (holds ys), holds-both xs ys)
 
 -- a loop that gathers a test of each number below n
 pub all-none : (f : ℕ → Bool) → allBelow 0 f ≡ true

@@ -2,8 +2,7 @@
 use mathlib.Core.Bool.{Bool, true, _&&_, cond}
 use mathlib.Core.List.{List, [], _∷_}
 use Prim.Native.Nat.{ℕ, zero, suc, _+_, _*_, _≤_, _<_}
-use lib.Dec.{eqb}
-use lib.IntN.{pos, negsuc}
+use lib.IntN.{ℤ, pos, negsuc}
 use lib.ListN.{length, take, drop}
 use Rattle.history.specs.StatusByte as status
 use Rattle.manual.specs.Words.{between, eqZ}
@@ -37,13 +36,13 @@ abbrev pub partOf : Configuration → ℕ → Configuration
 partOf cfg e = take (inFront + rowWidth) (drop (rowWidth * e) cfg)
 
 -- the numbers 5 to 9 of a row, as the table allows them for a kind
-abbrev pub ofKind : ℕ → Configuration → ℕ → List Bool
+abbrev pub ofKind : ℤ → Configuration → ℕ → List Bool
 ofKind kind cfg e =
-    cond (eqb kind 0) (eqZ (column 5 cfg e) (pos 0)) (between (negsuc 29999) (negsuc 0) (column 5 cfg e))
-    ∷ cond (eqb kind 0) (eqZ (column 6 cfg e) (pos 0)) (between (pos 1) (pos 30000) (column 6 cfg e))
-    ∷ cond (eqb kind 1) (between (pos 1) (pos 30000) (column 7 cfg e)) (eqZ (column 7 cfg e) (pos 0))
-    ∷ cond (eqb kind 1) (between (pos 1) (pos 30000) (column 8 cfg e)) (eqZ (column 8 cfg e) (pos 0))
-    ∷ cond (eqb kind 1) (between (pos 0) (pos 3) (column 9 cfg e)) (eqZ (column 9 cfg e) (pos 0))
+    cond (eqZ kind (pos 0)) (eqZ (column 5 cfg e) (pos 0)) (between (negsuc 29999) (negsuc 0) (column 5 cfg e))
+    ∷ cond (eqZ kind (pos 0)) (eqZ (column 6 cfg e) (pos 0)) (between (pos 1) (pos 30000) (column 6 cfg e))
+    ∷ cond (eqZ kind (pos 1)) (between (pos 1) (pos 30000) (column 7 cfg e)) (eqZ (column 7 cfg e) (pos 0))
+    ∷ cond (eqZ kind (pos 1)) (between (pos 1) (pos 30000) (column 8 cfg e)) (eqZ (column 8 cfg e) (pos 0))
+    ∷ cond (eqZ kind (pos 1)) (between (pos 0) (pos 3) (column 9 cfg e)) (eqZ (column 9 cfg e) (pos 0))
     ∷ []
 
 -- "strictly rising from event to event", said of the later of two neighbours
@@ -51,9 +50,9 @@ abbrev pub risesHere : Configuration → ℕ → Bool
 risesHere cfg zero = true
 risesHere cfg (suc e) = rises cfg e
 
--- an event's row is as the table allows, alone and after the row before
+-- an event's row is as the table allows, after the row before and alone
 abbrev pub rowFits : Configuration → ℕ → Bool
-rowFits cfg e = rowOk cfg e && risesHere cfg e
+rowFits cfg e = risesHere cfg e && rowOk cfg e
 
 -- the limits that the struct's fields are
 abbrev pub limitsIs : Limits → status.Limits

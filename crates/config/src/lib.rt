@@ -63,6 +63,11 @@ pub const COUNTER: usize = 1;
 
 pub const TIME: usize = 2;
 
+// The same as a row has them.
+const KIND_INTERNAL: i32 = INTERNAL as i32;
+
+const KIND_COUNTER: i32 = COUNTER as i32;
+
 const LAST_KIND: i32 = TIME as i32;
 
 // "3 | cycle | 0 to 3"
@@ -322,7 +327,7 @@ fn is_zero(cfg: &[i32], event: EventNumber, k: usize) -> bool
 // The numbers 5 to 9 of a row of kind 0.
 fn internal_ok(cfg: &[i32], event: EventNumber) -> bool
     requires { ⌜ RowWithin (now cfg) (event .0) ⌝ }
-    ensures { λ r. ⌜ r ≡ holds (ofKind 0 (now (cfg .entry)) (event .0)) ⌝ }
+    ensures { λ r. ⌜ r ≡ holds (ofKind (pos 0) (now (cfg .entry)) (event .0)) ⌝ }
 {
     is_zero(cfg, event, P)
         & is_zero(cfg, event, Q)
@@ -334,7 +339,7 @@ fn internal_ok(cfg: &[i32], event: EventNumber) -> bool
 // The numbers 5 to 9 of a row of kind 1.
 fn counter_ok(cfg: &[i32], event: EventNumber) -> bool
     requires { ⌜ RowWithin (now cfg) (event .0) ⌝ }
-    ensures { λ r. ⌜ r ≡ holds (ofKind 1 (now (cfg .entry)) (event .0)) ⌝ }
+    ensures { λ r. ⌜ r ≡ holds (ofKind (pos 1) (now (cfg .entry)) (event .0)) ⌝ }
 {
     in_range(cfg, event, P, -30_000, -1)
         & in_range(cfg, event, Q, 1, 30_000)
@@ -346,7 +351,7 @@ fn counter_ok(cfg: &[i32], event: EventNumber) -> bool
 // The numbers 5 to 9 of a row of kind 2.
 fn time_ok(cfg: &[i32], event: EventNumber) -> bool
     requires { ⌜ RowWithin (now cfg) (event .0) ⌝ }
-    ensures { λ r. ⌜ r ≡ holds (ofKind 2 (now (cfg .entry)) (event .0)) ⌝ }
+    ensures { λ r. ⌜ r ≡ holds (ofKind (pos 2) (now (cfg .entry)) (event .0)) ⌝ }
 {
     in_range(cfg, event, P, -30_000, -1)
         & in_range(cfg, event, Q, 1, 30_000)
@@ -356,14 +361,17 @@ fn time_ok(cfg: &[i32], event: EventNumber) -> bool
 }
 
 // The numbers 5 to 9 of a row; one of a kind that the table does not have is judged as kind 2, and fails by its kind.
-fn of_kind_ok(cfg: &[i32], event: EventNumber, kind: usize) -> bool
+// So the kind is compared as it is, a negative one too.
+fn of_kind_ok(cfg: &[i32], event: EventNumber) -> bool
     requires { ⌜ RowWithin (now cfg) (event .0) ⌝ }
-    ensures { λ r. ⌜ r ≡ holds (ofKind kind (now (cfg .entry)) (event .0)) ⌝ }
+    ensures { λ r. ⌜ r
+        ≡ holds (ofKind (column 4 (now (cfg .entry)) (event .0)) (now (cfg .entry)) (event .0)) ⌝ }
 {
-    if kind == INTERNAL {
+    let kind = number_within(cfg, event, KIND);
+    if kind == KIND_INTERNAL {
         return internal_ok(cfg, event);
     }
-    if kind == COUNTER {
+    if kind == KIND_COUNTER {
         return counter_ok(cfg, event);
     }
     time_ok(cfg, event)
@@ -374,12 +382,11 @@ fn row_ok(cfg: &[i32], event: EventNumber) -> bool
     requires { ⌜ RowWithin (now cfg) (event .0) ⌝ }
     ensures { λ r. ⌜ r ≡ rowOk (now (cfg .entry)) (event .0) ⌝ }
 {
-    let kind = count_within(cfg, event, KIND);
     in_range(cfg, event, TROUBLE_CODE, 1, 16_777_214)
         & in_range(cfg, event, PRIORITY, 1, 255)
         & in_range(cfg, event, CYCLE, 0, LAST_CYCLE)
         & in_range(cfg, event, KIND, 0, LAST_KIND)
-        & of_kind_ok(cfg, event, kind)
+        & of_kind_ok(cfg, event)
         & in_range(cfg, event, CONFIRM, 1, 255)
         & in_range(cfg, event, HEAL, 1, 255)
         & in_range(cfg, event, AGE, 1, 255)
@@ -403,7 +410,7 @@ fn row_fits(cfg: &[i32], event: EventNumber) -> bool
     requires { ⌜ RowWithin (now cfg) (event .0) ⌝ }
     ensures { λ r. ⌜ r ≡ rowFits (now (cfg .entry)) (event .0) ⌝ }
 {
-    row_ok(cfg, event) & code_rises(cfg, event)
+    code_rises(cfg, event) & row_ok(cfg, event)
 }
 
 fn rows_fit(cfg: &[i32], n: usize) -> bool

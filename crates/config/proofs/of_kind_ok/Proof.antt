@@ -1,23 +1,36 @@
-use borrow.Author.Tests.{ne-eqb}
+use native.Mathlib.Omega.{arith}
 use borrow.Author.Needs.{needs}
+use Rattle.config.proofs.SignedInCode.{taken-is, left-is}
 use Rattle.config.proofs.of_kind_ok.Statement.{statement}
 use Rattle.config.proofs.of_kind_ok.Tie as tie
 
 returns : tie.Need-returns
-returns c = rw (c .before .if1 .taken) (c .internal-ok .ensures)
+returns c =
+    let kind = c .before .before .number-within in
+    rw (← kind .ensures, taken-is (kind .result) _ (kind .ok) (omega arith) (c .before .if1 .taken))
+    (c .internal-ok .ensures)
 
 returns-2 : tie.Need-returns-2
-returns-2 c = rw (c .before .if2 .taken) (c .counter-ok .ensures)
+returns-2 c =
+    let kind = c .before .before .before .number-within in
+    rw (← kind .ensures, taken-is (kind .result) _ (kind .ok) (omega arith) (c .before .if2 .taken))
+    (c .counter-ok .ensures)
 
 returns-3 : tie.Need-returns-3
 returns-3 c =
-    rw (ne-eqb _ _ (c .before .before .if1 .left), ne-eqb _ _ (c .before .if2 .left)) (c .time-ok .ensures)
+    let kind = c .before .before .before .number-within in
+    rw (
+      ← kind .ensures,
+      left-is (kind .result) 0 (kind .ok) (omega arith) (c .before .before .if1 .left),
+      left-is (kind .result) 1 (kind .ok) (omega arith) (c .before .if2 .left),
+    )
+    (c .time-ok .ensures)
 
 pub of-kind-ok-spec : {M : Type 1} → statement M
 of-kind-ok-spec =
     tie.close
     (tie.spec
-    (λ c κs. search needs)
+    (λ c κs. search needs) (λ c κs. search needs)
     returns
     (λ c κs. search needs)
     returns-2

@@ -4,7 +4,7 @@ use Rattle.config.proofs.row_fits.Statement.{statement}
 use Rattle.config.proofs.row_fits.Tie as tie
 
 returns : tie.Need-returns
-returns c = λ i. c .before .row-ok .ensures i && c .code-rises .ensures i
+returns c = λ i. c .before .code-rises .ensures i && c .row-ok .ensures i
 
 pub row-fits-spec : {M : Type 1} → statement M
 row-fits-spec = tie.close

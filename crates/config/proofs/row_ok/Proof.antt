@@ -1,10 +1,12 @@
 use mathlib.Core.Path.{_∙_}
 use mathlib.Core.Bool.{_&&_}
+use lib.IntN.{pos}
 use denote.Ref.{now}
 use borrow.Author.Needs.{needs}
-use Rattle.manual.specs.Configuration.{kindOf, rowOk}
+use Rattle.manual.specs.Configuration.{column, kindOf, rowOk}
 use Rattle.config.specs.Rows.{ofKind}
 use Rattle.config.proofs.Tests.{joined-amid}
+use Rattle.config.proofs.RowsLaws.{kind-judged}
 use Rattle.config.proofs.row_ok.Statement.{statement}
 use Rattle.config.proofs.row_ok.Tie as tie
 
@@ -14,21 +16,20 @@ returns : tie.Need-returns
 unfolding rowOk
 returns c =
     let c8 = c .before .before .before .before .before .before .before .before in
-    let cfg = now (c8 .before .before .before .args .cfg) in
-    let e = c8 .before .before .before .args .event .0 in
+    let cfg = now (c8 .before .before .args .cfg) in
+    let e = c8 .before .before .args .event .0 in
     (λ i.
     c8 .before .in-range .ensures i
     && c8 .in-range2 .ensures i
     && c .before .before .before .before .before .before .before .in-range3 .ensures i
     && c .before .before .before .before .before .before .in-range4 .ensures i
-    && (rw (c8 .before .before .count-within .ensures)
-    at (c .before .before .before .before .before .of-kind-ok .ensures)) i
+    && c .before .before .before .before .before .of-kind-ok .ensures i
     && c .before .before .before .before .in-range5 .ensures i
     && c .before .before .before .in-range6 .ensures i
     && c .before .before .in-range7 .ensures i
     && c .before .in-range8 .ensures i
     && c .in-range9 .ensures i)
-    ∙ joined-amid _ _ _ _ (ofKind (kindOf cfg e) cfg e) _
+    ∙ joined-amid _ _ _ _ _ (ofKind (pos (kindOf cfg e)) cfg e) _ (kind-judged cfg (column 4 cfg e) e)
 
 pub row-ok-spec : {M : Type 1} → statement M
 row-ok-spec =
@@ -36,5 +37,4 @@ row-ok-spec =
     (tie.spec
     (λ c κs. search needs) (λ c κs. search needs) (λ c κs. search needs) (λ c κs. search needs) (λ c κs. search needs)
     (λ c κs. search needs) (λ c κs. search needs) (λ c κs. search needs) (λ c κs. search needs) (λ c κs. search needs)
-    (λ c κs. search needs)
     returns)
