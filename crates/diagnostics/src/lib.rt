@@ -203,14 +203,6 @@ fn counter_byte(counter: i64) -> u8
     counter as u8
 }
 
-// A number that rises by one where a test holds.
-fn one_more_if(test: bool, number: usize) -> usize
-    requires { ⌜ number < mostEvents ⌝ }
-    ensures { λ r. ⌜ r ≡ cond test (number + 1) number ⌝ }
-{
-    if test { number + 1 } else { number }
-}
-
 // The number of events that are asked for.
 fn number_asked(cfg: &[i32], records: &[u8], debounce: &[i32], asked: Asked) -> usize
     requires { ⌜ configOk (now cfg) ≡ true ⌝ }
@@ -221,7 +213,7 @@ fn number_asked(cfg: &[i32], records: &[u8], debounce: &[i32], asked: Asked) -> 
     let n = config::events(cfg);
     let mut number = 0;
     for event in 0..n {
-        number = one_more_if(
+        number = writing::one_more_if(
             is_asked(cfg, records, debounce, EventNumber(event), asked),
             number,
         );

@@ -94,7 +94,7 @@ module _ (cfg : Configuration) (names : List ℕ) (s : State) where
 
   unfoldable pub failedList : List ℕ
   failedList =
-      cond (eqb (painted cfg s 1) 0) (text "<p>None: no signal that was tested has failed.</p>\n") (listOf Failed)
+      cond (eqb (painted cfg s 1) 0) (text "<p>None: no tested signal failed its last test.</p>\n") (listOf Failed)
 
   unfoldable pub failedSection : List ℕ
   failedSection = text "<h2>Failed</h2>\n" ++ failedList

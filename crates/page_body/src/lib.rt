@@ -3,12 +3,12 @@ use manual::Board;
 use manual::EventNumber;
 use page_rows::Listing;
 ghost use mathlib.Core.Path.{_≡_};
-ghost use mathlib.Core.Bool.{true, cond};
+ghost use mathlib.Core.Bool.{true};
 ghost use mathlib.Core.List.{List};
-ghost use Prim.Native.Nat.{ℕ, _+_, _≤_, _<_};
+ghost use Prim.Native.Nat.{ℕ, _+_, _≤_};
 ghost use lib.IntN.{ℤ};
 ghost use lib.ListN.{length};
-ghost use Rattle.manual.specs.Configuration.{mostEvents, configOk};
+ghost use Rattle.manual.specs.Configuration.{configOk};
 ghost use Rattle.judgement.specs.Fits.{RecordsFor};
 ghost use Rattle.manual.specs.State.{lent};
 ghost use Rattle.page_text.specs.Text.{Puts};
@@ -31,13 +31,6 @@ pub struct Log {
 
 // ---- how many signals are untested, failed, live
 
-fn one_more_if(test: bool, number: u16) -> u16
-    requires { ⌜ number < mostEvents ⌝ }
-    ensures { λ r. ⌜ r ≡ cond test (number + 1) number ⌝ }
-{
-    if test { number + 1 } else { number }
-}
-
 // How many signals have a paint.
 fn painted(cfg: &[i32], records: &[u8], board: Board, which: u8) -> u16
     requires { ⌜ RecordsFor (now cfg) (now records) ⌝ }
@@ -48,9 +41,9 @@ fn painted(cfg: &[i32], records: &[u8], board: Board, which: u8) -> u16
     let mut number = 0;
     for event in 0..n {
         let paint = untested::paint_of(cfg, records, board, EventNumber(event));
-        number = one_more_if(page_rows::paint_number(paint) == which, number);
+        number = writing::one_more_if(page_rows::paint_number(paint) == which, number);
     }
-    number
+    number as u16
 }
 
 // "At the top, in words: how many signals are untested, failed, live"
@@ -237,7 +230,7 @@ fn failed_list(
         return page_text::put(
             buffer,
             at,
-            b"<p>None: no signal that was tested has failed.</p>\n",
+            b"<p>None: no tested signal failed its last test.</p>\n",
         );
     }
     list(
@@ -531,12 +524,11 @@ pub fn body(
 ) -> usize
     requires { ⌜ (Shown (now cfg) (lent (now records) (now debounce) (now memory) board)) × (length (now names) ≤ mostNames)
         × (at + 2003000 ≤ length (now buffer)) ⌝ }
-    ensures { λ r. ⌜ Puts
-        (body (now (cfg .entry)) (now (names .entry))
+    ensures { λ r. ⌜ Puts (body (now (cfg .entry)) (now (names .entry))
         (lent (now (records .entry)) (now (debounce .entry)) (now (memory .entry)) board) log)
         2003000 at r (now (buffer .entry)) (now (buffer .exit)) ⌝ }
 {
-    let next = upper(
+    let a = upper(
         buffer,
         at,
         cfg,
@@ -547,15 +539,5 @@ pub fn body(
         names,
         log,
     );
-    lower(
-        buffer,
-        next,
-        cfg,
-        records,
-        debounce,
-        memory,
-        board,
-        names,
-        log,
-    )
+    lower(buffer, a, cfg, records, debounce, memory, board, names, log)
 }

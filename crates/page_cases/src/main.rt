@@ -35,7 +35,9 @@ fn differing_line(page: &[u8], expected: &[u8]) -> u32 {
 // ---- the cases
 
 // The bytes from one place to another; none where they do not lie within the text.
-fn part<'a>(text: &'a [u8], from: usize, to: usize) -> &'a [u8] {
+fn part<'a>(text: &'a [u8], from: usize, to: usize) -> &'a [u8]
+    ensures { λ r. ⌜ length (now r) ≤ length (now (text .entry)) ⌝ }
+{
     if to < from {
         return &text[..0];
     }

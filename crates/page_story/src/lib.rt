@@ -7,11 +7,18 @@ use replay_step::Stepped;
 use transcript::Cursor;
 ghost use mathlib.Core.Path.{_≡_};
 ghost use mathlib.Core.Bool.{true};
-ghost use Prim.Native.Nat.{_+_, _≤_};
+ghost use mathlib.Core.List.{List};
+ghost use Prim.Native.Nat.{ℕ, _+_, _≤_, _<_};
+ghost use lib.IntN.{ℤ};
 ghost use lib.ListN.{length};
-ghost use Rattle.manual.specs.Configuration.{configOk};
-ghost use Rattle.replay_step.specs.Turn.{Playable, Buffers};
+ghost use Rattle.manual.specs.State.{lent};
+ghost use Rattle.replay_step.specs.Beginning.{beginning};
+ghost use Rattle.replay_step.specs.Turn.{made, Playable, Buffers};
+ghost use Rattle.page_text.specs.Text.{Puts};
 ghost use Rattle.page_names.specs.Names.{mostNames};
+ghost use Rattle.page_story.specs.Story.{atFirst, afterCall, ended, oneTurn, turns, played, soFar, Blocks};
+ghost use Rattle.page_story.specs.Page.{metaPart, textStyle, paintStyle, tableStyle, head, logOf, shown};
+ghost use Rattle.page_story.specs.Page.{noState, refusedConfiguration, unreadableLog, rest, page, mostLog, Room};
 
 // ---- the calls
 
@@ -21,13 +28,34 @@ struct Played {
     board: Board,
     next: Cursor,
     more: bool,
-    made: u16,
-    refused: u16,
-    last: u16,
+    made: usize,
+    refused: usize,
+    last: u8,
     bad: bool,
 }
 
-fn ended(played: Played, board: Board, bad: bool) -> Played {
+fn after_call(played: Played, board: Board, next: Cursor, answer: u8) -> Played
+    requires { ⌜ (played .made < mostLog) × (played .refused < mostLog) ⌝ }
+    ensures { λ r. ⌜ ((records : List ℕ) (debounce : List ℤ) (memory : List ℕ)
+        → soFar records debounce memory r
+        ≡ afterCall (soFar records debounce memory played) next (made answer (lent records debounce memory board))) ⌝ }
+{
+    Played {
+        board,
+        next,
+        more: true,
+        made: played.made + 1,
+        refused: writing::one_more_if(answer != 0, played.refused),
+        last: answer,
+        bad: false,
+    }
+}
+
+fn ended(played: Played, board: Board, bad: bool) -> Played
+    ensures { λ r. ⌜ ((records : List ℕ) (debounce : List ℤ) (memory : List ℕ)
+        → soFar records debounce memory r
+        ≡ ended (soFar records debounce memory played) (lent records debounce memory board) bad) ⌝ }
+{
     let next = played.next;
     Played {
         board,
@@ -37,50 +65,6 @@ fn ended(played: Played, board: Board, bad: bool) -> Played {
         refused: played.refused,
         last: played.last,
         bad,
-    }
-}
-
-fn count_if(count: u16, test: bool) -> u16 {
-    if !test {
-        return count;
-    }
-    if count < 65535 { count + 1 } else { count }
-}
-
-// A decimal digit; 0 for any other byte.
-fn digit(byte: u8) -> u16
-    ensures { λ r. ⌜ r ≤ 9 ⌝ }
-{
-    if byte < b'0' {
-        return 0;
-    }
-    if b'9' < byte {
-        return 0;
-    }
-    (byte - b'0') as u16
-}
-
-// The answer that a line of the replay program begins with: one digit before a space, or two.
-fn answer_in(line: &[u8]) -> u16 {
-    if line.len() < 2 {
-        return 0;
-    }
-    let first = digit(line[0]);
-    if line[1] == b' ' {
-        return first;
-    }
-    10 * first + digit(line[1])
-}
-
-fn after_call(played: Played, board: Board, next: Cursor, answer: u16) -> Played {
-    Played {
-        board,
-        next,
-        more: true,
-        made: count_if(played.made, true),
-        refused: count_if(played.refused, answer != 0),
-        last: answer,
-        bad: false,
     }
 }
 
@@ -94,7 +78,11 @@ fn turn(
     text: &[u8],
     line: &mut [u8],
 ) -> Played
-    requires { ⌜ Playable (now cfg) (now records) (now line) ⌝ }
+    requires { ⌜ (Playable (now cfg) (now records) (now line)) × (played .made < mostLog)
+        × (played .refused < mostLog) ⌝ }
+    ensures { λ r. ⌜ soFar (now (records .exit)) (now (debounce .exit)) (now (memory .exit)) r
+        ≡ oneTurn (now (cfg .entry)) (now (text .entry))
+        (soFar (now (records .entry)) (now (debounce .entry)) (now (memory .entry)) played) ⌝ }
 {
     let from = played.next;
     let turn = replay_step::step(
@@ -110,16 +98,13 @@ fn turn(
     let board = turn.board;
     let stepped = turn.stepped;
     match stepped {
-        Stepped::Line(length, next) => {
-            let answer = answer_in(&line[..length]);
-            after_call(played, board, next, answer)
-        }
+        Stepped::Line(_, answer, next) => after_call(played, board, next, answer),
         Stepped::End => ended(played, board, false),
         Stepped::BadInput => ended(played, board, true),
     }
 }
 
-// The calls of the text from the cursor on. Each takes at least one byte of it.
+// The calls of the text from the cursor on.
 fn turns(
     cfg: &[i32],
     records: &mut [u8],
@@ -130,7 +115,10 @@ fn turns(
     from: Cursor,
     line: &mut [u8],
 ) -> Played
-    requires { ⌜ Playable (now cfg) (now records) (now line) ⌝ }
+    requires { ⌜ (Playable (now cfg) (now records) (now line)) × (length (now text) ≤ mostLog) ⌝ }
+    ensures { λ r. ⌜ soFar (now (records .exit)) (now (debounce .exit)) (now (memory .exit)) r
+        ≡ turns (now (cfg .entry)) (now (text .entry)) (length (now (text .entry)))
+        (atFirst (lent (now (records .entry)) (now (debounce .entry)) (now (memory .entry)) board) (from .at)) ⌝ }
 {
     let mut played = Played {
         board,
@@ -150,42 +138,72 @@ fn turns(
     played
 }
 
-// ---- the page
-
-// A byte of the log, which has at most 32,768.
-fn place_of(at: usize) -> u16 {
-    if 65535 < at { 65535 } else { at as u16 }
+// A fresh state in blocks of the exact lengths, then the calls.
+fn play(
+    cfg: &[i32],
+    records: &mut [u8],
+    debounce: &mut [i32],
+    memory: &mut [u8],
+    text: &[u8],
+    from: Cursor,
+) -> Played
+    requires { ⌜ (Blocks (now cfg) (now records) (now debounce) (now memory)) × (length (now text) ≤ mostLog) ⌝ }
+    ensures { λ r. ⌜ soFar (now (records .exit)) (now (debounce .exit)) (now (memory .exit)) r
+        ≡ played (now (cfg .entry)) (now (text .entry)) (from .at) ⌝ }
+{
+    let mut line = [0; 2052];
+    let stopped = fresh_state::stopped_board(false);
+    let fresh = fresh_state::fresh(cfg, records, debounce, memory, stopped);
+    let board = fresh.board;
+    turns(cfg, records, debounce, memory, board, text, from, &mut line)
 }
 
-// The page of the state that is left. A state that a call left is well formed, which is judged here again.
-fn shown(
-    buffer: &mut [u8],
-    at: usize,
+// ---- the page
+
+// What is told of the log beside the state.
+fn log_of(played: Played, unused: u16) -> Log
+    requires { ⌜ (played .made ≤ mostLog) × (played .refused ≤ mostLog) × (played .next .at ≤ mostLog) ⌝ }
+    ensures { λ r. ⌜ ((records : List ℕ) (debounce : List ℤ) (memory : List ℕ)
+        → r ≡ logOf unused (soFar records debounce memory played)) ⌝ }
+{
+    let next = played.next;
+    Log {
+        made: played.made as u16,
+        refused: played.refused as u16,
+        last: played.last as u16,
+        bad: played.bad,
+        behind: next.at as u16,
+        unused,
+    }
+}
+
+// The fresh state, the calls, and the page of the state that they leave.
+fn story(
     cfg: &[i32],
-    records: &[u8],
-    debounce: &[i32],
-    memory: &[u8],
-    played: Played,
+    records: &mut [u8],
+    debounce: &mut [i32],
+    memory: &mut [u8],
+    text: &[u8],
+    from: Cursor,
     names: &[u8],
     unused: u16,
+    buffer: &mut [u8],
+    at: usize,
 ) -> usize
-    requires { ⌜ (configOk (now cfg) ≡ true) × (length (now names) ≤ mostNames)
-        × (at + 2003000 ≤ length (now buffer)) ⌝ }
-    ensures { λ r. ⌜ r ≤ at + 2003000 ⌝ }
+    requires { ⌜ (Buffers (now cfg) (now records) (now debounce) (now memory)) × (from .at ≤ length (now text))
+        × (Room (now text) (now names) at 2003000 (now buffer)) ⌝ }
+    ensures { λ r. ⌜ Puts (shown (now (cfg .entry)) (now (names .entry)) unused
+        (played (now (cfg .entry)) (now (text .entry)) (from .at)))
+        2003000 at r (now (buffer .entry)) (now (buffer .exit)) ⌝ }
 {
-    let board = played.board;
-    let next = played.next;
-    if !judgement::well_formed(cfg, records, debounce, memory, board) {
-        return at;
-    }
-    let log = Log {
-        made: played.made,
-        refused: played.refused,
-        last: played.last,
-        bad: played.bad,
-        behind: place_of(next.at),
-        unused,
-    };
+    let n = config::events(cfg);
+    let used = memory::memory_length(config::places(cfg), memory::entry_frames(cfg));
+    let records = &mut records[..manual::RECORD_WIDTH * n];
+    let debounce = &mut debounce[..n];
+    let memory = &mut memory[..used];
+    let told = play(cfg, records, debounce, memory, text, from);
+    let board = told.board;
+    let log = log_of(told, unused);
     page_body::body(
         buffer,
         at,
@@ -199,56 +217,11 @@ fn shown(
     )
 }
 
-// A fresh state in blocks of the exact lengths, then the calls, then the page.
-fn story(
-    cfg: &[i32],
-    records: &mut [u8],
-    debounce: &mut [i32],
-    memory: &mut [u8],
-    text: &[u8],
-    from: Cursor,
-    names: &[u8],
-    unused: u16,
-    buffer: &mut [u8],
-    at: usize,
-) -> usize
-    requires { ⌜ (Buffers (now cfg) (now records) (now debounce) (now memory)) × (length (now names) ≤ mostNames)
-        × (at + 2003000 ≤ length (now buffer)) ⌝ }
-    ensures { λ r. ⌜ r ≤ at + 2003000 ⌝ }
-{
-    let mut line = [0; 2052];
-    let n = config::events(cfg);
-    let used = memory::memory_length(config::places(cfg), memory::entry_frames(cfg));
-    let records = &mut records[..manual::RECORD_WIDTH * n];
-    let debounce = &mut debounce[..n];
-    let memory = &mut memory[..used];
-    let fresh = fresh_state::fresh(
-        cfg,
-        records,
-        debounce,
-        memory,
-        fresh_state::stopped_board(false),
-    );
-    let board = fresh.board;
-    let played = turns(cfg, records, debounce, memory, board, text, from, &mut line);
-    shown(
-        buffer,
-        at,
-        cfg,
-        records,
-        debounce,
-        memory,
-        played,
-        names,
-        unused,
-    )
-}
-
 // ---- its style
 
 fn put_meta(buffer: &mut [u8], at: usize) -> usize
     requires { ⌜ at + 400 ≤ length (now buffer) ⌝ }
-    ensures { λ r. ⌜ r ≤ at + 400 ⌝ }
+    ensures { λ r. ⌜ Puts metaPart 400 at r (now (buffer .entry)) (now (buffer .exit)) ⌝ }
 {
     let a = page_text::put(
         buffer,
@@ -269,7 +242,7 @@ fn put_meta(buffer: &mut [u8], at: usize) -> usize
 
 fn put_texts(buffer: &mut [u8], at: usize) -> usize
     requires { ⌜ at + 600 ≤ length (now buffer) ⌝ }
-    ensures { λ r. ⌜ r ≤ at + 600 ⌝ }
+    ensures { λ r. ⌜ Puts textStyle 600 at r (now (buffer .entry)) (now (buffer .exit)) ⌝ }
 {
     let a = page_text::put(
         buffer,
@@ -300,7 +273,7 @@ fn put_texts(buffer: &mut [u8], at: usize) -> usize
 
 fn put_paints(buffer: &mut [u8], at: usize) -> usize
     requires { ⌜ at + 600 ≤ length (now buffer) ⌝ }
-    ensures { λ r. ⌜ r ≤ at + 600 ⌝ }
+    ensures { λ r. ⌜ Puts paintStyle 600 at r (now (buffer .entry)) (now (buffer .exit)) ⌝ }
 {
     let a = page_text::put(
         buffer,
@@ -326,7 +299,7 @@ fn put_paints(buffer: &mut [u8], at: usize) -> usize
 
 fn put_tables(buffer: &mut [u8], at: usize) -> usize
     requires { ⌜ at + 600 ≤ length (now buffer) ⌝ }
-    ensures { λ r. ⌜ r ≤ at + 600 ⌝ }
+    ensures { λ r. ⌜ Puts tableStyle 600 at r (now (buffer .entry)) (now (buffer .exit)) ⌝ }
 {
     let a = page_text::put(
         buffer,
@@ -362,7 +335,7 @@ fn put_tables(buffer: &mut [u8], at: usize) -> usize
 
 fn put_head(buffer: &mut [u8], at: usize) -> usize
     requires { ⌜ at + 2200 ≤ length (now buffer) ⌝ }
-    ensures { λ r. ⌜ r ≤ at + 2200 ⌝ }
+    ensures { λ r. ⌜ Puts head 2200 at r (now (buffer .entry)) (now (buffer .exit)) ⌝ }
 {
     let a = put_meta(buffer, at);
     let b = put_texts(buffer, a);
@@ -374,7 +347,7 @@ fn put_head(buffer: &mut [u8], at: usize) -> usize
 
 fn put_bad(buffer: &mut [u8], at: usize, why: &[u8]) -> usize
     requires { ⌜ (length (now why) ≤ 200) × (at + 400 ≤ length (now buffer)) ⌝ }
-    ensures { λ r. ⌜ r ≤ at + 400 ⌝ }
+    ensures { λ r. ⌜ Puts (noState (now (why .entry))) 400 at r (now (buffer .entry)) (now (buffer .exit)) ⌝ }
 {
     let a = page_text::put(
         buffer,
@@ -387,7 +360,7 @@ fn put_bad(buffer: &mut [u8], at: usize, why: &[u8]) -> usize
 
 fn put_unreadable(buffer: &mut [u8], at: usize, longer: bool) -> usize
     requires { ⌜ at + 400 ≤ length (now buffer) ⌝ }
-    ensures { λ r. ⌜ r ≤ at + 400 ⌝ }
+    ensures { λ r. ⌜ Puts (unreadableLog longer) 400 at r (now (buffer .entry)) (now (buffer .exit)) ⌝ }
 {
     if longer {
         return put_bad(buffer, at, b"The log is longer than 32,768 bytes.");
@@ -395,7 +368,7 @@ fn put_unreadable(buffer: &mut [u8], at: usize, longer: bool) -> usize
     put_bad(
         buffer,
         at,
-        b"The log does not begin with a count of configuration numbers and so many numbers.",
+        b"The log does not begin with a count of configuration numbers, 7,171 at most, and so many numbers.",
     )
 }
 
@@ -412,8 +385,10 @@ fn put_rest(
     names: &[u8],
     unused: u16,
 ) -> usize
-    requires { ⌜ (length (now names) ≤ mostNames) × (at + 2003000 ≤ length (now buffer)) ⌝ }
-    ensures { λ r. ⌜ r ≤ at + 2003000 ⌝ }
+    requires { ⌜ Room (now text) (now names) at 2003000 (now buffer) ⌝ }
+    ensures { λ r. ⌜ Puts
+        (rest longer (now (text .entry)) (now (names .entry)) unused (beginning longer (now (text .entry))))
+        2003000 at r (now (buffer .entry)) (now (buffer .exit)) ⌝ }
 {
     let mut cfg = [0; manual::MOST_NUMBERS];
     let mut records = [0; manual::MOST_RECORDS];
@@ -444,8 +419,9 @@ fn put_rest(
 // Puts the page of a log and a names file at the front of the buffer, and answers its length. `longer` says that the
 // log is longer than the text, `unused` why there are no names.
 pub fn page(buffer: &mut [u8], text: &[u8], longer: bool, names: &[u8], unused: u16) -> usize
-    requires { ⌜ (length (now names) ≤ mostNames) × (2010000 ≤ length (now buffer)) ⌝ }
-    ensures { λ r. ⌜ r ≤ 2010000 ⌝ }
+    requires { ⌜ Room (now text) (now names) 0 2010000 (now buffer) ⌝ }
+    ensures { λ r. ⌜ Puts (page longer (now (text .entry)) (now (names .entry)) unused) 2010000 0 r
+        (now (buffer .entry)) (now (buffer .exit)) ⌝ }
 {
     let a = put_head(buffer, 0);
     let b = put_rest(buffer, a, text, longer, names, unused);

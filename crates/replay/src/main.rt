@@ -57,7 +57,7 @@ fn turn(
     let board = turn.board;
     let stepped = turn.stepped;
     match stepped {
-        Stepped::Line(length, next) => {
+        Stepped::Line(length, _, next) => {
             say(&buffer[..length]);
             Played {
                 board,

@@ -110,7 +110,7 @@ fn turn(
     let board = turn.board;
     let stepped = turn.stepped;
     match stepped {
-        Stepped::Line(length, next) => Played {
+        Stepped::Line(length, _, next) => Played {
             board,
             next,
             more: true,

@@ -229,15 +229,38 @@ countOf (Ready count next) = count
 countOf Begun.Refused = 0
 countOf Begun.Unreadable = 0
 
+abbrev behindOf : Begun → ℕ
+behindOf (Ready count next) = next .at
+behindOf Begun.Refused = 0
+behindOf Begun.Unreadable = 0
+
+counted-is : (zs : List ℤ) (at : ℕ) {count : ℕ} {next : Cursor} {l : List ℤ} (m : List ℤ)
+    → leaving (Ready count next) l ≡ beginningLeft (ready zs at) m → count ≡ length zs
+counted-is zs at m e = ap (λ (x : Leaving Begun). countOf (x .answer)) e
+
+front-is : (zs : List ℤ) (at : ℕ) {count : ℕ} {next : Cursor} {l : List ℤ} (m : List ℤ)
+    → leaving (Ready count next) l ≡ beginningLeft (ready zs at) m → take count l ≡ zs
+unfolding laid
+front-is zs at {count} m e =
+    ap (take count) (ap (λ (x : Leaving Begun). x .buffer) e) ∙ take-at zs _ count (sym (counted-is zs at m e))
+
+-- where the configuration is accepted, its numbers are those in front of the buffer
+pub ready-is : (b : Beginning) {count : ℕ} {next : Cursor} {l : List ℤ} (m : List ℤ)
+    → leaving (Ready count next) l ≡ beginningLeft b m → b ≡ ready (take count l) (next .at)
+ready-is (ready zs at) {next = next} m e =
+    let front = front-is zs at m e in
+    let a : next .at ≡ at = ap (λ (x : Leaving Begun). behindOf (x .answer)) e in λ i. ready (sym front i) (sym a i)
+ready-is (refused zs) m e = clash true refl (ap (λ (x : Leaving Begun). isReady (x .answer)) e)
+ready-is (unreadable zs) m e = clash true refl (ap (λ (x : Leaving Begun). isReady (x .answer)) e)
+
 left-tells : (b : Beginning) {count : ℕ} {next : Cursor} {l : List ℤ} (m : List ℤ) → tells b ≡ true
     → leaving (Ready count next) l ≡ beginningLeft b m → (count ≤ mostNumbers) × (configOk (take count l) ≡ true)
-unfolding laid
-left-tells (ready zs at) {count} {next} {l} m t e =
-    let n : count ≡ length zs = ap (λ (x : Leaving Begun). countOf (x .answer)) e in
-    let front : take count l ≡ zs =
-    ap (take count) (ap (λ (x : Leaving Begun). x .buffer) e) ∙ take-at zs _ count (sym n) in
-    let small = leb-true (length zs) mostNumbers (and-left (leb (length zs) mostNumbers) (configOk zs) t) in
-    (omega (arith, n, small), ap configOk front ∙ and-right (leb (length zs) mostNumbers) (configOk zs) t)
+left-tells (ready zs at) m t e =
+    let n = counted-is zs at m e in
+    let small = leb-true (length zs) mostNumbers (and-left (leb (length zs) mostNumbers) (configOk zs) t) in (
+      omega (arith, n, small),
+      ap configOk (front-is zs at m e) ∙ and-right (leb (length zs) mostNumbers) (configOk zs) t,
+    )
 left-tells (refused zs) m t e = clash true refl (ap (λ (x : Leaving Begun). isReady (x .answer)) e)
 left-tells (unreadable zs) m t e = clash true refl (ap (λ (x : Leaving Begun). isReady (x .answer)) e)
 

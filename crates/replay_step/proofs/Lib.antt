@@ -1,2 +1,3 @@
 pub mod BeginningLaws
 pub mod TurnLaws
+pub mod EachCallTakesAByte

@@ -39,10 +39,10 @@ module _ (cfg : Configuration) (call : Call) (next : Cursor) (buffer : List ℕ)
       → n ≡ events cfg
       → made answer s′ ≡ madeBy (outcome cfg (callIs frame call) alone s)
       → written size buffer′ ≡ filled (line answer (statusBytes n (s′ .records))) buffer
-      → turned (Line size next) buffer′ s′ ≡ turnBy cfg buffer s (Makes call next)
+      → turned (Line size answer next) buffer′ s′ ≡ turnBy cfg buffer s (Makes call next)
   unfolding lined
   line-made {answer = answer} {s′ = s′} f p m w =
-      ap (λ (x : Written). withLine next x s′)
+      ap (λ (x : Written). withLine answer next x s′)
       (w ∙ ap (λ (k : ℕ). filled (line answer (statusBytes k (s′ .records))) buffer) p)
       ∙ ap (lined cfg next buffer) (m ∙ ap (λ (l : List ℕ). madeBy (outcome cfg (callIs l call) alone s)) f)
 
@@ -58,7 +58,7 @@ zeros-front k n e h = ap (λ (j : ℕ). take {A = ℕ} j (replicate k 0)) e ∙ 
 -- ---- the line lies within the buffer
 
 abbrev lineFits : Stepped → ℕ → Bool
-lineFits (Line n next) size = leb n size
+lineFits (Line n answer next) size = leb n size
 lineFits End size = true
 lineFits BadInput size = true
 
@@ -78,8 +78,8 @@ module _ (cfg : Configuration) (buffer : List ℕ) (s : State) where
   asked-fits Nothing = refl
   asked-fits Asked.Unreadable = refl
 
-  pub line-within : (at : ℕ) (text : List ℕ) {n : ℕ} {next : Cursor} {buffer′ : List ℕ} {s′ : State}
-      → turned (Line n next) buffer′ s′ ≡ turn cfg at text buffer s → n ≤ length buffer′
+  pub line-within : (at : ℕ) (text : List ℕ) {n answer : ℕ} {next : Cursor} {buffer′ : List ℕ} {s′ : State}
+      → turned (Line n answer next) buffer′ s′ ≡ turn cfg at text buffer s → n ≤ length buffer′
   unfolding turn
   line-within at text {n} {buffer′ = buffer′} e = leb-true n (length buffer′) (ap fits e ∙ asked-fits (askedAt at text))
 

@@ -53,8 +53,8 @@ abbrev pub turned : Stepped → List ℕ → State → Turned
 turned stepped buffer s = record { stepped = stepped; buffer = buffer; state = s }
 
 -- "Each call prints answer and all status bytes": the line stands in front of the buffer, the rest of it as found
-abbrev pub withLine : Cursor → Written → State → Turned
-withLine next w s = turned (Line (w .next) next) (w .room) s
+abbrev pub withLine : ℕ → Cursor → Written → State → Turned
+withLine answer next w s = turned (Line (w .next) answer next) (w .room) s
 
 module _ (cfg : Configuration) where
   -- "frames are zero"
@@ -65,7 +65,7 @@ module _ (cfg : Configuration) where
   lineAfter m = line (m .answer) (statusBytes (events cfg) (m .state .records))
 
   unfoldable pub lined : Cursor → List ℕ → Made → Turned
-  lined next buffer m = withLine next (filled (lineAfter m) buffer) (m .state)
+  lined next buffer m = withLine (m .answer) next (filled (lineAfter m) buffer) (m .state)
 
   -- "At anything else unreadable, incomplete, or an argument with a minus: that line and stop."
   abbrev pub turnBy : List ℕ → State → Asked → Turned

@@ -247,10 +247,10 @@ pub fn begin(text: &[u8], longer: bool, cfg: &mut [i32]) -> Begun
 
 // ---- a turn
 
-// What a turn answers: the length of the line in front of the buffer, and the cursor behind the call; that the input
-// ends; or that it is bad.
+// What a turn answers: the length of the line in front of the buffer, the call's answer, and the cursor behind it; that
+// the input ends; or that it is bad.
 pub enum Stepped {
-    Line(usize, Cursor),
+    Line(usize, u8, Cursor),
     End,
     BadInput,
 }
@@ -318,16 +318,10 @@ fn make(
         )),
         Call::Start(cycle) => made_of(cycles::start(cfg, records, debounce, memory, board, cycle)),
         Call::Stop(cycle) => made_of(cycles::stop(cfg, records, debounce, memory, board, cycle)),
-        Call::Tick(ms) => made_of(reporting::tick(
-            cfg,
-            records,
-            debounce,
-            memory,
-            board,
-            ms,
-            frame,
-            manual::ALL_PRESENT,
-        )),
+        Call::Tick(ms) => {
+            let all = manual::ALL_PRESENT;
+            made_of(reporting::tick(cfg, records, debounce, memory, board, ms, frame, all))
+        }
         Call::Clear(code) => made_of(clearing::clear(cfg, records, debounce, memory, board, code)),
     }
 }
@@ -355,10 +349,11 @@ fn play(
     let zeros = [0; manual::MOST_FRAME];
     let frame = &zeros[..config::frame_bytes(cfg)];
     let made = make(cfg, records, debounce, memory, board, call, frame);
+    let answer = made.answer;
     let after = made.board;
-    let length = transcript::fill_line(buffer, made.answer, records, config::events(cfg));
+    let length = transcript::fill_line(buffer, answer, records, config::events(cfg));
     Turn {
-        stepped: Stepped::Line(length, next),
+        stepped: Stepped::Line(length, answer, next),
         board: after,
     }
 }

@@ -11,14 +11,14 @@ use manual::Refusal;
 use manual::TableReturned;
 use status::Status;
 ghost use mathlib.Core.Path.{_≡_};
-ghost use mathlib.Core.Bool.{true, cond};
+ghost use mathlib.Core.Bool.{true};
 ghost use mathlib.Core.List.{List, [], _∷_};
-ghost use Prim.Native.Nat.{ℕ, _+_, _<_};
+ghost use Prim.Native.Nat.{ℕ, _+_};
 ghost use lib.Dec.{ltb};
 ghost use lib.IntN.{ℤ};
 ghost use lib.ListN.{length};
 ghost use Rattle.manual.specs.declared.Board.{Board};
-ghost use Rattle.manual.specs.Configuration.{mostEvents, configOk};
+ghost use Rattle.manual.specs.Configuration.{configOk};
 ghost use Rattle.manual.specs.State.{lent};
 ghost use Rattle.manual.specs.Answers.{alone, lentRoom, _if_, firstThatApplies, ofLength, leaves};
 ghost use Rattle.manual.specs.Untested.{table, isGrey, paintOf, greyEvents, tableRead, paintRead};
@@ -144,14 +144,6 @@ pub fn read_paint(
 
 // ---- the list
 
-// A number that rises by one where a test holds.
-fn one_more_if(test: bool, number: usize) -> usize
-    requires { ⌜ number < mostEvents ⌝ }
-    ensures { λ r. ⌜ r ≡ cond test (number + 1) number ⌝ }
-{
-    if test { number + 1 } else { number }
-}
-
 // The number of grey events.
 fn number_grey(cfg: &[i32], records: &[u8], board: Board) -> usize
     requires { ⌜ RecordsFor (now cfg) (now records) ⌝ }
@@ -160,7 +152,7 @@ fn number_grey(cfg: &[i32], records: &[u8], board: Board) -> usize
     let n = config::events(cfg);
     let mut number = 0;
     for event in 0..n {
-        number = one_more_if(is_grey(cfg, records, board, EventNumber(event)), number);
+        number = writing::one_more_if(is_grey(cfg, records, board, EventNumber(event)), number);
     }
     number
 }

@@ -10,18 +10,21 @@ slice-aggregate-page-3 c = length-of-front _ _ (c .before .before .before .befor
 
 page-requires : tie.Need-page-requires
 page-requires c κs =
-    let c8 = c .before .before .before .before .before .before .before .before in (
-      rw (← length-of-front _ _ (c .before .before .before .before .names-given .ensures .1)) (c .before .before
-          .before .before .names-given .ensures .0),
-      omega (arith, c8 .before .before .before .before .blank .ensures),
-    )
+    let c8 = c .before .before .before .before .before .before .before .before in
+    record {
+      log-short = search needs;
+      names-short =
+          rw (← length-of-front _ _ (c .before .before .before .before .names-given .ensures .1))
+          (c .before .before .before .before .names-given .ensures .0);
+      for-page = omega (arith, c8 .before .before .before .before .blank .ensures);
+    }
 
 slice-aggregate-write-all : tie.Need-slice-aggregate-write-all
 slice-aggregate-write-all c =
     let c8 = c .before .before .before .before .before .before .before .before in
     length-of-front _ _ (omega (
       arith,
-      c .before .before .page .ensures,
+      c .before .before .page .ensures .within,
       c .before .before .page .kept .0,
       c8 .before
           .before .before .before .before .before .before .blank .ensures,

@@ -14,7 +14,8 @@ use Rattle.page_body.proofs.painted.Statement.{statement}
 use Rattle.page_body.proofs.painted.Tie as tie
 
 abbrev Inv-loop : tie.InvT-loop
-Inv-loop cfg records board which n number₀ event₀ number event = (event ≤ n) × (number ≡ countBelow event (λ e. isPainted cfg (holding records board) e which))
+Inv-loop cfg records board which n number₀ event₀ number event = (event ≤ n) ×
+    (number ≡ countBelow event (λ e. isPainted cfg (holding records board) e which))
 
 abbrev μ-loop : tie.MeasureT-loop
 μ-loop cfg records board which n number₀ event₀ number event = n - event
@@ -54,6 +55,23 @@ loop-again c = (
   ) (c .one-more-if .ensures),
 )
 
+cast-result : tie.Need-cast-result Inv-loop μ-loop
+cast-result c =
+    let a = c .before .before .before .before .args in
+    let t = config-tells _ (c .before .before .before .before .pre .accepted) in
+    let most = count-most (λ e. isPainted (a .cfg .now) (holding (a .records .now) (a .board)) e (a .which))
+    (c .before .loop .event) in
+    record {
+      fits = omega (
+        arith,
+        c .before .before .events .ensures,
+        c .before .loop .inv .0,
+        c .before .loop .inv .1,
+        most,
+        t .n-most,
+      );
+    }
+
 returns : tie.Need-returns Inv-loop μ-loop
 returns c =
     let e : c .before .loop .event ≡ c .before .before .events .result = omega arith in
@@ -79,4 +97,5 @@ painted-spec =
     (λ c. omega arith)
     (λ c. omega arith)
     loop-again
+    cast-result
     returns)

@@ -1,7 +1,7 @@
 -- `one_more_if` meets its contract.
 use borrow.Author.Needs.{needs}
-use Rattle.page_body.proofs.one_more_if.Statement.{statement}
-use Rattle.page_body.proofs.one_more_if.Tie as tie
+use Rattle.writing.proofs.one_more_if.Statement.{statement}
+use Rattle.writing.proofs.one_more_if.Tie as tie
 
 returns : tie.Need-returns
 returns c = rw (c .if1 .taken)

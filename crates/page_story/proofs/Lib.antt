@@ -1,0 +1,3 @@
+pub mod StoryLaws
+pub mod PlayedToTheEnd
+pub mod PageLaws
