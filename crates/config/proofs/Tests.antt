@@ -24,10 +24,10 @@ holds-both [] ys = refl
 holds-both (x ∷ xs) ys = rw (← and-assoc x (holds xs) (holds ys), holds-both xs ys)
 
 -- tests that are joined on their own, amid others; x stands for them where the test before it holds
-pub joined-amid : (a b c d x : Bool) (xs ys : List Bool) → d && x ≡ d && holds xs
-    → joined a (b ∷ c ∷ d ∷ x ∷ ys) ≡ holds (a ∷ b ∷ c ∷ d ∷ (xs ++ ys))
+pub joined-amid : {r : Bool} (a b c d x : Bool) (xs ys : List Bool) → d && x ≡ d && holds xs
+    → r ≡ joined a (b ∷ c ∷ d ∷ x ∷ ys) → r ≡ holds (a ∷ b ∷ c ∷ d ∷ (xs ++ ys))
 unfolding holds
-joined-amid a b c d x xs ys e = joined-is a (b ∷ c ∷ d ∷ x ∷ ys) ∙ (λ i. a && (b && (c && amid i)))
+joined-amid a b c d x xs ys e p = p ∙ joined-is a (b ∷ c ∷ d ∷ x ∷ ys) ∙ (λ i. a && (b && (c && amid i)))
   where
     amid : d && (x && holds ys) ≡ d && holds (xs ++ ys)
     amid = rw (and-assoc d x (holds ys), e, ← and-assoc d (holds xs) (holds ys), holds-both xs ys)

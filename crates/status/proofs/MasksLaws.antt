@@ -6,7 +6,7 @@ use mathlib.Core.List.{List, [], _∷_}
 use Prim.Native.Nat.{ℕ, zero, suc, _-_, _*_, _/_, _%_, _^_, _<_}
 use native.Mathlib.Nat.{lt-of-le-of-lt}
 use native.Mathlib.Omega.{arith}
-use lib.Dec.{T, eqb}
+use lib.Dec.{eqb, eqb→eq}
 use lib.Pow.{pow-pos}
 use lib.Bits.{bitAnd, bitOr, and-le-r, and-shr, and-mod, or-shr, or-mod, and-high}
 use borrow.Author.Tests.{eq-eqb, ne-eqb}
@@ -16,7 +16,7 @@ use Rattle.history.specs.StatusByte.{testNotCompletedSinceLastClear, testFailed
 use Rattle.history.specs.StatusByte.{testNotCompletedThisOperationCycle, warningIndicatorRequested, Status, weight}
 use Rattle.history.specs.StatusByte.{byteOf, statusOf, among, setBits, clearBits, setBitsIf, clearBitsIf}
 use Rattle.history.proofs.WordsLaws.{and-true, and-false}
-use Rattle.history.proofs.Truth.{Law, always, truth, same-eq}
+use Rattle.history.proofs.Truth.{Law, truth, same-eq}
 use Rattle.history.proofs.StatusByteLaws.{eight, rowOf, each-bit, status-of-byte, byte-of-status}
 
 -- the eight bits, and the mask of some
@@ -81,24 +81,16 @@ bit-of-and =
 
 -- ---- setting and clearing
 
--- the bits of 255 less a byte are the other ones, by the table
-abbrev others : Bit → Law 8
-others b b0 b1 b2 b3 b4 b5 b6 b7 =
-    same (statusOf (255 - byteOf (eight b0 b1 b2 b3 b4 b5 b6 b7)) b) (not (eight b0 b1 b2 b3 b4 b5 b6 b7 b))
+-- 255 less a byte is the byte of the other bits, by the table
+abbrev others : Law 8
+others b0 b1 b2 b3 b4 b5 b6 b7 =
+    eqb (255 - byteOf (eight b0 b1 b2 b3 b4 b5 b6 b7)) (byteOf (λ b. not (eight b0 b1 b2 b3 b4 b5 b6 b7 b)))
 
 other-bits : (t : Status) (b : Bit) → statusOf (255 - byteOf t) b ≡ not (t b)
-other-bits t = each-bit (λ b. statusOf (255 - byteOf t) b ≡ not (t b))
-    (by testFailed tt) (by testFailedThisOperationCycle tt) (by pendingDTC tt) (by confirmedDTC tt)
-    (by testNotCompletedSinceLastClear tt) (by testFailedSinceLastClear tt) (by testNotCompletedThisOperationCycle tt)
-    (by warningIndicatorRequested tt)
-  where
-    by : (b : Bit) → T (always 8 (others b))
-        → statusOf (255 - byteOf t) b
-        ≡ not
-        (eight (t testFailed) (t testFailedThisOperationCycle) (t pendingDTC) (t confirmedDTC)
-        (t testNotCompletedSinceLastClear) (t testFailedSinceLastClear) (t testNotCompletedThisOperationCycle)
-        (t warningIndicatorRequested) b)
-    by b h = same-eq _ _ (truth 8 (others b) h (rowOf t))
+other-bits t b =
+    ap (λ (x : ℕ). statusOf x b)
+    (eqb→eq (255 - byteOf t) (byteOf (λ b. not (t b))) (truth 8 others tt (rowOf t)))
+    ∙ status-of-byte (λ b. not (t b)) b
 
 module _ (bits : List Bit) (s : ℕ) where
   after-set : statusOf (bitOr s (maskOf bits)) ≡ setBits bits (statusOf s)

@@ -8,7 +8,7 @@ unfolding between
 returns c =
     let z = toZ-ofZ (c .before .fits .number) in
     let l = toZ-ofZ (c .before .fits .lo) in
-    simp (z, l, toZ-ofZ (c .before .fits .hi), simp (z, l) at (c .if1 .taken))
+    simp (z, toZ-ofZ (c .before .fits .hi), simp (z, l) at (c .if1 .taken))
 
 returns-2 : tie.Need-returns-2
 unfolding between

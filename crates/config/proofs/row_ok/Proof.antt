@@ -1,4 +1,3 @@
-use mathlib.Core.Path.{_∙_}
 use mathlib.Core.Bool.{_&&_}
 use lib.IntN.{pos}
 use denote.Ref.{now}
@@ -18,6 +17,7 @@ returns c =
     let c8 = c .before .before .before .before .before .before .before .before in
     let cfg = now (c8 .before .before .args .cfg) in
     let e = c8 .before .before .args .event .0 in
+    joined-amid _ _ _ _ _ (ofKind (pos (kindOf cfg e)) cfg e) _ (kind-judged cfg (column 4 cfg e) e)
     (λ i.
     c8 .before .in-range .ensures i
     && c8 .in-range2 .ensures i
@@ -29,7 +29,6 @@ returns c =
     && c .before .before .in-range7 .ensures i
     && c .before .in-range8 .ensures i
     && c .in-range9 .ensures i)
-    ∙ joined-amid _ _ _ _ _ (ofKind (pos (kindOf cfg e)) cfg e) _ (kind-judged cfg (column 4 cfg e) e)
 
 pub row-ok-spec : {M : Type 1} → statement M
 row-ok-spec =

@@ -6,7 +6,6 @@ use Rattle.history.specs.StatusByte.{confirmedDTC, warningIndicatorRequested}
 use Rattle.status.specs.Clauses.{bytesOk}
 use Rattle.status.proofs.MasksLaws.{contains-is}
 use Rattle.status.proofs.ClausesLaws.{seven-hold}
-use borrow.Author.Needs.{needs}
 use Rattle.status.proofs.bytes_ok.Statement.{statement}
 use Rattle.status.proofs.bytes_ok.Tie as tie
 
@@ -29,13 +28,13 @@ pub bytes-ok-spec : {M : Type 1} → statement M
 bytes-ok-spec =
     tie.close
     (tie.spec
-    (λ c κs. search needs)
-    (λ c κs. search needs)
-    (λ c κs. search needs)
-    (λ c κs. search needs)
-    (λ c κs. search needs)
-    (λ c κs. search needs)
-    (λ c κs. search needs)
-    (λ c κs. search needs)
-    (λ c κs. search needs)
+    (λ c κs. tt)
+    (λ c κs. tt)
+    (λ c κs. tt)
+    (λ c κs. tt)
+    (λ c κs. tt)
+    (λ c κs. tt)
+    (λ c κs. tt)
+    (λ c κs. tt)
+    (λ c κs. tt)
     returns)

@@ -3,7 +3,6 @@ use mathlib.Core.Path.{ap, _∙_}
 use mathlib.Core.Bool.{not}
 use mathlib.Core.List.{[], _∷_}
 use lib.Dec.{lit<}
-use borrow.Author.Needs.{needs}
 use Rattle.history.specs.StatusByte.{testFailedThisOperationCycle, testNotCompletedThisOperationCycle, statusOf}
 use Rattle.status.proofs.MasksLaws.{maskOf, shares-is, neither-set}
 use Rattle.status.proofs.clean_cycle.Statement.{statement}
@@ -19,4 +18,4 @@ returns c =
 
 pub clean-cycle-spec : {M : Type 1} → statement M
 clean-cycle-spec = tie.close
-    (tie.spec (λ c κs. search needs) returns)
+    (tie.spec (λ c κs. tt) returns)

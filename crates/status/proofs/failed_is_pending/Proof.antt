@@ -1,7 +1,6 @@
 -- `failed_is_pending` meets its contract.
 use mathlib.Core.Path.{_∙_}
 use mathlib.Core.Bool.{not, _&&_}
-use borrow.Author.Needs.{needs}
 use Rattle.history.specs.Words.{implies}
 use Rattle.history.specs.StatusByte.{testFailedThisOperationCycle, pendingDTC, testNotCompletedThisOperationCycle}
 use Rattle.status.proofs.MasksLaws.{contains-is}
@@ -20,5 +19,5 @@ pub failed-is-pending-spec : {M : Type 1} → statement M
 failed-is-pending-spec =
     tie.close
     (tie.spec
-    (λ c κs. search needs) (λ c κs. search needs) (λ c κs. search needs) (λ c κs. search needs)
+    (λ c κs. tt) (λ c κs. tt) (λ c κs. tt) (λ c κs. tt)
     returns)

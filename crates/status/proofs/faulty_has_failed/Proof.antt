@@ -3,7 +3,6 @@ use mathlib.Core.Path.{_≡_, _∙_}
 use mathlib.Core.Bool.{_||_}
 use mathlib.Core.List.{[], _∷_}
 use lib.Dec.{lit<}
-use borrow.Author.Needs.{needs}
 use Rattle.history.specs.Words.{implies}
 use Rattle.history.specs.StatusByte.{testFailed, pendingDTC, confirmedDTC, testFailedSinceLastClear, statusOf}
 use Rattle.status.proofs.MasksLaws.{maskOf, contains-is, shares-is, one-of-three}
@@ -23,4 +22,4 @@ returns c =
 pub faulty-has-failed-spec : {M : Type 1} → statement M
 faulty-has-failed-spec =
     tie.close
-    (tie.spec (λ c κs. search needs) (λ c κs. search needs) (λ c κs. search needs) returns)
+    (tie.spec (λ c κs. tt) (λ c κs. tt) (λ c κs. tt) returns)

@@ -1,7 +1,6 @@
 -- `fresh_record` meets its contract.
 use mathlib.Core.Path.{ap}
 use Prim.Native.Nat.{ℕ}
-use borrow.Author.Needs.{needs}
 use Rattle.status.proofs.fresh_record.Statement.{statement}
 use Rattle.status.proofs.fresh_record.Tie as tie
 
@@ -10,4 +9,4 @@ returns c = ap (λ (x : ℕ). record { status = x; K = 0; h = 0; g = 0 }) (c .fr
 
 pub fresh-record-spec : {M : Type 1} → statement M
 fresh-record-spec = tie.close
-    (tie.spec (λ c κs. search needs) returns)
+    (tie.spec (λ c κs. tt) returns)

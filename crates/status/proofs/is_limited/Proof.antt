@@ -3,7 +3,6 @@ use mathlib.Core.List.{[], _∷_}
 use lib.Dec.{lit<}
 use Rattle.history.specs.StatusByte.{confirmedDTC, warningIndicatorRequested, statusOf}
 use Rattle.status.proofs.MasksLaws.{maskOf, shares-is, one-of-two}
-use borrow.Author.Needs.{needs}
 use Rattle.status.proofs.is_limited.Statement.{statement}
 use Rattle.status.proofs.is_limited.Tie as tie
 
@@ -15,5 +14,5 @@ returns c = let s = c .before .before .args .r .status .0 in
 pub is-limited-spec : {M : Type 1} → statement M
 is-limited-spec = tie.close
     (tie.spec
-    (λ c κs. search needs)
+    (λ c κs. tt)
     returns)

@@ -25,8 +25,8 @@ pub limits-ok-spec : {M : Type 1} → statement M
 limits-ok-spec =
     tie.close
     (tie.spec
-    (λ c κs. search needs)
-    (λ c κs. search needs)
+    (λ c κs. tt)
+    (λ c κs. tt)
     (λ c. search needs)
     (λ c. search needs)
     returns)

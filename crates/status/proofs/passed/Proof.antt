@@ -17,4 +17,4 @@ returns c =
 
 pub passed-spec : {M : Type 1} → statement M
 passed-spec = tie.close
-    (tie.spec (λ c κs. search needs) returns)
+    (tie.spec (λ c κs. tt) returns)

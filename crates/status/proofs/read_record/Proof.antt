@@ -1,6 +1,6 @@
 -- `read_record` meets its contract: the four bytes are there, and are those of `storedAt`.
 use mathlib.Core.Path.{refl}
-use borrow.Author.Needs.{needs}
+use native.Mathlib.Omega.{arith}
 use Rattle.manual.specs.State.{storedAt}
 use Rattle.status.proofs.read_record.Statement.{statement}
 use Rattle.status.proofs.read_record.Tie as tie
@@ -13,6 +13,6 @@ pub read-record-spec : {M : Type 1} → statement M
 read-record-spec =
     tie.close
     (tie.spec
-    (λ c. search needs) (λ c. search needs) (λ c. search needs) (λ c. search needs) (λ c. search needs)
-    (λ c. search needs) (λ c. search needs) (λ c. search needs)
+    (λ c. omega arith) (λ c. omega arith) (λ c. omega arith) (λ c. omega arith) (λ c. omega arith)
+    (λ c. omega arith) (λ c. omega arith) (λ c. omega arith)
     returns)

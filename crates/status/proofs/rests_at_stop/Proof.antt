@@ -4,7 +4,6 @@ use mathlib.Core.List.{[], _∷_}
 use lib.Dec.{eqb, lit<}
 use Rattle.history.specs.StatusByte.{pendingDTC, confirmedDTC, warningIndicatorRequested, statusOf}
 use Rattle.status.proofs.MasksLaws.{maskOf, shares-is, one-of-three}
-use borrow.Author.Needs.{needs}
 use Rattle.status.proofs.rests_at_stop.Statement.{statement}
 use Rattle.status.proofs.rests_at_stop.Tie as tie
 
@@ -21,6 +20,6 @@ returns c =
 pub rests-at-stop-spec : {M : Type 1} → statement M
 rests-at-stop-spec = tie.close
     (tie.spec
-    (λ c κs. search needs)
-    (λ c κs. search needs)
+    (λ c κs. tt)
+    (λ c κs. tt)
     returns)

@@ -3,7 +3,6 @@ use native.Mathlib.Omega.{arith}
 use lib.ListN.{List·getD-eq-default}
 use denote.Ref.{now}
 use Rattle.manual.specs.State.{storedAt}
-use borrow.Author.Needs.{needs}
 use Rattle.status.proofs.status_of.Statement.{statement}
 use Rattle.status.proofs.status_of.Tie as tie
 
@@ -19,9 +18,9 @@ pub status-of-spec : {M : Type 1} → statement M
 status-of-spec =
     tie.close
     (tie.spec
-    (λ c. search needs)
-    (λ c. search needs)
-    (λ c. search needs)
-    (λ c. search needs)
+    (λ c. omega arith)
+    (λ c. omega arith)
+    (λ c. omega arith)
+    (λ c. omega arith)
     returns
     returns-2)

@@ -1,6 +1,6 @@
 use mathlib.Core.Path.{refl}
 use Rattle.manual.specs.State.{storedAt}
-use borrow.Author.Needs.{needs}
+use native.Mathlib.Omega.{arith}
 use Rattle.status.proofs.status_within.Statement.{statement}
 use Rattle.status.proofs.status_within.Tie as tie
 
@@ -11,6 +11,6 @@ returns c = refl
 pub status-within-spec : {M : Type 1} → statement M
 status-within-spec = tie.close
     (tie.spec
-    (λ c. search needs)
-    (λ c. search needs)
+    (λ c. omega arith)
+    (λ c. omega arith)
     returns)

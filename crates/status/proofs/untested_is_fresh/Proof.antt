@@ -20,4 +20,4 @@ returns c =
 pub untested-is-fresh-spec : {M : Type 1} → statement M
 untested-is-fresh-spec =
     tie.close
-    (tie.spec (λ c κs. search needs) (λ c κs. search needs) (λ c κs. search needs) returns)
+    (tie.spec (λ c κs. tt) (λ c κs. tt) (λ c κs. tt) returns)

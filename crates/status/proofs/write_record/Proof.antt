@@ -24,11 +24,11 @@ pub write-record-spec : {M : Type 1} → statement M
 write-record-spec =
     tie.close
     (tie.spec
-    (λ c. search needs) (λ c. search needs) (λ c. search needs)
+    (λ c. omega arith) (λ c. omega arith) (λ c. omega arith)
     slice-write-records-2
-    (λ c. search needs)
+    (λ c. omega arith)
     slice-write-records-3
-    (λ c. search needs)
+    (λ c. omega arith)
     slice-write-records-4
     (λ c. search needs)
     returns)

@@ -8,4 +8,4 @@ returns c = rw (c .before .if1 .taken) (c .clear .ensures)
 
 pub clear-if-spec : {M : Type 1} → statement M
 clear-if-spec = tie.close
-    (tie.spec (λ c κs. search needs) returns (λ c. search needs))
+    (tie.spec (λ c κs. tt) returns (λ c. search needs))

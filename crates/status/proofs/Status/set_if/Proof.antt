@@ -8,4 +8,4 @@ returns c = rw (c .before .if1 .taken) (c .set .ensures)
 
 pub set-if-spec : {M : Type 1} → statement M
 set-if-spec = tie.close
-    (tie.spec (λ c κs. search needs) returns (λ c. search needs))
+    (tie.spec (λ c κs. tt) returns (λ c. search needs))
