@@ -11,7 +11,8 @@
  *   config     signed 32-bit numbers, 3 in front and 14 for each event, read only
  *   records    4 bytes for each event: status, failed cycles, healing, ageing
  *   debounce   one signed 32-bit number for each event
- *   memory     the number of entries, then the entries, the oldest first
+ *   memory     the number of entries, then the entries, the oldest first: event number (2 bytes, high
+ *              first), occurrence count, first frame, latest frame
  *   board      which of the four cycles run, and the overflow flag, by value
  *
  * A call takes any numbers, any bytes and any lengths. It answers with a number:
@@ -44,10 +45,10 @@ extern "C" {
 #endif
 
 /*
- * Of this header: 3000 is 3.0. The thousands rise when a program that includes it must be changed
+ * Of this header: 4000 is 4.0. The thousands rise when a program that includes it must be changed
  * or compiled again, the rest when something is added.
  */
-#define GRELPICADO_HEADER_VERSION 3000
+#define GRELPICADO_HEADER_VERSION 4000
 
 /* A cast and a check in the words of either language, for this file. */
 #ifdef __cplusplus
@@ -70,19 +71,20 @@ extern "C" {
 #define GRELPICADO_RECORDS_BYTES(n) (GRELPICADO_SIZE_(4) * GRELPICADO_SIZE_(n))
 /* Debounce numbers. */
 #define GRELPICADO_DEBOUNCE_NUMBERS(n) GRELPICADO_SIZE_(n)
-/* Bytes of the memory. */
+/* Bytes of the memory: an entry has two frames. */
 #define GRELPICADO_MEMORY_BYTES(M, F) \
-    (GRELPICADO_SIZE_(1) + GRELPICADO_SIZE_(M) * (GRELPICADO_SIZE_(3) + GRELPICADO_SIZE_(F)))
+    (GRELPICADO_SIZE_(1) \
+        + GRELPICADO_SIZE_(M) * (GRELPICADO_SIZE_(3) + GRELPICADO_SIZE_(2) * GRELPICADO_SIZE_(F)))
 /* Bytes of the largest saved image. */
 #define GRELPICADO_IMAGE_BYTES(n, M, F) \
     (GRELPICADO_SIZE_(20) + GRELPICADO_RECORDS_BYTES(n) + GRELPICADO_MEMORY_BYTES(M, F) + GRELPICADO_SIZE_(1))
 /*
  * Bytes of the largest diagnostic reply: of the list of all events, 3 + 4n, of one event with its
- * frame, 7 + F, or with its details, 11. A constant expression where n and F are.
+ * two frames, 7 + 2F, or with its details, 11. A constant expression where n and F are.
  */
 #define GRELPICADO_REPLY_BYTES(n, F) \
     GRELPICADO_LARGER_(GRELPICADO_SIZE_(3) + GRELPICADO_SIZE_(4) * GRELPICADO_SIZE_(n), \
-        GRELPICADO_LARGER_(GRELPICADO_SIZE_(7) + GRELPICADO_SIZE_(F), GRELPICADO_SIZE_(11)))
+        GRELPICADO_LARGER_(GRELPICADO_SIZE_(7) + GRELPICADO_SIZE_(2) * GRELPICADO_SIZE_(F), GRELPICADO_SIZE_(11)))
 #define GRELPICADO_LARGER_(a, b) ((a) < (b) ? (b) : (a))
 
 /* Numbers of the longest list of grey events. */
@@ -240,6 +242,12 @@ typedef struct grelpicado_event {
 #define GRELPICADO_PAINT_GREY 0 /* its cycle is stopped, or no result lies in this run after any clear */
 #define GRELPICADO_PAINT_RED 1  /* else, its last result is failed */
 #define GRELPICADO_PAINT_LIVE 2 /* else: its last result is passed */
+
+/* ---- which frame of an entry; any other number is the latest too */
+
+#define GRELPICADO_FIRST 0  /* that of the failure which made the entry; of an entry that was restored from an
+                               image of edition 1, the one that the image had, its latest by then */
+#define GRELPICADO_LATEST 1 /* that of its latest fresh failure; after one failure both are the same */
 
 /* The trouble code that clears all events. */
 #define GRELPICADO_ALL_CODES 0xFFFFFFu
@@ -485,7 +493,8 @@ grelpicado_length_answer grelpicado_list_grey(
     uint16_t *list, size_t list_length);
 
 /*
- * Where the stored frame of an event lies in the memory block. Writes nothing.
+ * Where a stored frame of an event lies in the memory block: the first where `which` is GRELPICADO_FIRST,
+ * 0, else the latest. Writes nothing.
  * Refusals, in order: 2, 3, 4 (event), 10.
  */
 grelpicado_frame_answer grelpicado_read_frame(
@@ -494,10 +503,11 @@ grelpicado_frame_answer grelpicado_read_frame(
     const int32_t *debounce, size_t debounce_length,
     const uint8_t *memory, size_t memory_length,
     grelpicado_board board,
-    size_t event);
+    size_t event,
+    uint32_t which);
 
 /*
- * Saves the state into a room: at most GRELPICADO_IMAGE_BYTES(n, M, F) bytes.
+ * Saves the state into a room: at most GRELPICADO_IMAGE_BYTES(n, M, F) bytes. It writes edition 2.
  * Refusals, in order: 2, 3, 5 (any cycle runs), 7.
  */
 grelpicado_length_answer grelpicado_save(
@@ -509,7 +519,8 @@ grelpicado_length_answer grelpicado_save(
     uint8_t *room, size_t room_length);
 
 /*
- * Makes the state that an image was saved of, all cycles stopped. The blocks may hold anything.
+ * Makes the state that an image was saved of, all cycles stopped. The blocks may hold anything. Of an
+ * image of edition 1, whose entries have one frame, that frame becomes the first and the latest.
  * Refusals, in order: 2, 3 (the blocks' lengths alone), 8.
  */
 grelpicado_answer grelpicado_restore(
@@ -810,13 +821,14 @@ static inline grelpicado_length_answer grelpicado_ctx_list_grey(
     return grelpicado_list_grey(GRELPICADO_LENT_(manager), list_length == 0 ? &none : list, list_length);
 }
 
-/* Where the stored frame of an event lies: at manager->memory + start. Refusals: 2, 3, 4, 10. */
-static inline grelpicado_frame_answer grelpicado_ctx_read_frame(const grelpicado *manager, size_t event)
+/* Where the first or latest frame of an event lies: at manager->memory + start. Refusals: 2, 3, 4, 10. */
+static inline grelpicado_frame_answer grelpicado_ctx_read_frame(
+    const grelpicado *manager, size_t event, uint32_t which)
 {
-    return grelpicado_read_frame(GRELPICADO_LENT_(manager), event);
+    return grelpicado_read_frame(GRELPICADO_LENT_(manager), event, which);
 }
 
-/* Saves the state into a room. Refusals: 2, 3, 5, 7. */
+/* Saves the state into a room, as edition 2. Refusals: 2, 3, 5, 7. */
 static inline grelpicado_length_answer grelpicado_ctx_save(
     const grelpicado *manager, uint8_t *room, size_t room_length)
 {
@@ -824,7 +836,7 @@ static inline grelpicado_length_answer grelpicado_ctx_save(
     return grelpicado_save(GRELPICADO_LENT_(manager), room_length == 0 ? &none : room, room_length);
 }
 
-/* Makes the state that an image was saved of. Refusals: 2, 3 (the blocks' lengths alone), 8. */
+/* Makes the state that an image of edition 1 or 2 was saved of. Refusals: 2, 3 (the blocks' lengths alone), 8. */
 static inline uint8_t grelpicado_ctx_restore(grelpicado *manager, const uint8_t *image, size_t image_length)
 {
     return grelpicado_keep_(manager, grelpicado_restore(

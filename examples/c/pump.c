@@ -165,18 +165,26 @@ static void print_panel(const struct panel *panel, const char *moment)
     }
 }
 
-/* The value that the pressure failed with, read in the panel's own memory block. */
-static void print_frame(const struct panel *panel)
+/* The value of a frame of the pressure, read in the panel's own memory block; false where it has no entry. */
+static bool print_frame(const struct panel *panel, const char *name, uint32_t which)
 {
-    grelpicado_frame_answer frame = grelpicado_ctx_read_frame(&panel->manager, PRESSURE);
+    grelpicado_frame_answer frame = grelpicado_ctx_read_frame(&panel->manager, PRESSURE, which);
     if (frame.number == GRELPICADO_NO_ENTRY) {
         printf("  no entry of the pressure\n");
-        return;
+        return false;
     }
     must_be_done(frame.number, "read frame");
     const uint8_t *bytes = panel->memory + frame.start;
     unsigned value = bytes[0] * 256u + bytes[1];
-    printf("  stored with the failure: %u.%02u bar\n", value / 100, value % 100);
+    printf("  stored with the %s failure: %u.%02u bar\n", name, value / 100, value % 100);
+    return true;
+}
+
+static void print_frames(const struct panel *panel)
+{
+    if (print_frame(panel, "first", GRELPICADO_FIRST)) {
+        print_frame(panel, "latest", GRELPICADO_LATEST);
+    }
 }
 
 /* ---- the loop */
@@ -251,7 +259,7 @@ static void switch_off_and_on(struct panel *panel)
     switch_pump(panel, true);
     go_on(panel, GRELPICADO_LEND(nothing));
     print_panel(panel, "The pump is switched on, and the sensor still answers 0.00 bar.");
-    print_frame(panel);
+    print_frames(panel);
     stop(panel);
 }
 
@@ -270,7 +278,7 @@ int main(void)
 
     run(&panel, GRELPICADO_LEND(falling));
     print_panel(&panel, "Second run: the link is back, then the pressure falls.");
-    print_frame(&panel);
+    print_frames(&panel);
     stop(&panel);
 
     lose_power(&panel);
@@ -280,7 +288,7 @@ int main(void)
     print_panel(&panel, "Third run: the pressure is good again.");
     stop(&panel);
     print_panel(&panel, "Stopped: a clean run has healed the warning.");
-    print_frame(&panel);
+    print_frames(&panel);
 
     run(&panel, GRELPICADO_LEND(dropping));
     print_panel(&panel, "Fourth run: 2.10 bar, then the link drops.");

@@ -29,6 +29,8 @@ static GRELPICADO_CONFIG(MOST_EVENTS) config;
 static uint8_t frame[FRAME];
 static uint8_t image[GRELPICADO_IMAGE_BYTES(MOST_EVENTS, MOST_PLACES, FRAME)];
 static size_t image_length;
+static uint8_t older[GRELPICADO_IMAGE_BYTES(MOST_EVENTS, MOST_PLACES, FRAME)]; /* the same as edition 1 */
+static size_t older_length;
 
 /* All that a call may write, and its answer. */
 struct world {
@@ -92,11 +94,12 @@ static void fill_memory(struct world *world)
     world->memory[0] = (uint8_t)entries;
     for (size_t i = 0; i < entries; i++) {
         size_t e = event_of_place(i);
-        uint8_t *entry = world->memory + 1 + i * (3 + FRAME);
+        uint8_t *entry = world->memory + 1 + i * (3 + 2 * FRAME);
         entry[0] = (uint8_t)(e >> 8);
         entry[1] = (uint8_t)e;
         entry[2] = 1;
         memset(entry + 3, (int)i, FRAME);
+        memset(entry + 3 + FRAME, (int)(i + 1), FRAME);
         if (world->records[4 * e] == GRELPICADO_FRESH_STATUS) {
             world->records[4 * e] = 0x20;
         }
@@ -284,7 +287,7 @@ static void list_grey(const struct side *by, struct world *world)
 
 static void read_frame(const struct side *by, struct world *world)
 {
-    grelpicado_frame_answer got = by->read_frame(LENT, middle());
+    grelpicado_frame_answer got = by->read_frame(LENT, middle(), GRELPICADO_LATEST);
     world->number = got.number;
     world->start = got.start;
     world->length = got.length;
@@ -300,6 +303,11 @@ static void save(const struct side *by, struct world *world)
 static void restore(const struct side *by, struct world *world)
 {
     keep(world, by->restore(LENT, image, image_length));
+}
+
+static void restore_older(const struct side *by, struct world *world)
+{
+    keep(world, by->restore(LENT, older, older_length));
 }
 
 static void count_by_mask(const struct side *by, struct world *world)
@@ -376,6 +384,7 @@ static const struct scene {
     {"read frame", read_frame, true},
     {"save", save, false},
     {"restore", restore, false},
+    {"restore, edition 1", restore_older, false},
     {"19 01, all match", count_by_mask, true},
     {"19 02, all match", list_by_mask, true},
     {"19 0A", list_all, true},
@@ -419,14 +428,37 @@ static void play(const struct scene *scene)
     printf("%s|%zu|%zu\n", scene->name, n, places);
 }
 
-/* The image that restore takes. */
-static void make_image(void)
+static void put_two(uint8_t *at, size_t number)
+{
+    at[0] = (uint8_t)(number >> 8);
+    at[1] = (uint8_t)number;
+}
+
+/* The image as edition 1 has it: the latest frames are left out, so the second body is shorter. */
+static void make_older(void)
+{
+    size_t memory = 20 + GRELPICADO_RECORDS_BYTES(n);
+    size_t length = 1 + entries * (3 + FRAME);
+    memcpy(older, image, memory + 1);
+    older[1] = 1;
+    put_two(older + 12, length);
+    put_two(older + 16, memory + length);
+    for (size_t i = 0; i < entries; i++) {
+        memcpy(older + memory + 1 + i * (3 + FRAME), image + memory + 1 + i * (3 + 2 * FRAME), 3 + FRAME);
+    }
+    older[memory + length] = image[image_length - 1];
+    older_length = memory + length + 1;
+}
+
+/* The images that restore takes. */
+static void make_images(void)
 {
     static struct world world;
     fill(&world, false);
     save(&plain, &world);
     image_length = world.length;
     memcpy(image, world.room, image_length);
+    make_older();
 }
 
 static void play_all(size_t with_events, size_t with_places)
@@ -435,7 +467,7 @@ static void play_all(size_t with_events, size_t with_places)
     places = with_places;
     entries = n < places ? n : places;
     configure();
-    make_image();
+    make_images();
     for (size_t i = 0; i < sizeof scenes / sizeof scenes[0]; i++) {
         if (scenes[i].make != report_displaces || n > places) {
             play(&scenes[i]);

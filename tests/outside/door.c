@@ -42,7 +42,7 @@ struct head {
     grelpicado_board board;
     uint64_t turn;          /* handed back, so that no answer is taken for another's */
     uint64_t event;         /* or cycle, milliseconds, trouble code */
-    uint64_t code;          /* of a report */
+    uint64_t code;          /* of a report; or which frame is read */
     uint64_t present;       /* the set of conditions */
     uint64_t bytes[BLOCKS]; /* of each block; a configuration and debounce numbers in bytes too */
 };
@@ -319,7 +319,7 @@ static void by_plain(const struct head *head, const struct block b[BLOCKS], stru
     case STOP: take(answer, grelpicado_stop(LENT, board, number)); break;
     case CLEAR: take(answer, grelpicado_clear(LENT, board, number)); break;
     case READ_STATUS: take_status(answer, grelpicado_read_status(LENT, board, event)); break;
-    case READ_FRAME: take_frame(answer, grelpicado_read_frame(LENT, board, event)); break;
+    case READ_FRAME: take_frame(answer, grelpicado_read_frame(LENT, board, event, code)); break;
     case SAVE: take_length(answer, grelpicado_save(LENT, board, ROOM_BYTES)); break;
     case RESTORE: take(answer, grelpicado_restore(LENT, board, INPUT_BYTES)); break;
     case REQUEST: take_request(answer, grelpicado_request(LENT, board, INPUT_BYTES, ROOM_BYTES)); break;
@@ -359,7 +359,7 @@ static void on_context(
     case STOP: answer->number = grelpicado_ctx_stop(manager, number); break;
     case CLEAR: answer->number = grelpicado_ctx_clear(manager, number); break;
     case READ_STATUS: take_status(answer, grelpicado_ctx_read_status(manager, event)); break;
-    case READ_FRAME: take_frame(answer, grelpicado_ctx_read_frame(manager, event)); break;
+    case READ_FRAME: take_frame(answer, grelpicado_ctx_read_frame(manager, event, code)); break;
     case SAVE: take_length(answer, grelpicado_ctx_save(manager, ROOM_OR_NULL)); break;
     case RESTORE: answer->number = grelpicado_ctx_restore(manager, INPUT_OR_NULL); break;
     case REQUEST: take_length(answer, grelpicado_ctx_request(manager, INPUT_OR_NULL, ROOM_OR_NULL)); break;
@@ -599,6 +599,8 @@ static const struct {
     NUMBER(GRELPICADO_PAINT_GREY),
     NUMBER(GRELPICADO_PAINT_RED),
     NUMBER(GRELPICADO_PAINT_LIVE),
+    NUMBER(GRELPICADO_FIRST),
+    NUMBER(GRELPICADO_LATEST),
     NUMBER(GRELPICADO_ALL_CODES),
 };
 

@@ -42,7 +42,8 @@ bool a_run(grelpicado *manager)
         && grelpicado_ctx_tick(manager, GRELPICADO_MAX_TICK, nullptr, 0, 0) == GRELPICADO_DONE
         && grelpicado_ctx_read_status(manager, 0).status == 0xAF
         && grelpicado_ctx_read_counter(manager, 0).counter == 127
-        && grelpicado_ctx_read_frame(manager, 0).start == 4
+        && grelpicado_ctx_read_frame(manager, 0, GRELPICADO_FIRST).start == 4
+        && grelpicado_ctx_read_frame(manager, 0, GRELPICADO_LATEST).start == 4
         && grelpicado_ctx_read_paint(manager, 0).paint == GRELPICADO_PAINT_RED
         && grelpicado_ctx_read_table(manager).counts[0][7] == 1
         && grelpicado_ctx_list_grey(manager, GRELPICADO_LEND(list)).length == 1

@@ -53,7 +53,7 @@ static const struct asked all[] = {
     {6, {0x19, 0x84, 0x12, 0x34, 0x59, 0x01}, sizeof reply},
     {6, {0x19, 0x06, 0xFF, 0xFF, 0xFF, 0x01}, sizeof reply},
     {5, {0x19, 0x06, 0x12, 0x34, 0x56}, sizeof reply},
-    {6, {0x19, 0x04, 0x12, 0x34, 0x56, 0x01}, 10},
+    {6, {0x19, 0x04, 0x12, 0x34, 0x56, 0x01}, 7 + 2 * FRAME - 1},
     {6, {0x19, 0x05, 0x12, 0x34, 0x56, 0x01}, sizeof reply},
     {3, {0x19, 0x01, 0x01}, sizeof reply},
     {3, {0x19, 0x02, 0x01}, sizeof reply},
@@ -64,9 +64,9 @@ static const struct asked all[] = {
     {2, {0x22, 0x01}, sizeof reply},
 };
 
-static uint8_t report(grelpicado *manager, size_t event, uint32_t code)
+static uint8_t report(grelpicado *manager, size_t event, uint32_t code, uint8_t last)
 {
-    static const uint8_t frame[FRAME] = {0xCA, 0xFE, 0x01, 0x02};
+    const uint8_t frame[FRAME] = {0xCA, 0xFE, 0x01, last};
     return grelpicado_ctx_report(manager, event, code, GRELPICADO_LEND(frame), GRELPICADO_ALL_PRESENT).number;
 }
 
@@ -77,8 +77,10 @@ int main(void)
         &manager, GRELPICADO_LEND_CONFIG(config), GRELPICADO_LEND(records), GRELPICADO_LEND(debounce),
         GRELPICADO_LEND(memory)) == GRELPICADO_DONE
         && grelpicado_ctx_start(&manager, GRELPICADO_CYCLE_0) == GRELPICADO_DONE
-        && report(&manager, 0, GRELPICADO_FAILED) == GRELPICADO_DONE
-        && report(&manager, 2, GRELPICADO_PRE_FAILED) == GRELPICADO_DONE;
+        && report(&manager, 0, GRELPICADO_FAILED, 0x02) == GRELPICADO_DONE
+        && report(&manager, 0, GRELPICADO_PASSED, 0x03) == GRELPICADO_DONE
+        && report(&manager, 0, GRELPICADO_FAILED, 0x04) == GRELPICADO_DONE
+        && report(&manager, 2, GRELPICADO_PRE_FAILED, 0x05) == GRELPICADO_DONE;
     for (size_t i = 0; well && i < sizeof all / sizeof all[0]; i++) {
         grelpicado_length_answer answer =
             grelpicado_ctx_request(&manager, all[i].bytes, all[i].length, reply, all[i].room);

@@ -14,8 +14,9 @@
 #include <string.h>
 
 enum { STATUS, K, H, G, RECORD };               /* the four bytes of an event's record */
-enum { EVENT_HIGH, EVENT_LOW, OCCURRENCE, HEAD }; /* an entry before its frame */
+enum { EVENT_HIGH, EVENT_LOW, OCCURRENCE, HEAD }; /* an entry before its frames, the first and the latest */
 enum { IMAGE_HEAD = 20 };
+enum { EDITION_1 = 1, EDITION_2 = 2 };          /* images of entries with one frame and with two */
 enum { NO_PLACE = -1 };
 
 /* The status bits, by shorter names. */
@@ -103,7 +104,7 @@ static bool read_table(struct table *table, const int32_t *config, size_t length
     table->events = (size_t)config[0];
     table->places = (size_t)config[1];
     table->frame = (size_t)config[2];
-    table->entry = HEAD + table->frame;
+    table->entry = HEAD + 2 * table->frame;
     table->event = (const grelpicado_event *)(const void *)(config + 3);
     if (length != GRELPICADO_CONFIG_NUMBERS(table->events)) {
         return false;
@@ -180,12 +181,12 @@ static size_t event_in(const uint8_t *entry)
     return (size_t)(entry[EVENT_HIGH] << 8 | entry[EVENT_LOW]);
 }
 
-/* The entries behind a memory's first byte, which is at most M. */
-static bool entries_fit(const struct table *table, const uint8_t *memory, const uint8_t *records)
+/* The entries of this width behind a memory's first byte, which is at most M. */
+static bool entries_fit(const struct table *table, size_t width, const uint8_t *memory, const uint8_t *records)
 {
     bool seen[GRELPICADO_MAX_EVENTS] = {false};
     const uint8_t *entry = memory + 1;
-    for (size_t i = 0; i < memory[0]; i++, entry += table->entry) {
+    for (size_t i = 0; i < memory[0]; i++, entry += width) {
         size_t e = event_in(entry);
         if (e >= table->events || seen[e] || entry[OCCURRENCE] == 0) {
             return false;
@@ -211,7 +212,7 @@ static bool all_zero(const uint8_t *bytes, const uint8_t *end)
 static bool memory_fits(const struct table *table, const uint8_t *memory, const uint8_t *records)
 {
     return memory[0] <= table->places
-        && entries_fit(table, memory, records)
+        && entries_fit(table, table->entry, memory, records)
         && all_zero(memory + 1 + memory[0] * table->entry, memory + 1 + table->places * table->entry);
 }
 
@@ -292,15 +293,18 @@ static int victim_for(const struct table *table, const struct state *state, size
     return less_important != NO_PLACE ? less_important : equal_and_passed;
 }
 
-/* A fresh failure, told to memory. */
+/* A fresh failure, told to memory. The first frame of an entry that is renewed stays. */
 static void store(const struct table *table, struct state *state, size_t event, const uint8_t *frame)
 {
     uint8_t *memory = state->memory;
     uint8_t occurrence = 1;
+    uint8_t kept[GRELPICADO_MAX_FRAME];
+    const uint8_t *first = frame;
     int place = place_of(table, memory, event);
     if (place != NO_PLACE) {
-        uint8_t before = entry_at(table, memory, (size_t)place)[OCCURRENCE];
-        occurrence = before < 255 ? (uint8_t)(before + 1) : 255;
+        const uint8_t *before = entry_at(table, memory, (size_t)place);
+        occurrence = before[OCCURRENCE] < 255 ? (uint8_t)(before[OCCURRENCE] + 1) : 255;
+        first = memcpy(kept, before + HEAD, table->frame);
     } else if (memory[0] == table->places) {
         place = victim_for(table, state, event);
         if (place == NO_PLACE) {
@@ -315,7 +319,8 @@ static void store(const struct table *table, struct state *state, size_t event, 
     entry[EVENT_HIGH] = (uint8_t)(event >> 8);
     entry[EVENT_LOW] = (uint8_t)event;
     entry[OCCURRENCE] = occurrence;
-    memcpy(entry + HEAD, frame, table->frame);
+    memcpy(entry + HEAD, first, table->frame);
+    memcpy(entry + HEAD + table->frame, frame, table->frame);
 }
 
 /* ---- one event */
@@ -792,7 +797,7 @@ grelpicado_length_answer plain_list_grey(LENT(const), uint16_t *list, size_t lis
     return (grelpicado_length_answer){GRELPICADO_DONE, number_of_grey};
 }
 
-grelpicado_frame_answer plain_read_frame(LENT(const), size_t event)
+grelpicado_frame_answer plain_read_frame(LENT(const), size_t event, uint32_t which)
 {
     struct table table;
     uint8_t number = judge(&table, LENGTHS, BLOCKS, &board);
@@ -806,7 +811,9 @@ grelpicado_frame_answer plain_read_frame(LENT(const), size_t event)
     if (place == NO_PLACE) {
         return (grelpicado_frame_answer){GRELPICADO_NO_ENTRY, 0, 0};
     }
-    return (grelpicado_frame_answer){GRELPICADO_DONE, 1 + (size_t)place * table.entry + HEAD, table.frame};
+    size_t first = 1 + (size_t)place * table.entry + HEAD;
+    size_t start = which == GRELPICADO_FIRST ? first : first + table.frame;
+    return (grelpicado_frame_answer){GRELPICADO_DONE, start, table.frame};
 }
 
 /* ---- the image */
@@ -817,13 +824,19 @@ static void put_two(uint8_t *at, size_t number)
     at[1] = (uint8_t)number;
 }
 
-/* The image's bytes before its bodies. Answers the image's length. */
-static size_t image_head(const struct table *table, size_t entries, uint8_t head[IMAGE_HEAD])
+/* Bytes of an entry in an image of an edition. */
+static size_t entry_of(const struct table *table, uint8_t edition)
 {
-    const size_t lengths[3] = {RECORD * table->events, 1 + entries * table->entry, 1};
+    return edition == EDITION_1 ? HEAD + table->frame : table->entry;
+}
+
+/* The image's bytes before its bodies. Answers the image's length. */
+static size_t image_head(const struct table *table, uint8_t edition, size_t entries, uint8_t head[IMAGE_HEAD])
+{
+    const size_t lengths[3] = {RECORD * table->events, 1 + entries * entry_of(table, edition), 1};
     size_t offset = IMAGE_HEAD;
     head[0] = 3;
-    head[1] = 1;
+    head[1] = edition;
     for (size_t body = 0; body < 3; body++) {
         uint8_t *row = head + 2 + 6 * body;
         row[0] = (uint8_t)(body + 1);
@@ -847,7 +860,7 @@ grelpicado_length_answer plain_save(LENT(const), uint8_t *room, size_t room_leng
         return (grelpicado_length_answer){GRELPICADO_WRONG_CYCLE_STATE, 0};
     }
     uint8_t head[IMAGE_HEAD];
-    size_t length = image_head(&table, memory[0], head);
+    size_t length = image_head(&table, EDITION_2, memory[0], head);
     if (room_length < length) {
         return (grelpicado_length_answer){GRELPICADO_ROOM_TOO_SMALL, 0};
     }
@@ -858,7 +871,7 @@ grelpicado_length_answer plain_save(LENT(const), uint8_t *room, size_t room_leng
     return (grelpicado_length_answer){GRELPICADO_DONE, length};
 }
 
-/* Whether it is the image of a well-formed state with all cycles stopped. */
+/* Whether it is the image, of either edition, of a well-formed state with all cycles stopped. */
 static bool image_fits(const struct table *table, const uint8_t *image, size_t length)
 {
     if (length <= IMAGE_HEAD + RECORD * table->events) {
@@ -866,8 +879,12 @@ static bool image_fits(const struct table *table, const uint8_t *image, size_t l
     }
     const uint8_t *records = image + IMAGE_HEAD;
     const uint8_t *memory = records + RECORD * table->events;
+    uint8_t edition = image[1];
     uint8_t head[IMAGE_HEAD];
-    if (memory[0] > table->places || image_head(table, memory[0], head) != length
+    if (edition != EDITION_1 && edition != EDITION_2) {
+        return false;
+    }
+    if (memory[0] > table->places || image_head(table, edition, memory[0], head) != length
         || memcmp(head, image, IMAGE_HEAD) != 0 || image[length - 1] > 1) {
         return false;
     }
@@ -876,7 +893,24 @@ static bool image_fits(const struct table *table, const uint8_t *image, size_t l
             return false;
         }
     }
-    return entries_fit(table, memory, records);
+    return entries_fit(table, entry_of(table, edition), memory, records);
+}
+
+/* Puts the entries of an image's second body into the memory block. In edition 1 the one frame becomes both. */
+static void take_entries(const struct table *table, uint8_t edition, const uint8_t *saved, uint8_t *memory)
+{
+    size_t width = entry_of(table, edition);
+    if (width == table->entry) {
+        memcpy(memory, saved, 1 + saved[0] * width);
+        return;
+    }
+    memory[0] = saved[0];
+    for (size_t i = 0; i < saved[0]; i++) {
+        const uint8_t *from = saved + 1 + i * width;
+        uint8_t *entry = entry_at(table, memory, i);
+        memcpy(entry, from, width);
+        memcpy(entry + width, from + HEAD, table->frame);
+    }
 }
 
 grelpicado_answer plain_restore(LENT(), const uint8_t *image, size_t image_length)
@@ -893,7 +927,7 @@ grelpicado_answer plain_restore(LENT(), const uint8_t *image, size_t image_lengt
     size_t used = 1 + saved[0] * table.entry;
     memcpy(records, image + IMAGE_HEAD, records_length);
     memset(debounce, 0, debounce_length * sizeof *debounce);
-    memcpy(memory, saved, used);
+    take_entries(&table, image[1], saved, memory);
     memset(memory + used, 0, memory_length - used);
     return (grelpicado_answer){GRELPICADO_DONE, {{0, 0, 0, 0}, image[image_length - 1]}};
 }
@@ -902,7 +936,7 @@ grelpicado_answer plain_restore(LENT(), const uint8_t *image, size_t image_lengt
 
 enum {
     READ_INFORMATION = 0x19, CLEAR_INFORMATION = 0x14, POSITIVE = 0x40, NEGATIVE = 0x7F,
-    COUNT_BY_MASK = 0x01, LIST_BY_MASK = 0x02, LIST_ALL = 0x0A, LIST_NEAR = 0x14, SHOW_FRAME = 0x04,
+    COUNT_BY_MASK = 0x01, LIST_BY_MASK = 0x02, LIST_ALL = 0x0A, LIST_NEAR = 0x14, SHOW_FRAMES = 0x04,
     SHOW_DETAILS = 0x06, SUPPRESS = 0x80
 };
 
@@ -930,7 +964,7 @@ static uint8_t judge_question(struct question *question, const uint8_t *request,
         return WRONG_LENGTH;
     }
     question->sub_function = request[1] & 0x7F;
-    if (question->sub_function == SHOW_FRAME || question->sub_function == SHOW_DETAILS) {
+    if (question->sub_function == SHOW_FRAMES || question->sub_function == SHOW_DETAILS) {
         return length == 6 ? GOOD : WRONG_LENGTH;
     }
     question->all = question->sub_function == LIST_ALL || question->sub_function == LIST_NEAR;
@@ -1004,12 +1038,12 @@ static uint8_t reply_near(
     return GOOD;
 }
 
-/* Sub-functions 04 and 06: the event of one trouble code, and its frame or its details. */
+/* Sub-functions 04 and 06: the event of one trouble code, and its frames or its details. */
 static uint8_t show(
     const struct table *table, const struct state *state, const uint8_t *request, uint8_t *room, size_t room_length,
     size_t *length)
 {
-    bool frame = (request[1] & 0x7F) == SHOW_FRAME;
+    bool frames = (request[1] & 0x7F) == SHOW_FRAMES;
     size_t event = event_of(table, (uint32_t)request[2] << 16 | (uint32_t)request[3] << 8 | request[4]);
     if (event == table->events || (request[5] != 0x01 && request[5] != 0xFF)) {
         return OUT_OF_RANGE;
@@ -1020,7 +1054,7 @@ static uint8_t show(
     }
     const uint8_t *record = state->records + RECORD * event;
     int place = place_of(table, state->memory, event);
-    *length = place == NO_PLACE ? 6 : frame ? 7 + table->frame : 11;
+    *length = place == NO_PLACE ? 6 : frames ? 7 + 2 * table->frame : 11;
     if (*length > room_length) {
         return REPLY_TOO_LONG;
     }
@@ -1032,8 +1066,8 @@ static uint8_t show(
     }
     const uint8_t *entry = state->memory + 1 + (size_t)place * table->entry;
     room[6] = 0x01;
-    if (frame) {
-        memcpy(room + 7, entry + HEAD, table->frame);
+    if (frames) {
+        memcpy(room + 7, entry + HEAD, 2 * table->frame);
     } else {
         room[7] = entry[OCCURRENCE];
         memcpy(room + 8, record + K, 3);
@@ -1052,7 +1086,7 @@ static uint8_t read_information(
     if (code != GOOD) {
         return code;
     }
-    if (question.sub_function == SHOW_FRAME || question.sub_function == SHOW_DETAILS) {
+    if (question.sub_function == SHOW_FRAMES || question.sub_function == SHOW_DETAILS) {
         return show(table, state, request, room, room_length, length);
     }
     if (request[1] & SUPPRESS) {

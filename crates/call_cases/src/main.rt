@@ -16,6 +16,7 @@ use manual::LengthAnswer;
 use manual::Paint;
 use manual::Returned;
 use manual::Verdict;
+use manual::Which;
 ghost use Prim.Native.Nat.{_≤_};
 
 // How much of each block is lent, and the board.
@@ -422,6 +423,16 @@ fn run_list_grey(
     )
 }
 
+// Which frame is read, where word 3 has it; else the first.
+fn which_of(line: &[u8]) -> Which {
+    let at = text::word(line, 3);
+    if text::stands(line, at, b"which=1") {
+        Which::Latest
+    } else {
+        Which::First
+    }
+}
+
 fn run_read_frame(
     line: &[u8],
     says: &[u8],
@@ -431,7 +442,9 @@ fn run_read_frame(
     memory: &[u8],
     board: Board,
 ) -> Given {
-    let answer = queries::read_frame(cfg, records, debounce, memory, board, event_of(line));
+    let event = event_of(line);
+    let which = which_of(line);
+    let answer = queries::read_frame(cfg, records, debounce, memory, board, event, which);
     let part = queries::frame_part(memory, answer);
     Given {
         agrees: same_number(says, answers::frame_number(answer))
@@ -795,7 +808,8 @@ fn run_on(
 fn lengths(line: &[u8], config: usize) -> Lent {
     let events = length_at(line, 1, manual::MOST_EVENTS);
     let places = length_at(line, 2, manual::MOST_PLACES);
-    let whole = memory::memory_length(places, length_at(line, 3, manual::MOST_PAYLOAD));
+    let frame = length_at(line, 3, manual::MOST_FRAME);
+    let whole = memory::memory_length(places, 2 * frame);
     Lent {
         config,
         records: manual::RECORD_WIDTH * events,
@@ -1001,7 +1015,7 @@ fn next_line(
     other: &mut [i32; 7232],
     records: &mut [u8; 2112],
     debounce: &mut [i32; 528],
-    memory: &mut [u8; 2304],
+    memory: &mut [u8; 4352],
 ) -> Story {
     let n = text::read_line(fd, line);
     let k = read_answer(fd, line, says);
@@ -1045,7 +1059,7 @@ fn run_lines(name: &[u8], fd: i32) -> Tally {
     let mut other = [0i32; 7232];
     let mut records = [0u8; 2112];
     let mut debounce = [0i32; 528];
-    let mut memory = [0u8; 2304];
+    let mut memory = [0u8; 4352];
     let mut now = begin();
     for _ in 0..1_000_000_000usize {
         now = next_line(

@@ -23,7 +23,7 @@ use Rattle.manual.proofs.WordsLaws.{all-map, all-those}
 use Rattle.manual.proofs.MemoryLaws.{Framed, memory-entries}
 use Rattle.manual.proofs.MemoryStaysGood.{MemoryGood}
 use Rattle.manual.proofs.WellFormedLaws.{state-tells}
-use Rattle.manual.proofs.StaysWellFormed.{sound}
+use Rattle.manual.proofs.SoundStates.{sound}
 use Rattle.one_event.specs.Steps.{resetting}
 use Rattle.writing.specs.Filled.{filledFrom}
 use Rattle.writing.proofs.FilledLaws.{filled-whole}

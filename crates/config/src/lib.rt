@@ -3,13 +3,14 @@
 use manual::EventNumber;
 ghost use mathlib.Core.Path.{_≡_};
 ghost use mathlib.Core.Bool.{true};
-ghost use Prim.Native.Nat.{_^_, _<_};
+ghost use Prim.Native.Nat.{_^_, _*_, _<_};
 ghost use lib.IntN.{pos};
 ghost use Rattle.history.specs.Words.{holds};
 ghost use Rattle.manual.specs.Words.{allBelow, between, eqZ, natOf};
-ghost use Rattle.manual.specs.Configuration.{mostEvents, numberAt, events, places, frameBytes, column, codeOf};
-ghost use Rattle.manual.specs.Configuration.{priorityOf, cycleOf, kindOf, lowOf, highOf, upOf, downOf, jumpsOf};
-ghost use Rattle.manual.specs.Configuration.{limitsOf, neededOf, rowOk, configOk, hasCode, firstWithCode};
+ghost use Rattle.manual.specs.Configuration.{mostEvents, numberAt, events, places, frameBytes, entryFrames};
+ghost use Rattle.manual.specs.Configuration.{column, codeOf, priorityOf, cycleOf, kindOf, lowOf, highOf, upOf};
+ghost use Rattle.manual.specs.Configuration.{downOf, jumpsOf, limitsOf, neededOf, rowOk, configOk, hasCode};
+ghost use Rattle.manual.specs.Configuration.{firstWithCode};
 ghost use Rattle.config.specs.Rows.{InRow, Within, RowWithin, RowsWithin, limitsIs, partOf, ofKind};
 ghost use Rattle.config.specs.Rows.{risesHere, rowFits};
 ghost use Rattle.config.specs.Search.{searchIs};
@@ -112,6 +113,20 @@ pub fn frame_bytes(cfg: &[i32]) -> usize
     ensures { λ r. ⌜ r ≡ frameBytes (now (cfg .entry)) ⌝ }
 {
     count_at(cfg, F_AT)
+}
+
+// In one function with the cast, where it is known that twice the number fits.
+fn twice(number: i32) -> usize
+    ensures { λ r. ⌜ r ≡ 2 * natOf number ⌝ }
+{
+    if number < 0 { 0 } else { 2 * (number as usize) }
+}
+
+// Document 02, W6: of "M(3 + 2F)" the bytes of an entry's two frames.
+pub fn entry_frames(cfg: &[i32]) -> usize
+    ensures { λ r. ⌜ r ≡ entryFrames (now (cfg .entry)) ⌝ }
+{
+    twice(number_at(cfg, F_AT))
 }
 
 // Number k of the event's row.
@@ -425,8 +440,8 @@ fn rows_fit(cfg: &[i32], n: usize) -> bool
 }
 
 // Whether the configuration keeps the table; "2 | configuration breaks the table above" is the answer where it does
-// not. "the length is exactly 3 + 13n", with W5 3 + 14n, is judged once n is known to be at most 512, since n may be any
-// number.
+// not. "the length is exactly 3 + 13n", with W5 3 + 14n, is judged once n is known to be at most 512, since n may be
+// any number.
 pub fn config_ok(cfg: &[i32]) -> bool
     ensures { λ r. ⌜ r ≡ configOk (now (cfg .entry)) ⌝ }
 {

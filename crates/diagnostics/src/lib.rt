@@ -60,7 +60,7 @@ enum LineByte {
     Nothing,
 }
 
-// What a reply shows of an event's entry: its frame, or its details.
+// What a reply shows of an event's entry: its frames, or its details.
 enum Told {
     Frame,
     Details,
@@ -563,7 +563,7 @@ fn number_of(told: Told) -> u8
     }
 }
 
-// How many bytes a reply shows of an entry: "the F frame bytes", or "occurrence count, K, h, g".
+// How many bytes a reply shows of an entry: its two frames of F bytes, or "occurrence count, K, h, g".
 fn told_length(cfg: &[i32], told: Told) -> usize
     ensures { λ r. ⌜ r ≡ toldLength (now (cfg .entry)) told ⌝ }
 {

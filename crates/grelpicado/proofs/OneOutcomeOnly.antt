@@ -28,7 +28,7 @@ use Rattle.grelpicado.specs.declared.PanelLength.{PanelLength}
 use Rattle.grelpicado.specs.declared.PanelRequest.{PanelRequest}
 use Rattle.grelpicado.specs.Panel.{boardOf, Crossing, CounterCrossing, crosses, crossesWithoutBoard}
 use Rattle.grelpicado.specs.Panel.{crossesWithCounter, crossesWithFrame, withAnswer, withReport, withStatus}
-use Rattle.grelpicado.specs.Panel.{withCounter, withFrame, withLength, withRequest}
+use Rattle.grelpicado.specs.Panel.{whichOf, withCounter, withFrame, withLength, withRequest}
 use Rattle.grelpicado.specs.Panel.{MissingCrossing, crossesWithMissing, withMissing}
 use Rattle.grelpicado.specs.Panel.{TableCrossing, crossesWithTable, crossesWithPaint, withTable, withPaint}
 
@@ -169,11 +169,13 @@ module _ (cfg : Configuration) (records₀ : List ℕ) (debounce₀ : List ℤ) 
       → r ≡ r′
   one-read-paint event r r′ p q = one-outcome paintIn refl refl p q
 
-  pub one-read-frame : (event : ℕ) (r r′ : PanelFrame)
-      → withFrame records₀ debounce₀ memory₀ board r ≡ crossesWithFrame (frameRead cfg event given) board
-      → withFrame records₀ debounce₀ memory₀ board r′ ≡ crossesWithFrame (frameRead cfg event given) board
+  pub one-read-frame : (event which : ℕ) (r r′ : PanelFrame)
+      → withFrame records₀ debounce₀ memory₀ board r ≡ crossesWithFrame (frameRead cfg event
+      (whichOf which) given) board
+      → withFrame records₀ debounce₀ memory₀ board r′
+      ≡ crossesWithFrame (frameRead cfg event (whichOf which) given) board
       → r ≡ r′
-  one-read-frame event r r′ p q = one-outcome frameIn refl refl p q
+  one-read-frame event which r r′ p q = one-outcome frameIn refl refl p q
 
   -- save writes the room
   pub one-save : (before room room′ : List ℕ) (r r′ : PanelLength)

@@ -9,6 +9,8 @@ use lib.ListN.{getD}
 use Rattle.manual.specs.declared.Board.{Board}
 use Rattle.manual.specs.declared.Paint.{Paint}
 use Rattle.manual.specs.declared.Paint.the-variants.{Grey, Red, Live}
+use Rattle.manual.specs.declared.Which.{Which}
+use Rattle.manual.specs.declared.Which.the-variants.{First, Latest}
 use Rattle.manual.specs.declared.Verdict.{Verdict}
 use Rattle.manual.specs.declared.Verdict.the-variants.{None, Passed, Failed}
 use Rattle.manual.specs.State.{runs}
@@ -56,6 +58,10 @@ bytesOf b = record {
 }
 
 -- ---- what crosses
+
+-- document 02, W6: "a choice of which": 0 the first, anything else the latest
+abbrev pub whichOf : ℕ → Which
+whichOf choice = cond (eqb choice 0) First Latest
 
 -- "Each accepted report gives a verdict: none, passed or failed.": 0, 1, 2
 abbrev pub verdictNumber : Verdict → ℕ

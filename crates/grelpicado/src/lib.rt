@@ -14,6 +14,7 @@ use manual::Returned;
 use manual::StatusAnswer;
 use manual::TableReturned;
 use manual::Verdict;
+use manual::Which;
 ghost use mathlib.Core.Path.{_≡_};
 ghost use mathlib.Core.Bool.{cond};
 ghost use mathlib.Core.List.{List, []};
@@ -30,7 +31,7 @@ ghost use Rattle.manual.specs.Image.{save, restore};
 ghost use Rattle.manual.specs.Diagnostics.{requestReply};
 ghost use Rattle.queries.specs.Reading.{tells, tellsMissing, startIn, lengthIn, says, frameRead};
 ghost use Rattle.untested.specs.Page.{tableTold, paintTold};
-ghost use Rattle.grelpicado.specs.Panel.{yes, flagByte, boardOf, bytesOf, verdictNumber, crosses};
+ghost use Rattle.grelpicado.specs.Panel.{yes, flagByte, whichOf, boardOf, bytesOf, verdictNumber, crosses};
 ghost use Rattle.grelpicado.specs.Panel.{crossesWithoutBoard, crossesWithCounter, crossesWithFrame, withAnswer};
 ghost use Rattle.grelpicado.specs.Panel.{crossesWithMissing, withMissing};
 ghost use Rattle.grelpicado.specs.Panel.{paintNumber, crossesWithTable, crossesWithPaint, withTable, withPaint};
@@ -135,6 +136,17 @@ fn byte_of(flag: bool) -> u8
     ensures { λ r. ⌜ r ≡ flagByte flag ⌝ }
 {
     if flag { 1 } else { 0 }
+}
+
+// Document 02, W6: "Reading a frame takes a choice of which": 0 the first, anything else the latest.
+fn which_of(choice: u32) -> Which
+    ensures { λ r. ⌜ r ≡ whichOf choice ⌝ }
+{
+    if choice == 0 {
+        Which::First
+    } else {
+        Which::Latest
+    }
 }
 
 // The board that these bytes stand for.
@@ -631,7 +643,7 @@ pub extern "C" fn grelpicado_list_grey(
     length_of(answer)
 }
 
-// "The stored frame is read as a part of the caller's own memory block, no copy."
+// "The stored frame is read as a part of the caller's own memory block, no copy.": the first or the latest.
 #[no_mangle]
 pub extern "C" fn grelpicado_read_frame(
     cfg: &[i32],
@@ -640,15 +652,25 @@ pub extern "C" fn grelpicado_read_frame(
     memory: &[u8],
     board: PanelBoard,
     event: usize,
+    which: u32,
 ) -> PanelFrame
     ensures { λ r. ⌜ withFrame (now (records .entry)) (now (debounce .entry)) (now (memory .entry)) board r
         ≡ crossesWithFrame
-        (frameRead (now (cfg .entry)) event
+        (frameRead (now (cfg .entry)) event (whichOf which)
         (lent (now (records .entry)) (now (debounce .entry)) (now (memory .entry)) (boardOf board)))
         board ⌝ }
 {
     let given = board_of(board);
-    let answer = queries::read_frame(cfg, records, debounce, memory, given, EventNumber(event));
+    let chosen = which_of(which);
+    let answer = queries::read_frame(
+        cfg,
+        records,
+        debounce,
+        memory,
+        given,
+        EventNumber(event),
+        chosen,
+    );
     frame_of(answer)
 }
 

@@ -1,35 +1,39 @@
--- What the code judges of an image is the manual's `acceptable`.
+-- What the code judges of an image is the manual's `acceptableIn` of one edition, and `acceptable`.
 use mathlib.Core.Path.{_≡_, refl, sym, ap, subst, _∙_}
-use mathlib.Core.Bool.{Bool, true, false, _&&_, cond}
-use mathlib.Core.List.{List, [], _∷_, _++_}
+use mathlib.Core.Bool.{Bool, true, false, _&&_, _||_, cond}
+use mathlib.Core.List.{List, [], _∷_, _++_, append-nil}
 use Prim.Native.Nat.{ℕ, zero, suc, _+_, _-_, _*_, _≤_, _<_}
 use native.Mathlib.Nat.{mul-comm, mul-sub, mul-le-mul-left}
 use native.Mathlib.Numerals.{add-one}
 use native.Mathlib.Omega.{arith}
 use lib.Dec.{eqb, leb}
-use lib.IntN.{pos}
+use lib.IntN.{ℤ, pos}
 use lib.ListN.{length, getD, take, drop, replicate, length-append, length-replicate}
-use lib.ListN.{length-drop, getD-replicate, drop-of-length-le}
+use lib.ListN.{length-drop, getD-replicate, drop-of-length-le, List·getD-eq-default}
 use lib.Seq.{take-at, drop-at, drop-cons, length-take-le, getD-take}
 use borrow.Author.Tests.{eq-eqb, ne-eqb, lt-leb}
+use Rattle.history.specs.Words.{holds}
 use Rattle.history.proofs.WordsLaws.{and-true, and-assoc}
+use Rattle.manual.specs.declared.Board.{Board}
 use Rattle.manual.specs.Words.{equal}
-use Rattle.manual.specs.Configuration.{Configuration, events, places, entryFrames, cycleOf}
-use Rattle.manual.specs.State.{State, lent, allStopped, recordWidth}
-use Rattle.manual.specs.WellFormed.{lengthsFit, DFits, DOk, wellFormed}
+use Rattle.manual.specs.Configuration.{Configuration, events, places, frameBytes, entryFrames, cycleOf}
+use Rattle.manual.specs.State.{State, lent, allStopped, recordWidth, opened, storedAt}
+use Rattle.manual.specs.WellFormed.{recordOk, DFits, DOk, memoryFitsWith, lengthsFitWith, memoryOkWith}
+use Rattle.manual.specs.WellFormed.{wellFormedWith}
 use Rattle.manual.specs.Memory.{entryWidth, entryCount, bytesInUse, memoryLength}
-use Rattle.manual.specs.Image.{headerLength, header, imageFrom, memoryBody, imageOf}
-use Rattle.manual.specs.Image.{recordsOf, stateOf, acceptable, usedIn, afterRecords}
+use Rattle.manual.specs.Image.{headerLength, header, imageFrom, Edition, edition, edition1, edition2, memoryBody}
+use Rattle.manual.specs.Image.{imageIn, recordsOf, stateIn, acceptableIn, acceptable, usedIn, afterRecords}
 use Rattle.manual.proofs.WordsLaws.{clash, all-below, zeros-pass, equal-is, equal-refl}
-use Rattle.manual.proofs.ImageLaws.{none-runs}
-use Rattle.manual.proofs.AcceptedImages.{accepted-image, accepted-state}
-use Rattle.manual.proofs.WellFormedLaws.{lengths-told, state-tells, used-length}
+use Rattle.manual.proofs.ImageLaws.{none-runs, accepted-image, accepted-state, accepted-byte-1}
+use Rattle.manual.proofs.WellFormedLaws.{lengths-tell, lengths-told, state-tells, used-length}
+use Rattle.config.proofs.Tests.{all-both}
 use Rattle.memory.specs.Judgement.{usedOk, blockOk}
 use Rattle.memory.proofs.JudgementLaws.{block-rest, count-in-front}
 use Rattle.judgement.proofs.WellFormedLaws.{recordsAre, numbersAre, judged-in-passes}
 use Rattle.image.specs.Layout.{memoryAt, lengthOk, bodiesOk}
-use Rattle.image.proofs.LayoutLaws.{joined, Fitting, records-in, rest-in, count-in, used-in, length-right}
-use Rattle.image.proofs.LayoutLaws.{length-is, headerPart, usedPart, flagByte, parts-fit, parts-joined}
+use Rattle.image.proofs.LayoutLaws.{usedWith, joined, Fitting, records-in, rest-in, count-in, used-in}
+use Rattle.image.proofs.LayoutLaws.{length-right, length-is, headerPart, usedPart, flagByte, parts-fit}
+use Rattle.image.proofs.LayoutLaws.{parts-joined}
 
 -- ---- lists of bytes
 
@@ -78,7 +82,8 @@ flag-right (suc (suc flag)) =
 
 -- ---- an image of the right length
 
-module _ (cfg : Configuration) (head records used : List ℕ) (flag : ℕ) (fits : Fitting cfg head records used) where
+module _ (cfg : Configuration) (ed : Edition) (head records used : List ℕ) (flag : ℕ)
+    (fits : Fitting cfg (ed .payload) head records used) where
   abbrev n : ℕ
   n = events cfg
 
@@ -86,7 +91,7 @@ module _ (cfg : Configuration) (head records used : List ℕ) (flag : ℕ) (fits
   M = places cfg
 
   abbrev F : ℕ
-  F = entryFrames cfg
+  F = ed .payload
 
   abbrev behind : List ℕ
   behind = replicate (entryWidth F * (M - entryCount used)) 0
@@ -98,18 +103,18 @@ module _ (cfg : Configuration) (head records used : List ℕ) (flag : ℕ) (fits
   abbrev pub told : State
   told = lent records (replicate n (pos 0)) (used ++ behind) (record { running = allStopped; overflow = eqb flag 1 })
 
-  pub state-in : stateOf cfg image ≡ told
-  unfolding stateOf
+  pub state-in : stateIn cfg ed image ≡ told
+  unfolding stateIn
   state-in =
-      let rest = rest-in cfg head records used flag fits in
-      let long = used-in cfg head records used flag fits in
-      let count = count-in cfg head records used flag fits in
-      let front : take (usedIn cfg image) (afterRecords cfg image) ≡ used =
+      let rest = rest-in cfg F head records used flag fits in
+      let long = used-in cfg F head records used flag fits in
+      let count = count-in cfg F head records used flag fits in
+      let front : take (usedIn cfg ed image) (afterRecords cfg image) ≡ used =
       (λ i. take (long i) (rest i)) ∙ take-at used (flag ∷ []) (length used) refl in
-      let last : drop (usedIn cfg image) (afterRecords cfg image) ≡ flag ∷ [] =
+      let last : drop (usedIn cfg ed image) (afterRecords cfg image) ≡ flag ∷ [] =
       (λ i. drop (long i) (rest i)) ∙ drop-at used (flag ∷ []) (length used) refl in
       λ i. record {
-        records = records-in cfg head records used flag fits i;
+        records = records-in cfg F head records used flag fits i;
         debounce = replicate n (pos 0);
         memory = front i ++ replicate (entryWidth F * (M - count i)) 0;
         board = record { running = allStopped; overflow = eqb (getD (last i) 0 0) 1 };
@@ -126,7 +131,7 @@ module _ (cfg : Configuration) (head records used : List ℕ) (flag : ℕ) (fits
       let l = fits .used-long in
       omega arith
 
-  lengths-fit : lengthsFit cfg told ≡ true
+  lengths-fit : lengthsFitWith cfg F told ≡ true
   lengths-fit =
       lengths-told cfg told
       (record { records = fits .records-long; debounce = length-replicate n (pos 0); memory = memory-long })
@@ -145,40 +150,45 @@ module _ (cfg : Configuration) (head records used : List ℕ) (flag : ℕ) (fits
       ∙ ap (λ (b : Bool). usedOk n M F records used && b) (zeros-pass (entryWidth F * (M - entryCount used)))
       ∙ and-true (usedOk n M F records used)
 
-  formed-is : wellFormed cfg told ≡ bodiesOk cfg records used
+  formed-is : wellFormedWith cfg F told ≡ bodiesOk cfg F records used
   unfolding bodiesOk
   formed-is =
-      sym (judged-in-passes cfg records (told .debounce) (used ++ behind) (told .board) lengths-fit)
+      sym (judged-in-passes cfg F records (told .debounce) (used ++ behind) (told .board) lengths-fit)
       ∙ (λ i. recordsAre cfg records && numbers-fit i && memory-fits i)
       ∙ ap (λ (b : Bool). b && usedOk n M F records used) (and-true (recordsAre cfg records))
 
-  body-is : memoryBody cfg told ≡ used
+  body-is : memoryBody cfg ed told ≡ used
   body-is =
       ap (λ (k : ℕ). take (bytesInUse F k) (used ++ behind)) (count-in-front F used behind (fits .used-long))
       ∙ take-at used behind (bytesInUse F (entryCount used)) (fits .used-long)
 
-  image-is : imageOf cfg told ≡ joined (header (length records) (length used) 1) records used (cond (eqb flag 1) 1 0)
-  unfolding imageOf imageFrom
+  -- the header that it should have
+  abbrev own : List ℕ
+  own = header (ed .number) (length records) (length used) 1
+
+  image-is : imageIn cfg ed told ≡ joined own records used (cond (eqb flag 1) 1 0)
+  unfolding imageIn imageFrom
   image-is =
-      ap (λ (l : List ℕ). header (length records) (length l) 1 ++ (records ++ (l ++ (cond (eqb flag 1) 1 0 ∷ []))))
+      ap
+      (λ (l : List ℕ). header (ed .number) (length records) (length l) 1
+      ++ (records ++ (l ++ (cond (eqb flag 1) 1 0 ∷ []))))
       body-is
 
-  same-is : equal (imageOf cfg told) image ≡ equal (header (length records) (length used) 1) head && leb flag 1
+  same-is : equal (imageIn cfg ed told) image ≡ equal own head && leb flag 1
   same-is =
       ap (λ (l : List ℕ). equal l image) image-is
-      ∙ equal-append (header (length records) (length used) 1) _ head _ (sym (fits .header-long))
-      ∙ ap (λ (b : Bool). equal (header (length records) (length used) 1) head && b)
+      ∙ equal-append own _ head _ (sym (fits .header-long))
+      ∙ ap (λ (b : Bool). equal own head && b)
       (equal-append records _ records _ refl
       ∙ (λ i. equal-refl records i
       && (equal-append used _ used _ refl ∙ (λ j. equal-refl used j && flag-right flag j)) i))
 
-  judged-is : equal (header (length records) (length used) 1) head && bodiesOk cfg records used && leb flag 1
-      ≡ acceptable cfg image
-  unfolding acceptable
+  judged-is : equal own head && bodiesOk cfg F records used && leb flag 1 ≡ acceptableIn cfg ed image
+  unfolding acceptableIn
   judged-is =
-      turned (equal (header (length records) (length used) 1) head) (bodiesOk cfg records used) (leb flag 1)
+      turned (equal own head) (bodiesOk cfg F records used) (leb flag 1)
       ∙ sym (λ i. formed-is i && same-is i)
-      ∙ ap (λ (s : State). wellFormed cfg s && equal (imageOf cfg s) image) (sym state-in)
+      ∙ ap (λ (s : State). wellFormedWith cfg F s && equal (imageIn cfg ed s) image) (sym state-in)
     where
       turned : (a b c : Bool) → a && b && c ≡ b && (a && c)
       turned true true c = refl
@@ -188,65 +198,122 @@ module _ (cfg : Configuration) (head records used : List ℕ) (flag : ℕ) (fits
 
 -- ---- the code's tests, in its order
 
--- the image of a well-formed state has the right length
-own-length : (cfg : Configuration) (s : State) → wellFormed cfg s ≡ true → lengthOk cfg (imageOf cfg s) ≡ true
-unfolding imageOf imageFrom
-own-length cfg s formed =
-    let t = state-tells cfg s formed in
-    let used = memoryBody cfg s in
-    let count : entryCount used ≡ entryCount (s .memory) =
-    getD-take (bytesInUse (entryFrames cfg) (entryCount (s .memory))) (s .memory) 0 0 (omega arith) in
-    length-right cfg (header (length (s .records)) (length used) 1) (s .records) used (cond (s .board .overflow) 1 0)
-    (record {
-      header-long = refl;
-      records-long = t .lengths .records;
-      used-long = used-length cfg s t ∙ ap (bytesInUse (entryFrames cfg)) (sym count);
-      few = omega (arith, count, t .few);
-    })
+module _ (cfg : Configuration) (ed : Edition) where
+  -- the image of a well-formed state has the right length
+  own-length : (s : State) → wellFormedWith cfg (ed .payload) s ≡ true
+      → lengthOk cfg (ed .payload) (imageIn cfg ed s) ≡ true
+  unfolding imageIn imageFrom
+  own-length s formed =
+      let t = state-tells cfg s formed in
+      let used = memoryBody cfg ed s in
+      let count : entryCount used ≡ entryCount (s .memory) =
+      getD-take (bytesInUse (ed .payload) (entryCount (s .memory))) (s .memory) 0 0 (omega arith) in
+      length-right cfg (ed .payload) (header (ed .number) (length (s .records)) (length used) 1) (s .records) used
+      (cond (s .board .overflow) 1 0)
+      (record {
+        header-long = refl;
+        records-long = t .lengths .records;
+        used-long = used-length cfg s t ∙ ap (bytesInUse (ed .payload)) (sym count);
+        few = omega (arith, count, t .few);
+      })
 
--- so an accepted image has it
-pub accepted-length : (cfg : Configuration) (image : List ℕ) → acceptable cfg image ≡ true → lengthOk cfg image ≡ true
-accepted-length cfg image a =
-    subst (λ (l : List ℕ). lengthOk cfg l ≡ true) (accepted-image cfg image a)
-    (own-length cfg (stateOf cfg image) (accepted-state cfg image a .formed))
+  -- so an accepted image has it
+  pub accepted-length : (image : List ℕ) → acceptableIn cfg ed image ≡ true → lengthOk cfg (ed .payload) image ≡ true
+  accepted-length image a =
+      subst (λ (l : List ℕ). lengthOk cfg (ed .payload) l ≡ true) (accepted-image cfg ed image a)
+      (own-length (stateIn cfg ed image) (accepted-state cfg ed image a .formed))
 
-pub refused-by-length : (cfg : Configuration) (image : List ℕ) → lengthOk cfg image ≡ false
-    → acceptable cfg image ≡ false
-refused-by-length cfg image n = go (acceptable cfg image) refl
-  where
-    go : (b : Bool) → acceptable cfg image ≡ b → b ≡ false
-    go true e = clash (lengthOk cfg image) (accepted-length cfg image e) n
-    go false e = refl
+  pub refused-by-length : (image : List ℕ) → lengthOk cfg (ed .payload) image ≡ false
+      → acceptableIn cfg ed image ≡ false
+  refused-by-length image n = go (acceptableIn cfg ed image) refl
+    where
+      go : (b : Bool) → acceptableIn cfg ed image ≡ b → b ≡ false
+      go true e = clash (lengthOk cfg (ed .payload) image) (accepted-length image e) n
+      go false e = refl
 
-module _ (cfg : Configuration) (image : List ℕ) (ok : lengthOk cfg image ≡ true) {start : ℕ}
+  -- byte 1 of an accepted image is the edition's number
+  pub byte-1-is : (image : List ℕ) → acceptableIn cfg ed image ≡ true → getD image 1 0 ≡ ed .number
+  byte-1-is image a =
+      ap (λ (l : List ℕ). getD l 1 0) (sym (append-nil image)) ∙ accepted-byte-1 cfg ed image [] a
+
+  refused-by-byte-1 : (image : List ℕ) → (getD image 1 0 ≡ ed .number → ⊥) → acceptableIn cfg ed image ≡ false
+  refused-by-byte-1 image n = go (acceptableIn cfg ed image) refl
+    where
+      go : (b : Bool) → acceptableIn cfg ed image ≡ b → b ≡ false
+      go true e = absurd (n (byte-1-is image e))
+      go false e = refl
+
+-- the cuts that the code makes of an image of the right length
+module _ (cfg : Configuration) (W : ℕ) (image : List ℕ) (ok : lengthOk cfg W image ≡ true) {start : ℕ}
     (at : start ≡ memoryAt cfg) where
   pub records-cut : take (start - headerLength) (drop headerLength image) ≡ recordsOf cfg image
   records-cut =
       let e : start - headerLength
       ≡ recordWidth * events cfg = omega (arith, at) in ap (λ (k : ℕ). take k (drop headerLength image)) e
 
-  pub used-cut : take (length image - 1 - start) (drop start image) ≡ usedPart cfg image ok
+  pub records-cut-long : length (take (start - headerLength) (drop headerLength image)) ≡ recordWidth * events cfg
+  records-cut-long = ap length records-cut ∙ parts-fit cfg W image ok .records-long
+
+  pub used-cut : take (length image - 1 - start) (drop start image) ≡ usedPart cfg W image ok
   used-cut =
       let e : length image - 1 - start
-      ≡ usedIn cfg image = omega (arith, at, length-is cfg image ok) in λ i. take (e i) (drop (at i) image)
+      ≡ usedWith cfg W image = omega (arith, at, length-is cfg W image ok) in λ i. take (e i) (drop (at i) image)
 
+module _ (cfg : Configuration) (number W : ℕ) (image : List ℕ) (ok : lengthOk cfg W image ≡ true) {start : ℕ}
+    (at : start ≡ memoryAt cfg) where
   pub judged-right : {expected : List ℕ} {same bodies : Bool}
-      → expected ≡ header (start - headerLength) (length image - 1 - start) 1
+      → expected ≡ header number (start - headerLength) (length image - 1 - start) 1
       → same ≡ equal expected (take headerLength image)
       → bodies
-      ≡ bodiesOk cfg (take (start - headerLength) (drop headerLength image))
+      ≡ bodiesOk cfg W (take (start - headerLength) (drop headerLength image))
       (take (length image - 1 - start) (drop start image))
-      → same && bodies && leb (getD image (length image - 1) 0) 1 ≡ acceptable cfg image
+      → same && bodies && leb (getD image (length image - 1) 0) 1 ≡ acceptableIn cfg (edition number W) image
   judged-right h s b =
-      let fits = parts-fit cfg image ok in
+      let fits = parts-fit cfg W image ok in
       let records = recordsOf cfg image in
-      let used = usedPart cfg image ok in
+      let used = usedPart cfg W image ok in
       let r : start - headerLength ≡ length records = omega (arith, at, fits .records-long) in
       let all = length-take-le (length image - 1 - start) (drop start image) (omega (arith, length-drop start image)) in
       let u : length image - 1 - start ≡ length used =
-      omega (arith, at, length-is cfg image ok, ap length used-cut, all) in
-      let x = s ∙ (λ i. equal ((h ∙ (λ j. header (r j) (u j) 1)) i) (take headerLength image)) in
-      let y = b ∙ (λ i. bodiesOk cfg (records-cut i) (used-cut i)) in
-      (λ i. x i && y i && leb (flagByte cfg image ok) 1)
-      ∙ judged-is cfg (headerPart cfg image ok) records used (flagByte cfg image ok) fits
-      ∙ ap (acceptable cfg) (parts-joined cfg image ok)
+      omega (arith, at, length-is cfg W image ok, ap length (used-cut cfg W image ok at), all) in
+      let x = s ∙ (λ i. equal ((h ∙ (λ j. header number (r j) (u j) 1)) i) (take headerLength image)) in
+      let y = b ∙ (λ i. bodiesOk cfg W (records-cut cfg W image ok at i) (used-cut cfg W image ok at i)) in
+      (λ i. x i && y i && leb (flagByte cfg W image ok) 1)
+      ∙ judged-is cfg (edition number W) (headerPart cfg W image ok) records used (flagByte cfg W image ok) fits
+      ∙ ap (acceptableIn cfg (edition number W)) (parts-joined cfg W image ok)
+
+-- ---- byte 1 tells the edition
+
+module _ (cfg : Configuration) (image : List ℕ) where
+  pub judged-as-1 : {payload : ℕ} {ok : Bool} → getD image 1 0 ≡ 1 → payload ≡ frameBytes cfg
+      → ok ≡ acceptableIn cfg (edition 1 payload) image → ok ≡ acceptable cfg image
+  unfolding acceptable
+  judged-as-1 one p q =
+      q
+      ∙ ap (λ (k : ℕ). acceptableIn cfg (edition 1 k) image) p
+      ∙ sym
+      (ap (λ (b : Bool). b || acceptableIn cfg (edition1 cfg) image)
+      (refused-by-byte-1 cfg (edition2 cfg) image (λ two. omega (arith, one, two))))
+
+  pub judged-as-2 : {payload : ℕ} {ok : Bool} → (getD image 1 0 ≡ 1 → ⊥) → payload ≡ entryFrames cfg
+      → ok ≡ acceptableIn cfg (edition 2 payload) image → ok ≡ acceptable cfg image
+  unfolding acceptable
+  judged-as-2 other p q =
+      q
+      ∙ ap (λ (k : ℕ). acceptableIn cfg (edition 2 k) image) p
+      ∙ sym
+      (ap (λ (b : Bool). acceptableIn cfg (edition2 cfg) image || b)
+      (refused-by-byte-1 cfg (edition1 cfg) image other)
+      ∙ or-false (acceptableIn cfg (edition2 cfg) image))
+    where
+      or-false : (b : Bool) → b || false ≡ b
+      or-false true = refl
+      or-false false = refl
+
+  -- no byte 1
+  pub refused-short : length image ≤ 1 → acceptable cfg image ≡ false
+  unfolding acceptable
+  refused-short h =
+      let none : getD image 1 0 ≡ 0 = List·getD-eq-default image 0 {n = 1} h in
+      (λ i. refused-by-byte-1 cfg (edition2 cfg) image (λ e. omega (arith, none, e)) i
+      || refused-by-byte-1 cfg (edition1 cfg) image (λ e. omega (arith, none, e)) i)

@@ -18,7 +18,7 @@ use Rattle.manual.specs.WellFormed.{wellFormed}
 use Rattle.manual.specs.Memory.{entryCount, bytesInUse}
 use Rattle.manual.specs.Answers.{lentRoom, _if_, firstThatApplies, numberOf, ofLength, leaves}
 use Rattle.manual.specs.Calls.{begins}
-use Rattle.manual.specs.Image.{headerLength, header, imageFrom, imageOf, anyRuns, saveRules, saved, save}
+use Rattle.manual.specs.Image.{headerLength, header, imageFrom, imageIn, imageOf, anyRuns, saveRules, saved, save}
 use Rattle.manual.proofs.AnswersLaws.{none-applies, goes-through}
 use Rattle.manual.proofs.ConfigurationLaws.{config-tells}
 use Rattle.manual.proofs.MemoryLaws.{used-most}
@@ -59,7 +59,7 @@ module _ (cfg : Configuration) (records memory : List ℕ) (r : Savable cfg reco
   pub used-long : length (take used memory) ≡ used
   used-long = end-length (places cfg) (entryFrames cfg) memory (r .memory-fits) (r .few)
 
-  pub size-most : headerLength + length records + used ≤ 4309
+  pub size-most : headerLength + length records + used ≤ 6357
   size-most =
       let t = config-tells cfg (r .accepted) in
       omega (
@@ -75,13 +75,13 @@ module _ (cfg : Configuration) (records memory : List ℕ) (r : Savable cfg reco
     cut-long = e ∙ sym used-long ∙ ap (λ (k : ℕ). length (take k memory)) (sym e)
 
     pub image-is : (d : List ℤ) (b : Board)
-        → imageFrom records (take u memory) (cond (b .overflow) 1 0 ∷ []) ≡ imageOf cfg (lent records d memory b)
-    unfolding imageOf
-    image-is d b = ap (λ (k : ℕ). imageFrom records (take k memory) (cond (b .overflow) 1 0 ∷ [])) e
+        → imageFrom 2 records (take u memory) (cond (b .overflow) 1 0 ∷ []) ≡ imageOf cfg (lent records d memory b)
+    unfolding imageIn
+    image-is d b = ap (λ (k : ℕ). imageFrom 2 records (take k memory) (cond (b .overflow) 1 0 ∷ [])) e
 
   pub image-length : (d : List ℤ) (b : Board)
       → length (imageOf cfg (lent records d memory b)) ≡ headerLength + length records + used + 1
-  unfolding imageOf imageFrom
+  unfolding imageIn imageFrom
   image-length d b = simp length-append (let l = used-long in omega arith)
 
 module _ (cfg : Configuration) (room records : List ℕ) (debounce : List ℤ) (memory : List ℕ) (b : Board) where
@@ -136,11 +136,11 @@ module _ (cfg : Configuration) (room records : List ℕ) (debounce : List ℤ) (
 module _ (records used room : List ℕ) (flag : ℕ)
     (h : headerLength + length records + length used + 1 ≤ length room) where
   abbrev top : List ℕ
-  top = header (length records) (length used) 1
+  top = header 2 (length records) (length used) 1
 
   pub bodies-written : {top′ : List ℕ} {flag′ : ℕ} {w₁ w₂ w₃ w₄ : writing.Written} → top′ ≡ top → flag′ ≡ flag
       → w₁ ≡ append top′ (written 0 room) → w₂ ≡ append records w₁ → w₃ ≡ append used w₂ → w₄ ≡ append (flag′ ∷ []) w₃
-      → w₄ ≡ filled (imageFrom records used (flag ∷ [])) room
+      → w₄ ≡ filled (imageFrom 2 records used (flag ∷ [])) room
   unfolding imageFrom
   bodies-written {top′} {flag′} t f e₁ e₂ e₃ e₄ =
       let image = top ++ (records ++ (used ++ (flag ∷ []))) in

@@ -6,11 +6,11 @@ use Prim.Native.Nat.{ℕ, _+_, _*_}
 use lib.Dec.{eqb, leb}
 use lib.ListN.{length}
 use Rattle.manual.specs.Words.{allBelow}
-use Rattle.manual.specs.Configuration.{Configuration, events, places, entryFrames}
+use Rattle.manual.specs.Configuration.{Configuration, events, places}
 use Rattle.manual.specs.State.{recordWidth, opened, storedAt}
 use Rattle.manual.specs.WellFormed.{recordOk}
-use Rattle.manual.specs.Memory.{entryCount}
-use Rattle.manual.specs.Image.{headerLength, afterRecords, usedIn}
+use Rattle.manual.specs.Memory.{entryCount, bytesInUse}
+use Rattle.manual.specs.Image.{headerLength, afterRecords}
 use Rattle.memory.specs.Judgement.{usedOk}
 
 module _ (cfg : Configuration) where
@@ -18,13 +18,17 @@ module _ (cfg : Configuration) where
   abbrev pub memoryAt : ℕ
   memoryAt = headerLength + recordWidth * events cfg
 
-  -- at most M entries, and an image as long as these make it: body 3 is one byte, and nothing follows it
-  unfoldable pub lengthOk : List ℕ → Bool
-  lengthOk image =
-      leb (entryCount (afterRecords cfg image)) (places cfg) && eqb (length image) (memoryAt + usedIn cfg image + 1)
+  -- ---- an image of an edition whose entries have payloads of W bytes
 
-  -- bodies 1 and 2 are as a well-formed state has its records and its entries
-  unfoldable pub bodiesOk : List ℕ → List ℕ → Bool
-  bodiesOk records used =
-      allBelow (events cfg) (λ e. recordOk cfg e (opened (storedAt e records)))
-      && usedOk (events cfg) (places cfg) (entryFrames cfg) records used
+  module _ (W : ℕ) where
+    -- at most M entries, and an image as long as these make it: body 3 is one byte, and nothing follows it
+    unfoldable pub lengthOk : List ℕ → Bool
+    lengthOk image =
+        leb (entryCount (afterRecords cfg image)) (places cfg)
+        && eqb (length image) (memoryAt + bytesInUse W (entryCount (afterRecords cfg image)) + 1)
+
+    -- bodies 1 and 2 are as a well-formed state has its records and its entries
+    unfoldable pub bodiesOk : List ℕ → List ℕ → Bool
+    bodiesOk records used =
+        allBelow (events cfg) (λ e. recordOk cfg e (opened (storedAt e records)))
+        && usedOk (events cfg) (places cfg) W records used

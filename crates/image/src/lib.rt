@@ -1,4 +1,4 @@
-// Document 01, "Saved image": save and restore.
+// Document 01, "Saved image", with document 02's edition 2: save and restore.
 use judgement::Check;
 use manual::Answer;
 use manual::Board;
@@ -8,29 +8,35 @@ use manual::Returned;
 ghost use mathlib.Core.Path.{_≡_};
 ghost use mathlib.Core.Bool.{Bool, true, cond};
 ghost use mathlib.Core.List.{List, [], _∷_, _++_};
-ghost use Prim.Native.Nat.{_+_, _-_, _≤_, _<_};
+ghost use Prim.Native.Nat.{_+_, _-_, _*_, _≤_, _<_};
 ghost use lib.IntN.{ℤ};
 ghost use lib.ListN.{length, replicate};
 ghost use Rattle.manual.specs.declared.Board.{Board};
 ghost use Rattle.manual.specs.Words.{equal};
-ghost use Rattle.manual.specs.Configuration.{entryFrames, configOk};
+ghost use Rattle.manual.specs.Configuration.{mostPayload, entryFrames, configOk};
 ghost use Rattle.manual.specs.State.{lent};
 ghost use Rattle.manual.specs.Memory.{entryCount, bytesInUse};
 ghost use Rattle.manual.specs.Answers.{alone, lentRoom, _if_, firstThatApplies, ofAnswer, ofLength, leaves};
-ghost use Rattle.manual.specs.Image.{headerLength, header, imageFrom, imageOf, stateOf, acceptable};
-ghost use Rattle.manual.specs.Image.{anyRuns, saveRules, save, restoreRules, restore};
+ghost use Rattle.manual.specs.Image.{headerLength, header, imageFrom, edition, acceptableIn, imageOf, stateOf};
+ghost use Rattle.manual.specs.Image.{acceptable, anyRuns, saveRules, save, restoreRules, restore};
 ghost use Rattle.judgement.specs.Checks.{checkNumber};
 ghost use Rattle.judgement.specs.Fits.{RecordsFor};
-ghost use Rattle.writing.specs.Writing.{written, filled};
+ghost use Rattle.writing.specs.Writing.{written, append, filled};
 ghost use Rattle.image.specs.Layout.{memoryAt, lengthOk, bodiesOk};
-ghost use Rattle.image.specs.Ready.{Counted, Savable, Restorable};
+ghost use Rattle.image.specs.Widened.{bothFrames, widenedBytes, madeOf};
+ghost use Rattle.image.specs.Ready.{Counted, Savable, Widenable, Fillable, Restorable};
 
 // ---- the layout
 
 // "Byte 0 = 3 bodies, byte 1 = edition 1, then three rows of 6"
 const BODY_COUNT: u8 = 3;
 
-const EDITION: u8 = 1;
+const EDITION_AT: usize = 1;
+
+// Document 02, W6: "The image gets edition 2; an edition 1 image is accepted too".
+const EDITION_1: u8 = 1;
+
+const EDITION_2: u8 = 2;
 
 const HEADER_LENGTH: usize = 20;
 
@@ -43,17 +49,17 @@ const KIND_OVERFLOW: u8 = 3;
 
 const OVERFLOW_LENGTH: usize = 1;
 
-// The header of bodies of these lengths and the overflow flag: after the two bytes a row for each body, "kind …, 0,
-// offset (2), length (2)". "Numbers are high byte first", "Bodies follow without gaps".
-fn header(records: usize, memory: usize) -> [u8; HEADER_LENGTH]
+// The header of the edition of this number, of bodies of these lengths and the overflow flag: after the two bytes a row
+// for each body, "kind …, 0, offset (2), length (2)". "Numbers are high byte first", "Bodies follow without gaps".
+fn header(number: u8, records: usize, memory: usize) -> [u8; HEADER_LENGTH]
     requires { ⌜ headerLength + records + memory < 65536 ⌝ }
-    ensures { λ r. ⌜ r ≡ header records memory 1 ⌝ }
+    ensures { λ r. ⌜ r ≡ header number records memory 1 ⌝ }
 {
     let memory_at = HEADER_LENGTH + records;
     let overflow_at = memory_at + memory;
     [
         BODY_COUNT,
-        EDITION,
+        number,
         KIND_RECORDS,
         0,
         (HEADER_LENGTH / 256) as u8,
@@ -90,7 +96,7 @@ fn memory_at(cfg: &[i32]) -> usize
     HEADER_LENGTH + manual::RECORD_WIDTH * config::events(cfg)
 }
 
-// The length of body 2, which begins with the entry count: "the entry count and the entries in use".
+// The length of body 2 of a state, which begins with the entry count: "the entry count and the entries in use".
 fn used_length(cfg: &[i32], memory: &[u8]) -> usize
     requires { ⌜ Counted (now cfg) (now memory) ⌝ }
     ensures { λ r. ⌜ r ≡ bytesInUse (entryFrames (now (cfg .entry))) (entryCount (now (memory .entry))) ⌝ }
@@ -98,7 +104,7 @@ fn used_length(cfg: &[i32], memory: &[u8]) -> usize
     memory::bytes_in_use(memory, memory::entry_frames(cfg))
 }
 
-// ---- the judgement of an image
+// ---- the judgement of an image of one edition: its number, and the length of its entries' payloads
 
 // Whether two parts hold the same bytes.
 fn same_bytes(bytes: &[u8], others: &[u8]) -> bool
@@ -117,10 +123,10 @@ fn same_bytes(bytes: &[u8], others: &[u8]) -> bool
     true
 }
 
-// Whether the image is as long as its entry count says, and that is at most M. Any bytes may be judged, of any number.
-fn length_ok(cfg: &[i32], image: &[u8]) -> bool
-    requires { ⌜ configOk (now cfg) ≡ true ⌝ }
-    ensures { λ r. ⌜ r ≡ lengthOk (now (cfg .entry)) (now (image .entry)) ⌝ }
+// Whether the image is as long as its entry count says, and that is at most M. Any bytes may be judged, however many.
+fn length_ok(cfg: &[i32], image: &[u8], payload_bytes: usize) -> bool
+    requires { ⌜ (configOk (now cfg) ≡ true) × («payload_bytes» ≤ mostPayload) ⌝ }
+    ensures { λ r. ⌜ r ≡ lengthOk (now (cfg .entry)) «payload_bytes» (now (image .entry)) ⌝ }
 {
     let start = memory_at(cfg);
     if image.len() <= start {
@@ -130,35 +136,58 @@ fn length_ok(cfg: &[i32], image: &[u8]) -> bool
     if config::places(cfg) < memory::entry_count(rest) {
         return false;
     }
-    image.len() == start + used_length(cfg, rest) + OVERFLOW_LENGTH
+    image.len() == start + memory::bytes_in_use(rest, payload_bytes) + OVERFLOW_LENGTH
 }
 
 // Bodies 1 and 2 are judged as the records and the entries of a lent state are.
-fn bodies_ok(cfg: &[i32], records: &[u8], used: &[u8]) -> bool
-    requires { ⌜ RecordsFor (now cfg) (now records) ⌝ }
-    ensures { λ r. ⌜ r ≡ bodiesOk (now (cfg .entry)) (now (records .entry)) (now (used .entry)) ⌝ }
+fn bodies_ok(cfg: &[i32], records: &[u8], used: &[u8], payload_bytes: usize) -> bool
+    requires { ⌜ (RecordsFor (now cfg) (now records)) × («payload_bytes» ≤ mostPayload) ⌝ }
+    ensures { λ r. ⌜ r ≡ bodiesOk (now (cfg .entry)) «payload_bytes» (now (records .entry)) (now (used .entry)) ⌝ }
 {
     let n = config::events(cfg);
     let m = config::places(cfg);
-    let f = memory::entry_frames(cfg);
-    judgement::records_ok(cfg, records) & memory::entries_ok(n, m, f, used, records)
+    judgement::records_ok(cfg, records) & memory::entries_ok(n, m, payload_bytes, used, records)
 }
 
-// "Restore accepts exactly the images of well-formed states with all cycles stopped". Any bytes may be judged, of any
-// number.
-fn image_ok(cfg: &[i32], image: &[u8]) -> bool
-    requires { ⌜ configOk (now cfg) ≡ true ⌝ }
-    ensures { λ r. ⌜ r ≡ acceptable (now (cfg .entry)) (now (image .entry)) ⌝ }
+// "Restore accepts exactly the images of well-formed states with all cycles stopped". Any bytes may be judged, however
+// many.
+fn image_in(cfg: &[i32], image: &[u8], number: u8, payload_bytes: usize) -> bool
+    requires { ⌜ (configOk (now cfg) ≡ true) × («payload_bytes» ≤ mostPayload) ⌝ }
+    ensures { λ r. ⌜ r ≡ acceptableIn (now (cfg .entry)) (edition number «payload_bytes») (now (image .entry)) ⌝ }
 {
-    if !length_ok(cfg, image) {
+    if !length_ok(cfg, image, payload_bytes) {
         return false;
     }
     let start = memory_at(cfg);
     let end = image.len() - OVERFLOW_LENGTH;
-    let expected = header(start - HEADER_LENGTH, end - start);
+    let expected = header(number, start - HEADER_LENGTH, end - start);
     same_bytes(&expected, &image[..HEADER_LENGTH])
-        & bodies_ok(cfg, &image[HEADER_LENGTH..start], &image[start..end])
+        & bodies_ok(
+            cfg,
+            &image[HEADER_LENGTH..start],
+            &image[start..end],
+            payload_bytes,
+        )
         & (image[end] <= 1)
+}
+
+// ---- the judgement of an image
+
+// "an edition 1 image is accepted too": byte 1 tells the edition, and only that one is judged. Of its frames an entry
+// has one in edition 1, and two in edition 2.
+fn image_ok(cfg: &[i32], image: &[u8]) -> bool
+    requires { ⌜ configOk (now cfg) ≡ true ⌝ }
+    ensures { λ r. ⌜ r ≡ acceptable (now (cfg .entry)) (now (image .entry)) ⌝ }
+{
+    if image.len() <= EDITION_AT {
+        return false;
+    }
+    let one = config::frame_bytes(cfg);
+    let two = memory::entry_frames(cfg);
+    if image[EDITION_AT] == EDITION_1 {
+        return image_in(cfg, image, EDITION_1, one);
+    }
+    image_in(cfg, image, EDITION_2, two)
 }
 
 // ---- save
@@ -216,14 +245,16 @@ fn judge_save(
     }
 }
 
-// Writes the header and the three bodies one after the other, and answers the length of the whole.
+// Writes the header and the three bodies one after the other, and answers the length of the whole. "Saving always
+// writes edition 2".
 fn write_image(records: &[u8], used: &[u8], overflow: bool, room: &mut [u8]) -> usize
     requires { ⌜ (headerLength + length (now records) + length (now used) < 65536)
         × (headerLength + length (now records) + length (now used) + 1 ≤ length (now room)) ⌝ }
     ensures { λ r. ⌜ written r (now (room .exit))
-        ≡ filled (imageFrom (now (records .entry)) (now (used .entry)) (cond overflow 1 0 ∷ [])) (now (room .entry)) ⌝ }
+        ≡ filled (imageFrom 2 (now (records .entry)) (now (used .entry)) (cond overflow 1 0 ∷ []))
+        (now (room .entry)) ⌝ }
 {
-    let head = header(records.len(), used.len());
+    let head = header(EDITION_2, records.len(), used.len());
     let records_at = writing::write(room, 0, &head);
     let memory_at = writing::write(room, records_at, records);
     let overflow_at = writing::write(room, memory_at, used);
@@ -246,7 +277,7 @@ fn accept_save(cfg: &[i32], records: &[u8], memory: &[u8], overflow: bool, room:
 }
 
 // Save: 2, 3, 5 (any cycle running), 7 (the room is smaller than the image). "Save writes the image, no more, and
-// answers its length." A refusal leaves the room as it was, and its length is 0.
+// answers its length.", "Saving always writes edition 2". A refusal leaves the room as it was, and its length is 0.
 pub fn save(
     cfg: &[i32],
     records: &[u8],
@@ -294,13 +325,58 @@ fn judge_restore(
     }
 }
 
-// Memory of these bytes in use: "the bytes after the last entry are 0".
-fn fill_memory(memory: &mut [u8], used: &[u8])
-    requires { ⌜ length (now used) ≤ length (now memory) ⌝ }
-    ensures { λ _. ⌜ now (memory .exit)
-        ≡ now (used .entry) ++ replicate (length (now (memory .entry)) - length (now (used .entry))) 0 ⌝ }
+// Writes an entry of one frame, "its one frame becoming both", and answers the place behind it.
+fn write_both(memory: &mut [u8], at: usize, bytes: &[u8]) -> usize
+    requires { ⌜ (3 ≤ length (now bytes)) × (at + 2 * length (now bytes) ≤ length (now memory) + 3) ⌝ }
+    ensures { λ r. ⌜ written r (now (memory .exit))
+        ≡ append (bothFrames (now (bytes .entry))) (written at (now (memory .entry))) ⌝ }
 {
-    let end = writing::write(memory, 0, used);
+    let end = bytes.len();
+    let first_at = writing::write(memory, at, &bytes[..memory::BEFORE_PAYLOAD]);
+    let latest_at = writing::write(memory, first_at, &bytes[memory::BEFORE_PAYLOAD..end]);
+    writing::write(memory, latest_at, &bytes[memory::BEFORE_PAYLOAD..end])
+}
+
+// Writes the entry count and the entries of an image of edition 1, each with both frames, and answers the place behind
+// them.
+fn widen(memory: &mut [u8], used: &[u8], frame_bytes: usize) -> usize
+    requires { ⌜ Widenable «frame_bytes» (now used) (now memory) ⌝ }
+    ensures { λ r. ⌜ written r (now (memory .exit))
+        ≡ append (widenedBytes «frame_bytes» (now (used .entry))) (written 0 (now (memory .entry))) ⌝ }
+{
+    let width = memory::BEFORE_PAYLOAD + frame_bytes;
+    let mut left = memory::entry_count(used);
+    let mut at = writing::write(memory, 0, &used[..1]);
+    let mut from = 1;
+    while 0 < left {
+        at = write_both(memory, at, &used[from..from + width]);
+        from += width;
+        left -= 1;
+    }
+    at
+}
+
+// Writes what body 2 of an image of this edition makes of memory, and answers the place behind it.
+fn write_entries(memory: &mut [u8], used: &[u8], number: u8, frame_bytes: usize) -> usize
+    requires { ⌜ Fillable number «frame_bytes» (now used) (now memory) ⌝ }
+    ensures { λ r. ⌜ written r (now (memory .exit))
+        ≡ append (madeOf number «frame_bytes» (now (used .entry))) (written 0 (now (memory .entry))) ⌝ }
+{
+    if number == EDITION_1 {
+        return widen(memory, used, frame_bytes);
+    }
+    writing::write(memory, 0, used)
+}
+
+// Memory as body 2 of an image of this edition makes it: "the bytes after the last entry are 0".
+fn fill_memory(memory: &mut [u8], used: &[u8], number: u8, frame_bytes: usize)
+    requires { ⌜ Fillable number «frame_bytes» (now used) (now memory) ⌝ }
+    ensures { λ _. ⌜ now (memory .exit)
+        ≡ madeOf number «frame_bytes» (now (used .entry))
+        ++ replicate
+        (length (now (memory .entry)) - length (madeOf number «frame_bytes» (now (used .entry)))) 0 ⌝ }
+{
+    let end = write_entries(memory, used, number, frame_bytes);
     writing::zero_from(memory, end);
 }
 
@@ -320,12 +396,13 @@ fn accept_restore(
     let end = image.len() - OVERFLOW_LENGTH;
     writing::write(records, 0, &image[HEADER_LENGTH..start]);
     fresh_state::reset_numbers(debounce);
-    fill_memory(memory, &image[start..end]);
+    let one = config::frame_bytes(cfg);
+    fill_memory(memory, &image[start..end], image[EDITION_AT], one);
     fresh_state::stopped_board(image[end] == 1)
 }
 
 // Restore: 2, 3 (lengths only), 8. "Restore accepts exactly the images of well-formed states with all cycles stopped,
-// and makes that state." The image is judged whole before anything is written; a refusal changes nothing and hands back
+// and makes that state."; "an edition 1 image is accepted too, its one frame becoming both". The image is judged whole before anything is written; a refusal changes nothing and hands back
 // the board it was given.
 pub fn restore(
     cfg: &[i32],

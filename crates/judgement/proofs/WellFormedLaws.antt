@@ -13,7 +13,7 @@ use Rattle.manual.specs.declared.Board.{Board}
 use Rattle.manual.specs.Words.{allBelow}
 use Rattle.manual.specs.Configuration.{Configuration, events, places, entryFrames, limitsOf, configOk}
 use Rattle.manual.specs.State.{opened, storedAt, lent}
-use Rattle.manual.specs.WellFormed.{lengthsFit, memoryFits, recordOk, DOk, memoryOk, wellFormed}
+use Rattle.manual.specs.WellFormed.{recordOk, DOk, memoryFitsWith, lengthsFitWith, memoryOkWith, wellFormedWith}
 use Rattle.manual.proofs.ConfigurationLaws.{config-tells}
 use Rattle.manual.proofs.WellFormedLaws.{lengths-tell}
 use Rattle.status.specs.Clauses.{bytesOk, limitsKept}
@@ -62,26 +62,27 @@ records-parted cfg records {n} ok q =
     parted-where (limitsOf cfg e) (opened (storedAt e records)) (row .limits .H-least) (row .limits .A-least))
     ∙ ap (λ (k : ℕ). allBelow k (λ e. recordOk cfg e (opened (storedAt e records)))) q
 
-module _ (cfg : Configuration) (records : List ℕ) (debounce : List ℤ) (memory : List ℕ) (b : Board) where
+-- payloads of W bytes
+module _ (cfg : Configuration) (W : ℕ) (records : List ℕ) (debounce : List ℤ) (memory : List ℕ) (b : Board) where
   -- the judgement of a memory block is the manual's, with the block's length
-  pub block-is : blockOk (events cfg) (places cfg) (entryFrames cfg) records memory
-      ≡ memoryFits cfg (lent records debounce memory b) && memoryOk cfg (lent records debounce memory b)
-  unfolding blockOk memoryOk holds storedAt
+  pub block-is : blockOk (events cfg) (places cfg) W records memory
+      ≡ memoryFitsWith cfg W (lent records debounce memory b) && memoryOkWith cfg W (lent records debounce memory b)
+  unfolding blockOk memoryOkWith holds storedAt
   block-is = refl
 
-  pub not-fitting : lengthsFit cfg (lent records debounce memory b) ≡ false
-      → wellFormed cfg (lent records debounce memory b) ≡ false
-  unfolding wellFormed holds
+  pub not-fitting : lengthsFitWith cfg W (lent records debounce memory b) ≡ false
+      → wellFormedWith cfg W (lent records debounce memory b) ≡ false
+  unfolding wellFormedWith holds
   not-fitting l = rw l
 
-  pub judged-in-passes : lengthsFit cfg (lent records debounce memory b) ≡ true
+  pub judged-in-passes : lengthsFitWith cfg W (lent records debounce memory b) ≡ true
       → recordsAre cfg records && numbersAre cfg b debounce
-      && blockOk (events cfg) (places cfg) (entryFrames cfg) records memory
-      ≡ wellFormed cfg (lent records debounce memory b)
-  unfolding wellFormed holds
+      && blockOk (events cfg) (places cfg) W records memory
+      ≡ wellFormedWith cfg W (lent records debounce memory b)
+  unfolding wellFormedWith holds
   judged-in-passes l =
       let s = lent records debounce memory b in
-      let fits : memoryFits cfg s ≡ true = eq-eqb _ _ (lengths-tell cfg s l .memory) in
+      let fits : memoryFitsWith cfg W s ≡ true = eq-eqb _ _ (lengths-tell cfg s l .memory) in
       rw (
         block-is,
         fits,

@@ -74,7 +74,7 @@ module _ (cfg : Configuration) where
   judges-query : (q : Query) (b : Beside) (s : State) → Judged (Read q) b s
   unfolding readStatus readFrame readCounter readMissing readTable readPaint listGrey save
   judges-query (ReadStatus k) b s = record { accepts = _; zero = refl; is = refl }
-  judges-query (ReadFrame k) b s = record { accepts = _; zero = refl; is = refl }
+  judges-query (ReadFrame k which) b s = record { accepts = _; zero = refl; is = refl }
   judges-query (ReadCounter k) b s = record { accepts = _; zero = refl; is = refl }
   judges-query (ReadMissing k present) b s = record { accepts = _; zero = refl; is = refl }
   judges-query ReadTable b s = record { accepts = _; zero = refl; is = refl }

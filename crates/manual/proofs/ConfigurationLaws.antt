@@ -101,7 +101,7 @@ module _ (cfg : Configuration) where
     M-least = counted 1 mostPlaces (numberAt cfg 1) (part _ t 2) .0;
     M-most = counted 1 mostPlaces (numberAt cfg 1) (part _ t 2) .1;
     F-most = counted 0 mostFrame (numberAt cfg 2) (part _ t 3) .1;
-    payload-most = counted 0 mostFrame (numberAt cfg 2) (part _ t 3) .1;
+    payload-most = omega (arith, counted 0 mostFrame (numberAt cfg 2) (part _ t 3) .1);
     row = λ e h. row-tells e (all-below-at (events cfg) (rowOk cfg) (part _ t 5) e h);
   }
 

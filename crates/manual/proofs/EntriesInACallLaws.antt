@@ -35,7 +35,8 @@ use Rattle.manual.proofs.WordsLaws.{those-each, all-so, others-in, one-
 use Rattle.manual.proofs.MemoryLaws.{EntryGood, frames, memory-entries, fills, good-store}
 use Rattle.manual.proofs.MemoryStaysGood.{hasFailedBit, MemoryGood, entries-are, good-happens, good-D, bit-own}
 use Rattle.manual.proofs.OneEventLaws.{View, view, Acts, acts-cond, fold-later}
-use Rattle.manual.proofs.StaysWellFormed.{Sound, Keeps, below-going}
+use Rattle.manual.proofs.SoundStates.{Sound}
+use Rattle.manual.proofs.StaysWellFormed.{Keeps, below-going}
 use Rattle.manual.proofs.OnlyTheNamedEntryLeaves.{store-is-ruled}
 
 -- ---- one store

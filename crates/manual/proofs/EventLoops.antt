@@ -10,7 +10,8 @@ use Rattle.manual.specs.State.{State}
 use Rattle.manual.specs.WellFormed.{wellFormed}
 use Rattle.manual.proofs.OneEventLaws.{view}
 use Rattle.manual.proofs.MemoryStaysGood.{MemoryGood}
-use Rattle.manual.proofs.StaysWellFormed.{EventGood, Sound, sound, Keeps, below-going}
+use Rattle.manual.proofs.SoundStates.{EventGood, Sound, sound}
+use Rattle.manual.proofs.StaysWellFormed.{Keeps, below-going}
 
 module _ (cfg : Configuration) where
   -- what a step on event e may count on

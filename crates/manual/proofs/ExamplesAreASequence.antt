@@ -17,14 +17,15 @@ use Rattle.manual.specs.Words.{allBelow, forBelow, firstOf, those, equal
 use Rattle.manual.specs.Configuration.{Configuration, events, places, frameBytes}
 use Rattle.manual.specs.Configuration.{column, limitsOf, rowOk, configOk}
 use Rattle.manual.specs.State.{State, storedAt, withStored, statusByte}
-use Rattle.manual.specs.WellFormed.{lengthsFit, DFits, memoryOk, wellFormed}
+use Rattle.manual.specs.WellFormed.{DFits, lengthsFitWith, memoryOkWith, wellFormedWith}
 use Rattle.manual.specs.Answers as Answers
 use Rattle.manual.specs.Answers.{alone, firstThatApplies}
 use Rattle.manual.specs.Debouncing.{top, bottom, verdictAt, leavesAt, internalReport, counterUp}
 use Rattle.manual.specs.Debouncing.{counterDown, counterReport, timeReport, reported, ticked}
 use Rattle.manual.specs.Conditions.{inSet, noneMissing}
 use Rattle.manual.specs.OneEvent.{happens, entryLeaves, keeps, memoryTold, fails, stops, clears, forThose}
-use Rattle.manual.specs.Memory.{entriesFrom, entriesOf, entriesBytes, memoryOf, without}
+use Rattle.manual.specs.Memory.{payloadOf, renewedPayload, entriesFrom, entriesOf, entriesBytes, memoryOf}
+use Rattle.manual.specs.Memory.{without}
 use Rattle.manual.specs.Memory.{noTwice, victim, pushedOut, admitted, renewed, store}
 use Rattle.manual.specs.Calls.{freshRecords, freshState, freshRules, fresh, reportRules, applied, report}
 use Rattle.manual.specs.Calls.{tickRules, tick, startRules, startCycle, stopRules, stopCycle}
@@ -130,7 +131,7 @@ stories-read (t ∷ ts) are e =
 
 are-sequences : allOf isASequence table ≡ true
 unfolding table e1ToE10 e11 e12 isASequence rowsGoOn allGoOn holds allBelow between events places frameBytes column
-    rowOk configOk lengthsFit firstThatApplies Answers.judged freshRules fresh
+    rowOk configOk lengthsFitWith firstThatApplies Answers.judged freshRules fresh
 are-sequences = refl
 
 -- in every row of the table the reading is the row's byte
@@ -169,9 +170,11 @@ history =
 
 pub its-history : historiesAfter marked e1-to-e10 (begins .state) (λ e. []) 0 ≡ history
 unfolding e1ToE10 historiesAfter tokens holds wellFormedRecord allBelow forBelow firstOf those equal between smaller
-    larger events places frameBytes column rowOk configOk storedAt withStored lengthsFit DFits memoryOk wellFormed
+    larger events places frameBytes column rowOk configOk storedAt withStored lengthsFitWith DFits memoryOkWith
+    wellFormedWith
     firstThatApplies Answers.judged top bottom verdictAt leavesAt internalReport counterUp counterDown counterReport
     timeReport reported ticked happens entryLeaves keeps memoryTold fails stops clears forThose entriesFrom entriesOf
-    entriesBytes memoryOf without noTwice victim pushedOut admitted renewed store freshRecords freshState freshRules
+    payloadOf renewedPayload entriesBytes memoryOf without noTwice victim pushedOut admitted renewed store
+    freshRecords freshState freshRules
     fresh reportRules applied report tickRules tick startRules startCycle stopRules stopCycle inSet noneMissing
 its-history = refl

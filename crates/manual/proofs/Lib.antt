@@ -7,13 +7,16 @@ pub mod DebouncingLaws
 pub mod ConditionsLaws
 pub mod CounterLaws
 pub mod StateLaws
+pub mod FirstAndLatest
 pub mod MemoryLaws
 pub mod OneEventLaws
 pub mod MemoryStaysGood
 pub mod FreshLaws
 pub mod WellFormedLaws
 pub mod CounterOfAState
+pub mod SoundStates
 pub mod ImageLaws
+pub mod WidenedLaws
 pub mod SequencesLaws
 pub mod RecordsFollowHistories
 pub mod EventLoops

@@ -24,6 +24,7 @@ use Rattle.manual.specs.Memory.{entryAt, memoryLength, mostMemory, entry
 use Rattle.manual.specs.Memory.{entriesBytes, memoryOf, isOf, without, noTwice, Kept, kept, displacing, outranked}
 use Rattle.manual.specs.Memory.{resting, victim, pushedOut, admitted, renewed, store}
 use Rattle.manual.proofs.WordsLaws.{by, neither, all-map, all-append, none-at, anyOf-append, First, first-is}
+use Rattle.manual.proofs.FirstAndLatest.{new-long, repeat-long}
 use Rattle.manual.proofs.WordsLaws.{first-none, all-those, those-le, those-all, anyOf-those, as-long}
 
 -- ---- an entry
@@ -348,7 +349,8 @@ pub record Fills (F : ℕ) (frame : List ℕ) : Type 0 where
   pub renewal : (old : List ℕ) → length old ≡ F → length (renewedPayload old frame) ≡ F
 
 pub fills : (cfg : Configuration) (frame : List ℕ) → length frame ≡ frameBytes cfg → Fills (entryFrames cfg) frame
-fills cfg frame h = record { new = h; renewal = λ old k. h }
+fills cfg frame h =
+    record { new = new-long (frameBytes cfg) frame h; renewal = repeat-long (frameBytes cfg) frame h }
 
 module _ (n M F : ℕ) (B : ℕ → Bool) (priority : ℕ → ℕ) (quiet : ℕ → Bool) (e : ℕ) (frame : List ℕ) (below : e < n)
     (failed : B e ≡ true)

@@ -37,7 +37,8 @@ use Rattle.manual.proofs.OneEventLaws.{acts-stops, acts-clears}
 use Rattle.manual.proofs.MemoryStaysGood.{MemoryGood}
 use Rattle.manual.proofs.SequencesLaws.{Does, a-report, a-tick, a-start, a-stop, a-clear}
 use Rattle.manual.proofs.SequencesLaws.{a-request, a-reading, Either, call-does}
-use Rattle.manual.proofs.StaysWellFormed.{Sound, sound, below-going, ticks-keep, stops-keep, clears-keep}
+use Rattle.manual.proofs.SoundStates.{Sound, sound}
+use Rattle.manual.proofs.StaysWellFormed.{below-going, ticks-keep, stops-keep, clears-keep}
 use Rattle.manual.proofs.EntriesInACallLaws.{StoreFate, StoreOrigin, toldEntries, store-fate, store-origin}
 use Rattle.manual.proofs.EntriesInACallLaws.{PartEntries, untold, told, part-entries, those-stay, agesBy}
 use Rattle.manual.proofs.EntriesInACallLaws.{stops-entries, clears-entries}
@@ -116,7 +117,8 @@ module _ (cfg : Configuration) where
         → List·Memᴰ y (entries cfg (upTo n))
         → Fate cfg b s (Tick ms frame present) (entries cfg (cond t (ticks cfg ms frame n (upTo n)) (upTo n))) y
     turn-fate n h true q =
-        part-fate frame framed n h _ (upTo n) (good-below n (omega arith)) (λ v f. in-tick ms frame present n done h q v f)
+        part-fate frame framed n h _ (upTo n) (good-below n (omega arith))
+        (λ v f. in-tick ms frame present n done h q v f)
     turn-fate n h false q = λ y m. stays m
 
     turn-origin : (n : ℕ) → n < events cfg → (t : Bool) → tickMoves cfg present (s .board) n ≡ t
@@ -124,7 +126,8 @@ module _ (cfg : Configuration) where
         → (y : Entry) → List·Memᴰ y (entries cfg (cond t (ticks cfg ms frame n (upTo n)) (upTo n)))
         → Origin cfg b s (Tick ms frame present) y
     turn-origin n h true q =
-        part-origin frame framed n h _ (upTo n) (good-below n (omega arith)) (λ v f. in-tick ms frame present n done h q v f)
+        part-origin frame framed n h _ (upTo n) (good-below n (omega arith))
+        (λ v f. in-tick ms frame present n done h q v f)
     turn-origin n h false q = λ old. old
 
     below-fate : (n : ℕ) → n ≤ events cfg → (x : Entry) → List·Memᴰ x (entries cfg s)
@@ -214,7 +217,8 @@ module _ (cfg : Configuration) where
   does-origin _ b s _ (a-report k code frame present z) a =
       part-origin frame (eqb-true _ _ (not-false _ (none-applies _ z refl 5))) k
       (leb-false _ _ (none-applies _ z refl 2)) _ s
-      (sound cfg s (not-false _ (none-applies _ z refl 1)) .memory) (in-report k code frame present a) (λ x m. was-there m)
+      (sound cfg s (not-false _ (none-applies _ z refl 1)) .memory) (in-report k code frame present a)
+      (λ x m. was-there m)
   does-origin _ b s _ (a-tick ms frame present z) a =
       below-origin ms frame present b s (eqb-true _ _ (not-false _ (none-applies _ z refl 3)))
       (not-false _ (none-applies _ z refl 0))

@@ -32,7 +32,7 @@ use Rattle.manual.specs.Replies.{unknown-in-04, unknown-in-06, too-long,
 use Rattle.manual.specs.Replies.{positive, clears}
 use Rattle.manual.proofs.WordsLaws.{by, neither, either}
 use Rattle.manual.proofs.ConfigurationLaws.{found-tells, found-is, nothing-tells, nothing-is}
-use Rattle.manual.proofs.RepliesLaws.{those-every, count-is, join-is, accepted-is}
+use Rattle.manual.proofs.RepliesLaws.{those-every, count-is, join-is, as-stored, accepted-is}
 
 module _ (cfg : Configuration) (request : List ℕ) (b : Beside) (s : State) where
   abbrev service : ℕ
@@ -197,7 +197,10 @@ module _ (cfg : Configuration) (request : List ℕ) (b : Beside) (s : State) whe
 
     frame-said : number ≡ 0x04 → Said19 (fitting (showing cfg 0x04 (frameTold cfg) (eventAsked cfg request s) s))
     frame-said n =
-        showing-said 0x04 (frameTold cfg) (frame-of-entry n) (frame-without-entry n) (unknown-in-04 z n)
+        showing-said 0x04 (frameTold cfg)
+        (λ e h x q. subst (λ (l : List ℕ). Asks (0x59 ∷ 0x04 ∷ (lineOf e ++ (0x01 ∷ l)))) (as-stored cfg x)
+        (frame-of-entry n e h x q))
+        (frame-without-entry n) (unknown-in-04 z n)
 
     details-said : number ≡ 0x06 → Said19 (fitting (showing cfg 0x06 (detailsTold cfg) (eventAsked cfg request s) s))
     details-said n =
@@ -324,7 +327,7 @@ module _ (cfg : Configuration) (request : List ℕ) (b : Beside) (s : State) whe
   asks-is (list-by-mask e) = rw e list-is
   asks-is (list-all e) = rw e all-is
   asks-is (list-near e) = rw e near-is
-  asks-is (frame-of-entry n e h x q) = rw n (shows-entry 0x04 (frameTold cfg) e h (some x) q)
+  asks-is (frame-of-entry n e h x q) = rw (as-stored cfg x) (rw n (shows-entry 0x04 (frameTold cfg) e h (some x) q))
   asks-is (details-of-entry n e h x q) = rw n (shows-entry 0x06 (detailsTold cfg) e h (some x) q)
   asks-is (frame-without-entry n e h q) = rw n (shows-entry 0x04 (frameTold cfg) e h none q)
   asks-is (details-without-entry n e h q) = rw n (shows-entry 0x06 (detailsTold cfg) e h none q)

@@ -7,11 +7,12 @@ use mathlib.Core.List.{List, [], _∷_, _++_, map, flatMap, append-assoc, append
 use Prim.Native.Nat.{ℕ, zero, suc, _+_, _*_, _<_}
 use native.Mathlib.Nat.{eq-or-lt-of-le, le-of-suc-le-suc, not-suc-le-zero}
 use native.Mathlib.Omega.{arith}
-use lib.ListN.{length, getD, length-append, List·getD-append}
+use lib.ListN.{length, getD, length-append, take-append-drop, List·getD-append}
 use lib.Seq.{getD-at}
 use borrow.Author.Tests.{not-false, ltb-false, eqb-false, le-ltb, ne-eqb}
 use Rattle.manual.specs.Words.{countBelow, joinBelow, those}
-use Rattle.manual.specs.Configuration.{Configuration}
+use Rattle.manual.specs.Configuration.{Configuration, frameBytes}
+use Rattle.manual.specs.Memory.{Entry, firstFrame, latestFrame}
 use Rattle.manual.specs.State.{State}
 use Rattle.manual.specs.Answers.{Beside, Outcome, firstThatApplies}
 use Rattle.manual.specs.Diagnostics.{servedBy, sent, replied, requestRules, requestReply}
@@ -114,6 +115,13 @@ module _ (f : ℕ → List ℕ) where
       go : (t : Bool) (l : List (List ℕ)) (m : List ℕ) → l ≡ map f m → cond t (f x ∷ l) l ≡ map f (cond t (x ∷ m) m)
       go true l m ih = ap (λ (l : List (List ℕ)). f x ∷ l) ih
       go false l m ih = ih
+
+-- ---- an entry's frames
+
+-- "first, then latest" is how an entry stores them
+pub as-stored : (cfg : Configuration) (x : Entry)
+    → firstFrame (frameBytes cfg) (x .payload) ++ latestFrame (frameBytes cfg) (x .payload) ≡ x .payload
+as-stored cfg x = take-append-drop (frameBytes cfg) (x .payload)
 
 -- ---- an accepted request
 

@@ -11,10 +11,12 @@ use Rattle.manual.specs.Configuration.{Configuration, configOk}
 use Rattle.manual.specs.State.{State}
 use Rattle.manual.specs.Answers.{Beside, done, firstThatApplies, _if_}
 use Rattle.manual.specs.WellFormed.{lengthsFit, wellFormed}
-use Rattle.manual.specs.Image.{Still, imageOf, stateOf, acceptable, saveRules, save, restoreRules, restore}
+use Rattle.manual.specs.Image.{edition2, Still, imageOf, stateOf, acceptableIn, acceptable, saveRules, save}
+use Rattle.manual.specs.Image.{restoreRules, restore}
 use Rattle.manual.specs.Sequences.{savedImage}
 use Rattle.manual.proofs.AnswersLaws.{none-applies, accepted, goes-through}
 use Rattle.manual.proofs.ImageLaws.{state-of-own-image, own-image-acceptable}
+use Rattle.manual.proofs.AcceptedImages.{state-2, as-edition-2}
 
 three-pass : (a b c : Bool) → a ≡ true → b ≡ true → c ≡ true
     → firstThatApplies ((2 if not a) ∷ (3 if not b) ∷ (8 if not c) ∷ []) ≡ 0
@@ -44,11 +46,13 @@ module _ (cfg : Configuration) where
   unfolding restore restoreRules
   restore-after-save s s′ four fits b b′ z =
       let still = saved-still b s four z in
+      let own : acceptableIn cfg (edition2 cfg) (imageOf cfg s) ≡ true =
+      own-image-acceptable cfg (edition2 cfg) s still in
       ap (λ (l : List ℕ). restore cfg l b′ s′) (written-image b s z)
       ∙ goes-through _ b′ s′ (done b′ (stateOf cfg (imageOf cfg s)))
       (three-pass (configOk cfg) (lengthsFit cfg s′) (acceptable cfg (imageOf cfg s)) (saved-configured b s z) fits
-      (own-image-acceptable cfg s still))
-      ∙ ap (done b′) (state-of-own-image cfg s still)
+      (as-edition-2 cfg (imageOf cfg s) own))
+      ∙ ap (done b′) (state-2 cfg (imageOf cfg s) own ∙ state-of-own-image cfg (edition2 cfg) s still)
 
   -- an accepted restore of a saved image makes the saved state
   pub restored-is-saved : (s s′ : State) → length (s .board .running) ≡ 4 → (b b′ : Beside) → save cfg b s .answer ≡ 0

@@ -1,6 +1,5 @@
--- In a room of at least 3 + 4n, 7 + F and 11 bytes no reply is refused with code 14: so long are
--- the replies to `19 0A`, and to `19 04` and `19 06` where the event has an entry. The frame in the reply to `19 04`
--- has F bytes.
+-- In a room of at least 3 + 4n, 7 + 2F and 11 bytes no reply is refused with code 14: so long are the replies to `19
+-- 0A`, and to `19 04` and `19 06` where the event has an entry. The frames in the reply to `19 04` have 2F bytes.
 use mathlib.Core.Path.{_≡_, refl, subst}
 use mathlib.Core.Logic.{_≢_}
 use mathlib.Core.Bool.{Bool, true}
@@ -25,8 +24,8 @@ use Rattle.manual.specs.Replies.{unknown, sharesBit, mask}
 use Rattle.manual.proofs.WordsLaws.{those-le, first-is, all-middle}
 use Rattle.manual.proofs.MemoryLaws.{Framed, frames}
 use Rattle.manual.proofs.MemoryStaysGood.{hasFailedBit}
-use Rattle.manual.proofs.StaysWellFormed.{sound}
-use Rattle.manual.proofs.RepliesLaws.{rising-length, flat-length, accepted-tells}
+use Rattle.manual.proofs.SoundStates.{sound}
+use Rattle.manual.proofs.RepliesLaws.{rising-length, flat-length, as-stored, accepted-tells}
 use Rattle.manual.proofs.NegativeRepliesExactly.{negative-exactly}
 
 module _ (cfg : Configuration) (request : List ℕ) (s : State) where
@@ -46,9 +45,9 @@ module _ (cfg : Configuration) (request : List ℕ) (s : State) where
       omega arith
 
   module _ (formed : wellFormed cfg s ≡ true) where
-    -- "the F frame bytes"
-    pub frame-has-F-bytes : (e : ℕ) (x : Entry) → HasEntry cfg request s e x → length (x .payload) ≡ entryFrames cfg
-    frame-has-F-bytes e x q =
+    -- "first, then latest", F bytes each
+    pub frames-have-2F-bytes : (e : ℕ) (x : Entry) → HasEntry cfg request s e x → length (x .payload) ≡ entryFrames cfg
+    frames-have-2F-bytes e x q =
         let f = first-is (isOf e) (entries cfg s) x q in
         let each : All (Framed (entryFrames cfg)) (entries cfg s) =
         frames (events cfg) (entryFrames cfg) (hasFailedBit cfg s) (entries cfg s)
@@ -71,7 +70,7 @@ module _ (cfg : Configuration) (request : List ℕ) (s : State) where
             arith,
             lines-most (λ e. between (pos 1) (pos 126) (counterIn cfg s e)) (counterLine cfg request s) (λ e. refl),
           )
-      holds (frame-of-entry n e h x q) = let l = frame-has-F-bytes e x q in omega arith
+      holds (frame-of-entry n e h x q) = rw (as-stored cfg x) (let l = frames-have-2F-bytes e x q in omega arith)
       holds (details-of-entry n e h x q) = omega arith
       holds (frame-without-entry n e h q) = omega arith
       holds (details-without-entry n e h q) = omega arith

@@ -19,7 +19,8 @@ use Rattle.manual.specs.OneEvent.{happens, stops, forThose}
 use Rattle.manual.specs.Counter.{readCounter}
 use Rattle.manual.specs.Missing.{readMissing}
 use Rattle.manual.specs.Calls.{fresh, reportRules, applied, debouncedBy, report, tickRules, timeRuns, tickMoves}
-use Rattle.manual.specs.Calls.{ticks, tick, ofCycle, startRules, startCycle, stopRules, stopCycle, covers, unknownCode}
+use Rattle.manual.specs.Calls.{ticks, tick, ofCycle, startRules, startCycle, stopRules, stopCycle, covers}
+use Rattle.manual.specs.Calls.{unknownCode}
 use Rattle.manual.specs.Calls.{cleared, clearRules, clearCode, readStatus, readFrame}
 use Rattle.manual.specs.Untested.{readTable, readPaint, listGrey}
 use Rattle.manual.specs.Image.{save, restore}
@@ -166,7 +167,7 @@ module _ (cfg : Configuration) where
   pub query-leaves : (q : Query) (b : Beside) (s : State) → answerTo cfg q b s .state ≡ s
   unfolding readStatus readFrame readCounter readMissing readTable readPaint listGrey save
   query-leaves (ReadStatus k) b s = judged-leaves _ b s _ refl
-  query-leaves (ReadFrame k) b s = judged-leaves _ b s _ refl
+  query-leaves (ReadFrame k which) b s = judged-leaves _ b s _ refl
   query-leaves (ReadCounter k) b s = judged-leaves _ b s _ refl
   query-leaves (ReadMissing k present) b s = judged-leaves _ b s _ refl
   query-leaves ReadTable b s = judged-leaves _ b s _ refl

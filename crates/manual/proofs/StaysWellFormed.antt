@@ -49,7 +49,7 @@ use Rattle.manual.proofs.OneEventLaws.{View, viewed, view, Acts, those-
 use Rattle.manual.proofs.OneEventLaws.{acts-memoryTold, acts-stops, acts-clears, applied-running}
 use Rattle.manual.proofs.MemoryStaysGood.{hasFailedBit, MemoryGood, made-good, bit-own, Keeps5, good-happens}
 use Rattle.manual.proofs.MemoryStaysGood.{good-D, good-told, good-stops, good-clears}
-use Rattle.manual.proofs.WellFormedLaws.{StateTells, state-tells, state-told, used-fits, zeros-behind}
+use Rattle.manual.proofs.SoundStates.{EventGood, Sound, sound, sound-formed}
 use Rattle.manual.proofs.AcceptedImages.{accepted-state}
 use Rattle.manual.proofs.SaveAfterRestore.{restored-accepts, restored-state}
 use Rattle.manual.proofs.SequencesLaws.{Does, a-report, a-tick, a-start, a-stop, a-clear}
@@ -57,105 +57,10 @@ use Rattle.manual.proofs.SequencesLaws.{a-request, a-reading, Either, c
 use Rattle.manual.proofs.FreshLaws.{fresh-sized, fresh-records}
 
 module _ (cfg : Configuration) where
-  -- event e's record and D are as "well formed" asks, on this board
-  pub record EventGood (b : Board) (e : ℕ) (v : View) : Type 0 where
-    pub kept : recordOk cfg e (opened (v .stored)) ≡ true
-    pub number : DOk cfg b e (v .number) ≡ true
-
-  -- a well-formed state in the form in which steps keep it
-  pub record Sound (s : State) : Type 0 where
-    pub memory : MemoryGood cfg s
-    pub events-good : (e : ℕ) → e < events cfg → EventGood (s .board) e (view s e)
-
-  -- ---- there and back
-
-  entry-good : (s : State) (x : Entry) → entryOk cfg s x ≡ true → Framed (entryFrames cfg) x
-      → EntryGood (events cfg) (entryFrames cfg) (hasFailedBit cfg s) x
-  entry-good s x o f =
-      record {
-        below = ltb-true _ _ (part _ o 0);
-        occurred = leb-true _ _ (part _ o 1);
-        framed = f;
-        failed = part _ o 2;
-      }
-
-  entry-told : (s : State) (x : Entry) → EntryGood (events cfg) (entryFrames cfg) (hasFailedBit cfg s) x
-      → entryOk cfg s x ≡ true
-  entry-told s x g =
-      parts _ (lt-ltb (eventOf x) (events cfg) (g .below), (le-leb 1 (x .count) (g .occurred), (g .failed, tt)))
-
-  pub sound : (s : State) → wellFormed cfg s ≡ true → Sound s
-  unfolding entriesOf
-  sound s w = record {
-    memory = record {
-      sized = record { records = t .lengths .records; debounce = t .lengths .debounce };
-      block = block-is (places cfg) (entryFrames cfg) (s .memory) fits (zeros-behind cfg s t);
-      good = record {
-        few =
-            subst (λ (j : ℕ). j ≤ places cfg)
-            (sym (entries-length (entryFrames cfg) (entryCount (s .memory)) (drop 1 (s .memory)))) (t .few);
-        each =
-            all-both (λ x. entryOk cfg s x ≡ true) (Framed (entryFrames cfg))
-            (EntryGood (events cfg) (entryFrames cfg) (hasFailedBit cfg s)) (entry-good s) (entries cfg s)
-            (all-of-test (entryOk cfg s) (entries cfg s) (t .each))
-            (entries-framed (entryFrames cfg) (entryCount (s .memory)) (drop 1 (s .memory))
-            (let l = length-drop 1 (s .memory) in let f = fits in omega arith));
-        once = t .once;
-      };
-    };
-    events-good = λ e h. record { kept = t .records e h; number = t .numbers e h };
-  }
-    where
-      t : StateTells cfg s
-      t = state-tells cfg s w
-
-      fits : bytesInUse (entryFrames cfg) (entryCount (s .memory)) ≤ length (s .memory)
-      fits = used-fits cfg s t
-
-  sound-formed : (s : State) → Sound s → wellFormed cfg s ≡ true
-  sound-formed s o =
-      state-told cfg s (record {
-        lengths =
-            record {
-              records = m .sized .records;
-              debounce = m .sized .debounce;
-              memory = ap length (m .block) ∙ memory-length (places cfg) (entryFrames cfg) xs framed (m .good .few);
-            };
-        records = λ e h. o .events-good e h .kept;
-        numbers = λ e h. o .events-good e h .number;
-        few = subst (λ (j : ℕ). j ≤ places cfg) (sym count) (m .good .few);
-        each =
-            test-of-all (EntryGood (events cfg) (entryFrames cfg) (hasFailedBit cfg s)) (entryOk cfg s) (entry-told s)
-            xs (m .good .each);
-        once = m .good .once;
-        tail =
-            subst (λ (l : List ℕ). allOf (λ b. eqb b 0) l ≡ true) (sym zeros)
-            (zeros-pass (entryWidth (entryFrames cfg) * (places cfg - length xs)));
-      })
-    where
-      m : MemoryGood cfg s
-      m = o .memory
-
-      xs : List Entry
-      xs = entries cfg s
-
-      framed : All (Framed (entryFrames cfg)) xs
-      framed = frames (events cfg) (entryFrames cfg) (hasFailedBit cfg s) xs (m .good .each)
-
-      count : entryCount (s .memory) ≡ length xs
-      count = ap entryCount (m .block) ∙ memory-count (places cfg) (entryFrames cfg) xs framed
-
-      zeros : drop (bytesInUse (entryFrames cfg) (entryCount (s .memory))) (s .memory)
-          ≡ replicate (entryWidth (entryFrames cfg) * (places cfg - length xs)) 0
-      zeros =
-          ap (λ (j : ℕ). drop (bytesInUse (entryFrames cfg) j) (s .memory)) count
-          ∙ ap (drop (bytesInUse (entryFrames cfg) (length xs))) (m .block)
-          ∙ memory-tail (places cfg) (entryFrames cfg) xs framed
-
   -- ---- a state on another board
 
-  on-board : (b : Board) (s : State) → MemoryGood cfg s → ((e : ℕ) → e < events cfg → EventGood b e (view s e))
-      → Sound (withBoard b s)
+  on-board : (b : Board) (s : State) → MemoryGood cfg s → ((e : ℕ) → e < events cfg → EventGood cfg b e (view s e))
+      → Sound cfg (withBoard b s)
   on-board b s m f =
       record {
         memory =
@@ -167,7 +72,8 @@ module _ (cfg : Configuration) where
         events-good = f;
       }
 
-  pub same-running : (b b′ : Board) → b′ .running ≡ b .running → (e : ℕ) (v : View) → EventGood b e v → EventGood b′ e v
+  pub same-running : (b b′ : Board) → b′ .running ≡ b .running → (e : ℕ) (v : View) → EventGood cfg b e v
+      → EventGood cfg b′ e v
   same-running b b′ r e v g =
       record {
         kept = g .kept;
@@ -182,8 +88,8 @@ module _ (cfg : Configuration) where
 
   -- what is done to event k alone, where it leaves the memory in order and event k good
   acts-sound : {one : ℕ → State → State} {f : ℕ → View → View} → Acts cfg one f → (k : ℕ) (s : State) → k < events cfg
-      → Sound s
-      → MemoryGood cfg (one k s) → EventGood (s .board) k (f k (view s k)) → Sound (one k s)
+      → Sound cfg s
+      → MemoryGood cfg (one k s) → EventGood cfg (s .board) k (f k (view s k)) → Sound cfg (one k s)
   acts-sound {one} acts k s h o m g = record {
     memory = m;
     events-good =
@@ -191,25 +97,26 @@ module _ (cfg : Configuration) where
         (each e l (eqb e k) refl);
   }
     where
-      each : (e : ℕ) → e < events cfg → (b : Bool) → eqb e k ≡ b → EventGood (s .board) e (view (one k s) e)
+      each : (e : ℕ) → e < events cfg → (b : Bool) → eqb e k ≡ b → EventGood cfg (s .board) e (view (one k s) e)
       each e l true q =
-          subst (λ (j : ℕ). EventGood (s .board) j (view (one k s) j)) (sym (eqb-true e k q))
-          (subst (EventGood (s .board) k) (sym (acts .own k s (o .memory .sized) h)) g)
-      each e l false q = subst (EventGood (s .board) e) (sym (acts .other k e s (eqb-false e k q))) (o .events-good e l)
+          subst (λ (j : ℕ). EventGood cfg (s .board) j (view (one k s) j)) (sym (eqb-true e k q))
+          (subst (EventGood cfg (s .board) k) (sym (acts .own k s (o .memory .sized) h)) g)
+      each e l false q = subst (EventGood cfg (s .board) e) (sym (acts .other k e s (eqb-false e k q)))
+          (o .events-good e l)
 
   -- u is sound, and the same cycles run as in s
   pub record Going (s u : State) : Type 0 where
-    pub sound : Sound u
+    pub sound : Sound cfg u
     pub running : u .board .running ≡ s .board .running
 
   -- one part of a call, for the events that pass a test: a state on its way from s stays sound, and no cycle starts or
   -- stops
   pub record Keeps (p : ℕ → Bool) (one : ℕ → State → State) (s : State) : Type 0 where
-    pub sound : (k : ℕ) (u : State) → k < events cfg → p k ≡ true → u .board .running ≡ s .board .running → Sound u
-        → Sound (one k u)
+    pub sound : (k : ℕ) (u : State) → k < events cfg → p k ≡ true → u .board .running ≡ s .board .running → Sound cfg u
+        → Sound cfg (one k u)
     pub running : (k : ℕ) (u : State) → one k u .board .running ≡ u .board .running
 
-  module _ {p : ℕ → Bool} {one : ℕ → State → State} {s : State} (keeps : Keeps p one s) (o : Sound s) where
+  module _ {p : ℕ → Bool} {one : ℕ → State → State} {s : State} (keeps : Keeps p one s) (o : Sound cfg s) where
     pub below-going : (n : ℕ) → n ≤ events cfg → Going s (forBelow n (λ e u. cond (p e) (one e u) u) s)
     below-going n h =
         for-below-keeps (Going s) (λ e u. cond (p e) (one e u) u) (events cfg) n h
@@ -237,69 +144,69 @@ module _ (cfg : Configuration) where
 
     -- the record takes a token, and D is 0
     reset-good : (k : Token) (b : Board) (e : ℕ) → e < events cfg → (v : View)
-        → recordOk cfg e (opened (v .stored)) ≡ true → EventGood b e (viewed (tokenView cfg k e v .stored) (pos 0))
+        → recordOk cfg e (opened (v .stored)) ≡ true → EventGood cfg b e (viewed (tokenView cfg k e v .stored) (pos 0))
     reset-good k b e h v o = record { kept = record-kept k e h (v .stored) o; number = zero-good b e h }
 
     -- ---- one part of a call: what it does to one event of a sound state leaves a sound state
 
-    happens-sound : (k : Token) → Keeps5 cfg k → (e : ℕ) (s : State) → e < events cfg → Sound s
-        → Sound (happens cfg k e s)
+    happens-sound : (k : Token) → Keeps5 cfg k → (e : ℕ) (s : State) → e < events cfg → Sound cfg s
+        → Sound cfg (happens cfg k e s)
     happens-sound k keep e s h o =
         let g = o .events-good e h in
         acts-sound (acts-happens cfg k) e s h o (good-happens cfg k keep e s h (o .memory))
         (record { kept = record-kept k e h (storedAt e (s .records)) (g .kept); number = g .number })
 
-    number-sound : (e : ℕ) (d : ℤ) (s : State) → e < events cfg → DOk cfg (s .board) e d ≡ true → Sound s
-        → Sound (withD e d s)
+    number-sound : (e : ℕ) (d : ℤ) (s : State) → e < events cfg → DOk cfg (s .board) e d ≡ true → Sound cfg s
+        → Sound cfg (withD e d s)
     number-sound e d s h ok o =
         acts-sound (acts-D cfg d) e s h o (good-D cfg e d s (o .memory))
         (record { kept = o .events-good e h .kept; number = ok })
 
-    pub starts-sound : (e : ℕ) (s : State) → e < events cfg → Sound s → Sound (happens cfg start e s)
+    pub starts-sound : (e : ℕ) (s : State) → e < events cfg → Sound cfg s → Sound cfg (happens cfg start e s)
     starts-sound = happens-sound start (λ n r q. q)
 
-    pub stops-sound : (e : ℕ) (s : State) → e < events cfg → Sound s → Sound (stops cfg e s)
+    pub stops-sound : (e : ℕ) (s : State) → e < events cfg → Sound cfg s → Sound cfg (stops cfg e s)
     stops-sound e s h o =
         acts-sound (acts-stops cfg) e s h o (good-stops cfg e s h (o .memory))
         (reset-good stop (s .board) e h (view s e) (o .events-good e h .kept))
 
-    pub clears-sound : (e : ℕ) (s : State) → e < events cfg → Sound s → Sound (clears cfg e s)
+    pub clears-sound : (e : ℕ) (s : State) → e < events cfg → Sound cfg s → Sound cfg (clears cfg e s)
     clears-sound e s h o =
         acts-sound (acts-clears cfg) e s h o (good-clears cfg e s h (o .memory))
         (reset-good clear (s .board) e h (view s e) (o .events-good e h .kept))
 
     module _ (frame : List ℕ) (framed : length frame ≡ frameBytes cfg) (e : ℕ) (h : e < events cfg) where
-      told-sound : (s : State) → hasFailedBit cfg s e ≡ true → Sound s → Sound (memoryTold cfg frame e s)
+      told-sound : (s : State) → hasFailedBit cfg s e ≡ true → Sound cfg s → Sound cfg (memoryTold cfg frame e s)
       told-sound s five o =
           acts-sound (acts-memoryTold cfg frame) e s h o (good-told cfg frame e s framed h five (o .memory))
           (o .events-good e h)
 
-      fails-sound : (s : State) → Sound s → Sound (fails cfg frame e s)
+      fails-sound : (s : State) → Sound cfg s → Sound cfg (fails cfg frame e s)
       unfolding fails
       fails-sound s o =
           let o′ = happens-sound failed (λ n r q. refl) e s h o in
-          by (freshFailure (recordOf s e)) Sound
+          by (freshFailure (recordOf s e)) (Sound cfg)
           (λ q. told-sound (happens cfg failed e s) (bit-own cfg failed e s (o .memory .sized) h) o′) (λ q. o′)
 
-      qualifies-sound : (w : Verdict) (s : State) → Sound s → Sound (qualifies cfg frame e w s)
+      qualifies-sound : (w : Verdict) (s : State) → Sound cfg s → Sound cfg (qualifies cfg frame e w s)
       qualifies-sound None s o = o
       qualifies-sound Passed s o = happens-sound passed (λ n r q. q) e s h o
       qualifies-sound Failed s o = fails-sound s o
 
-      applied-sound : (d : Debounced) (s : State) → DOk cfg (s .board) e (d .number) ≡ true → Sound s
-          → Sound (applied cfg frame e d s)
+      applied-sound : (d : Debounced) (s : State) → DOk cfg (s .board) e (d .number) ≡ true → Sound cfg s
+          → Sound cfg (applied cfg frame e d s)
       unfolding applied
       applied-sound d s ok o =
           qualifies-sound (d .verdict) (withD e (d .number) s) (number-sound e (d .number) s h ok o)
 
-      pub reports-sound : (code : ℕ) (s : State) → cycleRuns cfg (s .board) e ≡ true → Sound s
-          → Sound (applied cfg frame e (reported cfg e code (D s e)) s)
+      pub reports-sound : (code : ℕ) (s : State) → cycleRuns cfg (s .board) e ≡ true → Sound cfg s
+          → Sound cfg (applied cfg frame e (reported cfg e code (D s e)) s)
       reports-sound code s on o =
           applied-sound (reported cfg e code (D s e)) s
           (report-ok cfg (s .board) e (t .row e h .range) on code (D s e) (o .events-good e h .number)) o
 
-      pub ticks-sound : (ms : ℕ) (s : State) → timeRuns cfg (s .board) e ≡ true → Sound s
-          → Sound (ticks cfg ms frame e s)
+      pub ticks-sound : (ms : ℕ) (s : State) → timeRuns cfg (s .board) e ≡ true → Sound cfg s
+          → Sound cfg (ticks cfg ms frame e s)
       ticks-sound ms s on o =
           let time = and-left (isTime cfg e) (cycleRuns cfg (s .board) e) on in
           let runs = and-right (isTime cfg e) (cycleRuns cfg (s .board) e) on in
@@ -308,9 +215,9 @@ module _ (cfg : Configuration) where
 
     -- ---- report
 
-    report-sound : (k code : ℕ) (frame : List ℕ) (present : ℕ) (s : State) → Sound s
+    report-sound : (k code : ℕ) (frame : List ℕ) (present : ℕ) (s : State) → Sound cfg s
         → firstThatApplies (reportRules cfg k code frame present s) ≡ 0
-        → Sound (applied cfg frame k (reported cfg k code (D s k)) s)
+        → Sound cfg (applied cfg frame k (reported cfg k code (D s k)) s)
     unfolding reportRules
     report-sound k code frame present s o z =
         reports-sound frame (eqb-true _ _ (not-false _ (none-applies _ z refl 5))) k
@@ -328,8 +235,9 @@ module _ (cfg : Configuration) where
       running = λ k u. applied-running cfg frame k _ u;
     }
 
-    tick-sound : (ms : ℕ) (frame : List ℕ) (present : ℕ) (s : State) → Sound s → firstThatApplies (tickRules cfg ms frame s) ≡ 0
-        → Sound (forThose cfg (tickMoves cfg present (s .board)) (ticks cfg ms frame) s)
+    tick-sound : (ms : ℕ) (frame : List ℕ) (present : ℕ) (s : State) → Sound cfg s → firstThatApplies
+        (tickRules cfg ms frame s) ≡ 0
+        → Sound cfg (forThose cfg (tickMoves cfg present (s .board)) (ticks cfg ms frame) s)
     unfolding tickRules
     tick-sound ms frame present s o z =
         those-going (ticks-keep ms frame present (eqb-true _ _ (not-false _ (none-applies _ z refl 3))) s) o .sound
@@ -341,7 +249,7 @@ module _ (cfg : Configuration) where
     turned c b s = record { running = set (s .board .running) c b; overflow = s .board .overflow }
 
     other-cycle : (c : ℕ) (b : Bool) (s : State) (e : ℕ) → ofCycle cfg c e ≡ false → (v : View)
-        → EventGood (s .board) e v → EventGood (turned c b s) e v
+        → EventGood cfg (s .board) e v → EventGood cfg (turned c b s) e v
     other-cycle c b s e q v g = record {
       kept = g .kept;
       number =
@@ -351,11 +259,11 @@ module _ (cfg : Configuration) where
     }
 
     -- cycle c turned, where its events have D 0, which is right on every board
-    turned-sound : (c : ℕ) (b : Bool) (s : State) → Sound s
-        → ((e : ℕ) → e < events cfg → ofCycle cfg c e ≡ true → D s e ≡ pos 0) → Sound (withCycle c b s)
+    turned-sound : (c : ℕ) (b : Bool) (s : State) → Sound cfg s
+        → ((e : ℕ) → e < events cfg → ofCycle cfg c e ≡ true → D s e ≡ pos 0) → Sound cfg (withCycle c b s)
     turned-sound c b s o zero = on-board (turned c b s) s (o .memory) (λ e h. each e h (ofCycle cfg c e) refl)
       where
-        each : (e : ℕ) → e < events cfg → (r : Bool) → ofCycle cfg c e ≡ r → EventGood (turned c b s) e (view s e)
+        each : (e : ℕ) → e < events cfg → (r : Bool) → ofCycle cfg c e ≡ r → EventGood cfg (turned c b s) e (view s e)
         each e h true q =
             record {
               kept = o .events-good e h .kept;
@@ -368,8 +276,8 @@ module _ (cfg : Configuration) where
     starts-keep c s =
         record { sound = λ k u h q r. starts-sound k u h; running = λ k u. acts-happens cfg start .running k u }
 
-    start-sound : (c : ℕ) (s : State) → Sound s → firstThatApplies (startRules cfg c s) ≡ 0
-        → Sound (withCycle c true (forThose cfg (ofCycle cfg c) (happens cfg start) s))
+    start-sound : (c : ℕ) (s : State) → Sound cfg s → firstThatApplies (startRules cfg c s) ≡ 0
+        → Sound cfg (withCycle c true (forThose cfg (ofCycle cfg c) (happens cfg start) s))
     unfolding startRules
     start-sound c s o z =
         turned-sound c true s′ (g .sound)
@@ -389,7 +297,8 @@ module _ (cfg : Configuration) where
     pub stops-keep : (c : ℕ) (s : State) → Keeps (ofCycle cfg c) (stops cfg) s
     stops-keep c s = record { sound = λ k u h q r. stops-sound k u h; running = λ k u. acts-stops cfg .running k u }
 
-    stop-sound : (c : ℕ) (s : State) → Sound s → Sound (withCycle c false (forThose cfg (ofCycle cfg c) (stops cfg) s))
+    stop-sound : (c : ℕ) (s : State) → Sound cfg s → Sound cfg (withCycle c false (forThose cfg (ofCycle cfg c)
+        (stops cfg) s))
     stop-sound c s o =
         turned-sound c false _ (those-going (stops-keep c s) o .sound)
         (λ e h q. ap (λ (v : View). v .number) (those-own (acts-stops cfg) (ofCycle cfg c) s (o .memory .sized) e h)
@@ -401,7 +310,7 @@ module _ (cfg : Configuration) where
     clears-keep code s =
         record { sound = λ k u h q r. clears-sound k u h; running = λ k u. acts-clears cfg .running k u }
 
-    cleared-sound : (code : ℕ) (s : State) → Sound s → Sound (cleared cfg code s)
+    cleared-sound : (code : ℕ) (s : State) → Sound cfg s → Sound cfg (cleared cfg code s)
     unfolding cleared
     cleared-sound code s o =
         let o′ = those-going (clears-keep code s) o .sound in on-board _ _ (o′ .memory)
@@ -409,7 +318,7 @@ module _ (cfg : Configuration) where
 
     -- ---- fresh
 
-    fresh-sound : Sound (freshState cfg)
+    fresh-sound : Sound cfg (freshState cfg)
     unfolding freshState memoryOf entriesBytes noTwice
     fresh-sound = record {
       memory =
@@ -444,7 +353,7 @@ module _ (cfg : Configuration) where
   judged-config applies rules z n =
       config-tells cfg (not-false _ (none-applies ((2 if not (configOk cfg)) ∷ (3 if applies) ∷ rules) z n 0))
 
-  does-sound : (c : Call) (s t : State) → Does cfg s c t → Sound s → Sound t
+  does-sound : (c : Call) (s t : State) → Does cfg s c t → Sound cfg s → Sound cfg t
   unfolding reportRules tickRules startRules stopRules clearRules
   does-sound _ s _ (a-report k code frame present z) o =
       report-sound (judged-config _ _ z refl) k code frame present s o z
@@ -455,32 +364,33 @@ module _ (cfg : Configuration) where
   does-sound _ s _ (a-request bytes a z) o = cleared-sound (judged-config _ _ z refl) (threeAt 1 bytes) s o
   does-sound _ s _ (a-reading c r) o = o
 
-  fresh-begun : (b : Beside) (s : State) → fresh cfg b s .answer ≡ 0 → Sound (fresh cfg b s .state)
+  fresh-begun : (b : Beside) (s : State) → fresh cfg b s .answer ≡ 0 → Sound cfg (fresh cfg b s .state)
   unfolding fresh freshRules
   fresh-begun b s z =
       let a = accepted _ b s _ z in
-      subst (λ (o : Outcome). Sound (o .state)) (sym (a .1)) (fresh-sound (judged-config _ _ (a .0) refl))
+      subst (λ (o : Outcome). Sound cfg (o .state)) (sym (a .1)) (fresh-sound (judged-config _ _ (a .0) refl))
 
   restore-begun : (image : List ℕ) (b : Beside) (s : State) → restore cfg image b s .answer ≡ 0
-      → Sound (restore cfg image b s .state)
+      → Sound cfg (restore cfg image b s .state)
   restore-begun image b s z =
-      sound (restore cfg image b s .state)
+      sound cfg (restore cfg image b s .state)
       (subst (λ (r : State). wellFormed cfg r ≡ true) (sym (restored-state cfg image b s z))
       (accepted-state cfg image (restored-accepts cfg image b s z) .formed))
 
   -- ---- every call
 
   -- a fresh or a restore that was accepted begins anew; any other call goes on
-  call-sound : (c : Call) (b : Beside) (s : State) → Sound s → (t : Bool) → goesOn cfg c b s ≡ t
-      → Sound (outcome cfg c b s .state)
+  call-sound : (c : Call) (b : Beside) (s : State) → Sound cfg s → (t : Bool) → goesOn cfg c b s ≡ t
+      → Sound cfg (outcome cfg c b s .state)
   call-sound c b s o true g = go (call-does cfg c b s g)
     where
-      go : Either (Does cfg s c) s (outcome cfg c b s) → Sound (outcome cfg c b s .state)
-      go (inl (n, p)) = subst Sound (sym p) o
+      go : Either (Does cfg s c) s (outcome cfg c b s) → Sound cfg (outcome cfg c b s .state)
+      go (inl (n, p)) = subst (Sound cfg) (sym p) o
       go (inr (z, d)) = does-sound c s _ d o
   call-sound c b s o false g = begun c (not-false (beginsAnew c && eqb (outcome cfg c b s .answer) 0) g)
     where
-      begun : (c : Call) → beginsAnew c && eqb (outcome cfg c b s .answer) 0 ≡ true → Sound (outcome cfg c b s .state)
+      begun : (c : Call) → beginsAnew c && eqb (outcome cfg c b s .answer) 0 ≡ true → Sound cfg
+          (outcome cfg c b s .state)
       begun Fresh e = fresh-begun b s (eqb-true _ 0 e)
       begun (Report k code frame present) e = clash true refl (sym e)
       begun (Tick ms frame present) e = clash true refl (sym e)
@@ -494,13 +404,13 @@ module _ (cfg : Configuration) where
   pub stays-well-formed : (c : Call) (b : Beside) (s : State) → wellFormed cfg s ≡ true
       → wellFormed cfg (outcome cfg c b s .state) ≡ true
   stays-well-formed c b s w =
-      sound-formed (outcome cfg c b s .state) (call-sound c b s (sound s w) (goesOn cfg c b s) refl)
+      sound-formed cfg (outcome cfg c b s .state) (call-sound c b s (sound cfg s w) (goesOn cfg c b s) refl)
 
   -- from any blocks, well formed or not
   pub fresh-makes-well-formed : (b : Beside) (s : State) → fresh cfg b s .answer ≡ 0
       → wellFormed cfg (fresh cfg b s .state) ≡ true
-  fresh-makes-well-formed b s z = sound-formed (fresh cfg b s .state) (fresh-begun b s z)
+  fresh-makes-well-formed b s z = sound-formed cfg (fresh cfg b s .state) (fresh-begun b s z)
 
   pub restore-makes-well-formed : (image : List ℕ) (b : Beside) (s : State) → restore cfg image b s .answer ≡ 0
       → wellFormed cfg (restore cfg image b s .state) ≡ true
-  restore-makes-well-formed image b s z = sound-formed (restore cfg image b s .state) (restore-begun image b s z)
+  restore-makes-well-formed image b s z = sound-formed cfg (restore cfg image b s .state) (restore-begun image b s z)

@@ -4,19 +4,20 @@
 use mathlib.Core.Path.{_≡_}
 use mathlib.Core.Logic.{_≢_, _⊎_, _↔_}
 use mathlib.Core.Bool.{Bool, true, false}
-use mathlib.Core.List.{List, [], _++_, List·Memᴰ}
+use mathlib.Core.List.{List, [], _++_, map, List·Memᴰ}
 use Prim.Native.Nat.{ℕ, _*_, _≤_, _<_}
 use lib.ListN.{length, getD}
 use Rattle.history.specs.StatusByte.{Bit, statusOf}
 use Rattle.history.specs.History.{reading}
-use Rattle.manual.specs.Configuration.{Configuration, events, limitsOf}
+use Rattle.manual.specs.Configuration.{Configuration, events, frameBytes, limitsOf}
 use Rattle.manual.specs.State.{State, recordWidth}
-use Rattle.manual.specs.WellFormed.{lengthsFit, entries, wellFormed}
+use Rattle.manual.specs.WellFormed.{lengthsFit, entriesWith, entries, wellFormedWith, wellFormed}
 use Rattle.manual.specs.Memory.{Entry, noTwice, store}
 use Rattle.manual.specs.Conditions.{enabled}
 use Rattle.manual.specs.Displacement.{Ruled}
 use Rattle.manual.specs.Answers.{Beside, Outcome, Given, refused, done}
-use Rattle.manual.specs.Image.{imageOf, acceptable, Still, save, saved, restore}
+use Rattle.manual.specs.Image.{edition1, edition2, imageOf, stateIn, widened, acceptableIn, acceptable, save}
+use Rattle.manual.specs.Image.{saved, restore, withBoth}
 use Rattle.manual.specs.Diagnostics.{requestReply}
 use Rattle.manual.specs.Replies.{Replies}
 use Rattle.manual.specs.Sequences.{Query, Call, Report, Tick, answerTo, outcome, rulesOf}
@@ -31,6 +32,7 @@ use Rattle.manual.proofs.OnlyTheNamedEntryLeaves as OnlyTheNamedEntryLe
 use Rattle.manual.proofs.OnlyTheNamedEntryLeavesInEveryCall as OnlyTheNamedEntryLeavesInEveryCall
 use Rattle.manual.proofs.RepliesFollowTheSentences as RepliesFollowTheSentences
 use Rattle.manual.proofs.AcceptedImages as AcceptedImages
+use Rattle.manual.proofs.WidenedLaws as WidenedLaws
 use Rattle.manual.proofs.RestoreAfterSave as RestoreAfterSave
 use Rattle.manual.proofs.SaveAfterRestore as SaveAfterRestore
 use Rattle.manual.proofs.WellFormedInEverySequence as WellFormedInEverySequence
@@ -77,16 +79,48 @@ module _ (cfg : Configuration) where
       → (requestReply cfg request b s ≡ o) ↔ Replies cfg request s b o
   replies-exactly = RepliesFollowTheSentences.reply-exactly cfg
 
-  -- "saved image": restore accepts exactly the images of well-formed states with all cycles stopped
+  -- "saved image": restore accepts exactly the images of well-formed states with all cycles stopped; document 02, W6:
+  -- in edition 2, whose entries have two frames, and in edition 1, whose entries have one
   pub images-exactly : (image : List ℕ)
-      → (acceptable cfg image ≡ true) ↔ ((s : State) × Still cfg s × (imageOf cfg s ≡ image))
+      →
+      (acceptable cfg image ≡ true)
+      ↔ (AcceptedImages.IsImage cfg (edition2 cfg) image ⊎ AcceptedImages.IsImage cfg (edition1 cfg) image)
   images-exactly = AcceptedImages.accepted-exactly cfg
 
-  -- "An accepted image restored and saved again gives the same bytes", in any room that holds them
+  -- "An accepted image restored and saved again gives the same bytes", in any room that holds them; W6: "now reads for
+  -- edition 2 images only"
   pub restored-and-saved : (image : List ℕ) (b : Beside) (s : State) → restore cfg image b s .answer ≡ 0
+      → acceptableIn cfg (edition2 cfg) image ≡ true
       → (b′ : Beside) → length image ≤ length (b′ .room)
       → save cfg b′ (restore cfg image b s .state) ≡ saved cfg image b′ (restore cfg image b s .state)
   restored-and-saved = SaveAfterRestore.save-after-restore cfg
+
+  -- "an edition 1 image is accepted too, its one frame becoming both": the state that it makes is the one that it
+  -- tells, with these entries
+  pub edition-1-makes : (image : List ℕ) (b : Beside) (s : State) → restore cfg image b s .answer ≡ 0
+      → acceptableIn cfg (edition1 cfg) image ≡ true
+      → restore cfg image b s .state ≡ widened cfg (stateIn cfg (edition1 cfg) image)
+  edition-1-makes = SaveAfterRestore.widened-by-restore cfg
+
+  pub both-frames : (s : State) → wellFormedWith cfg (frameBytes cfg) s ≡ true
+      → entries cfg (widened cfg s) ≡ map withBoth (entriesWith cfg (frameBytes cfg) s)
+  both-frames = WidenedLaws.widened-entries cfg
+
+  -- "Saving always writes edition 2": what was restored, from either edition, and is saved into a room that holds its
+  -- image, is written as that image
+  pub restored-and-saved-anew : (image : List ℕ) (b : Beside) (s : State) → restore cfg image b s .answer ≡ 0
+      → (b′ : Beside) → length (imageOf cfg (restore cfg image b s .state)) ≤ length (b′ .room)
+      → save cfg b′ (restore cfg image b s .state)
+      ≡ saved cfg (imageOf cfg (restore cfg image b s .state)) b′ (restore cfg image b s .state)
+  restored-and-saved-anew = SaveAfterRestore.saved-after-restore cfg
+
+  -- and that image restored is the same state
+  pub saved-anew-and-restored : (image : List ℕ) (b : Beside) (s : State) → restore cfg image b s .answer ≡ 0
+      → (b′ : Beside) → save cfg b′ (restore cfg image b s .state) .answer ≡ 0
+      → (b″ : Beside) (s″ : State) → lengthsFit cfg s″ ≡ true
+      → restore cfg (savedImage (save cfg b′ (restore cfg image b s .state))) b″ s″
+      ≡ done b″ (restore cfg image b s .state)
+  saved-anew-and-restored = SaveAfterRestore.saved-again-restored cfg
 
   -- "a saved state restored is the same state", into any blocks of fitting lengths; that a board has four cycles is a
   -- fact of its type in code

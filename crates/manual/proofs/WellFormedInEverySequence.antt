@@ -51,7 +51,7 @@ module _ (cfg : Configuration) where
   unfolding readStatusRules readFrameRules readCounterRules readMissingRules readTableRules readPaintRules listGreyRules
       saveRules
   query-not-2-or-3 (ReadStatus e) b s k w = past-both _ _ _ k w refl refl
-  query-not-2-or-3 (ReadFrame e) b s k w = past-both _ _ _ k w refl refl
+  query-not-2-or-3 (ReadFrame e which) b s k w = past-both _ _ _ k w refl refl
   query-not-2-or-3 (ReadCounter e) b s k w = past-both _ _ _ k w refl refl
   query-not-2-or-3 (ReadMissing e present) b s k w = past-both _ _ _ k w refl refl
   query-not-2-or-3 ReadTable b s k w = past-both _ _ _ k w refl refl

@@ -14,18 +14,36 @@ use Rattle.manual.specs.Words.{allBelow}
 use Rattle.manual.specs.Configuration.{Configuration, events, places, entryFrames}
 use Rattle.manual.specs.State.{State, recordWidth, recordOf, D}
 use Rattle.manual.specs.Memory.{entryWidth, memoryLength, entryCount, bytesInUse, noTwice}
-use Rattle.manual.specs.WellFormed.{lengthsFit, recordOk, DOk, eventOk, entries}
-use Rattle.manual.specs.WellFormed.{entryOk, zeroTail, memoryOk, wellFormed}
+use Rattle.manual.specs.WellFormed.{recordOk, DOk, eventOk, entryOk, lengthsFitWith, entriesWith}
+use Rattle.manual.specs.WellFormed.{zeroTailWith, memoryOkWith, wellFormedWith, lengthsFit, wellFormed}
 use Rattle.manual.proofs.WordsLaws.{all-below-at, all-below, zeros-are}
 
-module _ (cfg : Configuration) (s : State) where
-  pub record LengthsTell : Type 0 where
+-- payloads of W bytes
+module _ (cfg : Configuration) (W : ℕ) (s : State) where
+  pub record LengthsTellWith : Type 0 where
     pub records : length (s .records) ≡ recordWidth * events cfg
     pub debounce : length (s .debounce) ≡ events cfg
-    pub memory : length (s .memory) ≡ memoryLength (places cfg) (entryFrames cfg)
+    pub memory : length (s .memory) ≡ memoryLength (places cfg) W
 
-  pub lengths-tell : lengthsFit cfg s ≡ true → LengthsTell
-  unfolding lengthsFit
+  pub record StateTellsWith : Type 0 where
+    pub lengths : LengthsTellWith
+    pub records : (e : ℕ) → e < events cfg → recordOk cfg e (recordOf s e) ≡ true
+    pub numbers : (e : ℕ) → e < events cfg → DOk cfg (s .board) e (D s e) ≡ true
+    pub few : entryCount (s .memory) ≤ places cfg
+    pub each : allOf (entryOk cfg s) (entriesWith cfg W s) ≡ true
+    pub once : noTwice (entriesWith cfg W s) ≡ true
+    pub tail : zeroTailWith cfg W s ≡ true
+
+-- of a state as the calls take it
+abbrev pub LengthsTell : Configuration → State → Type 0
+LengthsTell cfg s = LengthsTellWith cfg (entryFrames cfg) s
+
+abbrev pub StateTells : Configuration → State → Type 0
+StateTells cfg s = StateTellsWith cfg (entryFrames cfg) s
+
+module _ (cfg : Configuration) {W : ℕ} (s : State) where
+  pub lengths-tell : lengthsFitWith cfg W s ≡ true → LengthsTellWith cfg W s
+  unfolding lengthsFitWith
   lengths-tell l =
       record {
         records = eqb-true _ _ (part _ l 0);
@@ -34,31 +52,22 @@ module _ (cfg : Configuration) (s : State) where
             (part _ l 2);
       }
 
-  pub lengths-told : LengthsTell → lengthsFit cfg s ≡ true
-  unfolding lengthsFit
+  pub lengths-told : LengthsTellWith cfg W s → lengthsFitWith cfg W s ≡ true
+  unfolding lengthsFitWith
   lengths-told t =
       parts _ (
         eq-eqb (length (s .records)) (recordWidth * events cfg) (t .records),
         (
           eq-eqb (length (s .debounce)) (events cfg) (t .debounce),
-          (eq-eqb (length (s .memory)) (memoryLength (places cfg) (entryFrames cfg)) (t .memory), tt),
+          (eq-eqb (length (s .memory)) (memoryLength (places cfg) W) (t .memory), tt),
         ),
       )
 
-  pub record StateTells : Type 0 where
-    pub lengths : LengthsTell
-    pub records : (e : ℕ) → e < events cfg → recordOk cfg e (recordOf s e) ≡ true
-    pub numbers : (e : ℕ) → e < events cfg → DOk cfg (s .board) e (D s e) ≡ true
-    pub few : entryCount (s .memory) ≤ places cfg
-    pub each : allOf (entryOk cfg s) (entries cfg s) ≡ true
-    pub once : noTwice (entries cfg s) ≡ true
-    pub tail : zeroTail cfg s ≡ true
-
-  pub state-tells : wellFormed cfg s ≡ true → StateTells
-  unfolding wellFormed memoryOk
+  pub state-tells : wellFormedWith cfg W s ≡ true → StateTellsWith cfg W s
+  unfolding wellFormedWith memoryOkWith
   state-tells w =
       let events-ok : allBelow (events cfg) (eventOk cfg s) ≡ true = part _ w 1 in
-      let memory-ok : memoryOk cfg s ≡ true = part _ w 2 in
+      let memory-ok : memoryOkWith cfg W s ≡ true = part _ w 2 in
       record {
         lengths = lengths-tell (part _ w 0);
         records =
@@ -73,8 +82,8 @@ module _ (cfg : Configuration) (s : State) where
         tail = part _ memory-ok 3;
       }
 
-  pub state-told : StateTells → wellFormed cfg s ≡ true
-  unfolding wellFormed memoryOk
+  pub state-told : StateTellsWith cfg W s → wellFormedWith cfg W s ≡ true
+  unfolding wellFormedWith memoryOkWith
   state-told t =
       parts _ (
         lengths-told (t .lengths),
@@ -86,22 +95,18 @@ module _ (cfg : Configuration) (s : State) where
         ),
       )
 
-  pub well-formed-lengths : wellFormed cfg s ≡ true → lengthsFit cfg s ≡ true
-  unfolding wellFormed
-  well-formed-lengths w = part _ w 0
-
   -- ---- the bytes in use, and the zeros behind them
 
-  module _ (t : StateTells) where
+  module _ (t : StateTellsWith cfg W s) where
     abbrev used : ℕ
-    used = bytesInUse (entryFrames cfg) (entryCount (s .memory))
+    used = bytesInUse W (entryCount (s .memory))
 
     pub used-fits : used ≤ length (s .memory)
     used-fits =
-        let most : entryWidth (entryFrames cfg) * entryCount (s .memory) ≤ places cfg * entryWidth (entryFrames cfg) =
-        subst (λ (j : ℕ). entryWidth (entryFrames cfg) * entryCount (s .memory) ≤ j)
-        (mul-comm (entryWidth (entryFrames cfg)) (places cfg))
-        (mul-le-mul-left (entryWidth (entryFrames cfg)) (t .few)) in
+        let most : entryWidth W * entryCount (s .memory) ≤ places cfg * entryWidth W =
+        subst (λ (j : ℕ). entryWidth W * entryCount (s .memory) ≤ j)
+        (mul-comm (entryWidth W) (places cfg))
+        (mul-le-mul-left (entryWidth W) (t .few)) in
         let l = t .lengths .memory in
         omega arith
 
@@ -109,20 +114,24 @@ module _ (cfg : Configuration) (s : State) where
     used-length = length-take-le used (s .memory) used-fits
 
     pub zeros-behind : drop used (s .memory)
-        ≡ replicate (entryWidth (entryFrames cfg) * (places cfg - entryCount (s .memory))) 0
+        ≡ replicate (entryWidth W * (places cfg - entryCount (s .memory))) 0
     zeros-behind =
         zeros-are (drop used (s .memory)) (t .tail)
         ∙ ap (λ (j : ℕ). replicate j 0)
         (length-drop used (s .memory)
         ∙
         (let l = t .lengths .memory in let e : length (s .memory) - used
-        ≡ places cfg * entryWidth (entryFrames cfg) - entryWidth (entryFrames cfg) * entryCount (s .memory) = omega
+        ≡ places cfg * entryWidth W - entryWidth W * entryCount (s .memory) = omega
         arith in e)
-        ∙ ap (λ (j : ℕ). j - entryWidth (entryFrames cfg) * entryCount (s .memory))
-        (mul-comm (places cfg) (entryWidth (entryFrames cfg)))
-        ∙ sym (mul-sub (entryWidth (entryFrames cfg)) (places cfg) (entryCount (s .memory))))
+        ∙ ap (λ (j : ℕ). j - entryWidth W * entryCount (s .memory))
+        (mul-comm (places cfg) (entryWidth W))
+        ∙ sym (mul-sub (entryWidth W) (places cfg) (entryCount (s .memory))))
 
     pub memory-split : s .memory
-        ≡ take used (s .memory) ++ replicate (entryWidth (entryFrames cfg) * (places cfg - entryCount (s .memory))) 0
+        ≡ take used (s .memory) ++ replicate (entryWidth W * (places cfg - entryCount (s .memory))) 0
     memory-split =
         sym (take-append-drop used (s .memory)) ∙ ap (λ (l : List ℕ). take used (s .memory) ++ l) zeros-behind
+
+pub well-formed-lengths : (cfg : Configuration) (s : State) → wellFormed cfg s ≡ true → lengthsFit cfg s ≡ true
+unfolding wellFormedWith
+well-formed-lengths cfg s w = part _ w 0

@@ -13,6 +13,8 @@ use Rattle.history.specs.History.{start}
 use Rattle.manual.specs.declared.Board.{Board}
 use Rattle.manual.specs.declared.Verdict.the-variants.{None}
 use Rattle.manual.specs.declared.StoreAnswer.{StoreAnswer}
+use Rattle.manual.specs.declared.Which.{Which}
+use Rattle.manual.specs.declared.Which.the-variants.{First, Latest}
 use Rattle.manual.specs.Words.{allBelow}
 use Rattle.manual.specs.Configuration.{Configuration, events, places, frameBytes, entryFrames}
 use Rattle.manual.specs.Configuration.{codeOf, cycleOf, isInternal, isTime, configOk}
@@ -22,7 +24,7 @@ use Rattle.manual.specs.Answers.{Beside, Outcome, done, Rule, _if_, judg
 use Rattle.manual.specs.Debouncing.{Debounced, reported, ticked}
 use Rattle.manual.specs.Conditions.{enabled}
 use Rattle.manual.specs.OneEvent.{happens, qualifies, qualifiesDid, stops, clears, forThose}
-use Rattle.manual.specs.Memory.{Entry, memoryLength, isOf, entryFor}
+use Rattle.manual.specs.Memory.{Entry, firstFrame, latestFrame, memoryLength, isOf, entryFor}
 
 -- the bytes of n fresh records
 unfoldable pub freshRecords : ℕ → List ℕ
@@ -34,9 +36,14 @@ freshRecords (suc n) =
 abbrev pub forAll : ℕ → Bool
 forAll code = eqb code 0xFFFFFF
 
-abbrev pub frameOf : Option Entry → List ℕ
-frameOf (some x) = x .payload
-frameOf none = []
+-- document 02, W6: "Reading a frame takes a choice of which, and hands back that part of the block."
+abbrev pub chosen : Which → ℕ → List ℕ → List ℕ
+chosen First F payload = firstFrame F payload
+chosen Latest F payload = latestFrame F payload
+
+abbrev pub frameOf : Which → ℕ → Option Entry → List ℕ
+frameOf which F (some x) = chosen which F (x .payload)
+frameOf which F none = []
 
 module _ (cfg : Configuration) where
   -- "Every call begins 2, 3."; "a block has the wrong length": `fits` says whether what is lent beside the state has
@@ -203,14 +210,14 @@ module _ (cfg : Configuration) where
   readFrameRules e s = begins s true ((4 if noSuchEvent e) ∷ (10 if not (anyOf (isOf e) (entries cfg s))) ∷ [])
 
   -- "The stored frame is read as a part of the caller's own memory block"
-  unfoldable pub readFrame : ℕ → Beside → State → Outcome
-  readFrame e b s =
+  unfoldable pub readFrame : ℕ → Which → Beside → State → Outcome
+  readFrame e which b s =
       judged (readFrameRules e s) b s
       (record {
         answer = 0;
         verdict = None;
         value = 0;
-        part = frameOf (entryFor e (entries cfg s));
+        part = frameOf which (frameBytes cfg) (entryFor e (entries cfg s));
         beside = b;
         state = s;
       })

@@ -42,12 +42,12 @@ places cfg = natOf (numberAt cfg 1)
 unfoldable pub frameBytes : Configuration → ℕ
 frameBytes cfg = natOf (numberAt cfg 2)
 
--- "M(3 + F)": the bytes that a memory entry holds of its frame, behind its number and its count
+-- document 02, W6: "1 + M(3 + 2F)": the bytes that a memory entry holds of its frames, behind its number and its count
 abbrev pub entryFrames : Configuration → ℕ
-entryFrames cfg = frameBytes cfg
+entryFrames cfg = 2 * frameBytes cfg
 
 abbrev pub mostPayload : ℕ
-mostPayload = mostFrame
+mostPayload = 2 * mostFrame
 
 -- "Then 13 per event, event 0 first"; document 02, W5: "one more configuration number per event, 14th"
 abbrev pub rowWidth : ℕ

@@ -123,7 +123,7 @@ module _ (cfg : Configuration) where
   unfoldable pub eventAsked : List ℕ → State → Option ℕ
   eventAsked request s = cond (isRecord (recordAsked request)) (shownEvent (codeAsked request) s) none
 
-  -- of an event's entry, "the F frame bytes": all that it holds of its frame
+  -- of an event's entry, W6: "`19 04` sends first, then latest", which is how its payload stores them
   abbrev pub frameTold : State → ℕ → Entry → List ℕ
   frameTold s e x = x .payload
 

@@ -40,7 +40,8 @@ module _ (M : ℕ) (priority : ℕ → ℕ) (quiet : ℕ → Bool) (e : ℕ) (fr
 
   -- what the rules leave: the older and the newer entries as they were, and e's at the end
   pub data Ruled : Kept → Type 0 where
-    -- "1. e has an entry: count up by one, at most 255; frame replaced; the entry moves to the end (newest)."
+    -- "1. e has an entry: count up by one, at most 255; frame replaced; the entry moves to the end (newest)."; document
+    -- 02, W6: "A repeat replaces only the latest."
     renews : (older : List Entry) (x : Entry) (newer : List Entry) → xs ≡ older ++ x ∷ newer → eventOf x ≡ e
         → Ruled
         (kept Renewed

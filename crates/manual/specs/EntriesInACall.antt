@@ -20,7 +20,7 @@ use Rattle.manual.specs.Calls.{report, tickMoves, ticks, tick, ofCycle, 
 use Rattle.manual.specs.Diagnostics.{requestReply}
 use Rattle.manual.specs.Sequences.{Call, Report, Tick, Stop, Clear, Request, asksClear}
 
--- "count up by one, at most 255; frame replaced"
+-- "count up by one, at most 255; frame replaced"; document 02, W6: "A repeat replaces only the latest."
 abbrev pub renewedEntry : List ℕ → Entry → Entry
 renewedEntry frame x = entryOf (eventOf x) (min 255 (suc (x .count))) (renewedPayload (x .payload) frame)
 

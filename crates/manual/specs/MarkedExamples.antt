@@ -7,7 +7,7 @@ use lib.ListN.{replicate}
 use lib.IntN.{ℤ, pos, negsuc}
 use Rattle.manual.specs.declared.Verdict.{Verdict}
 use Rattle.manual.specs.declared.Verdict.the-variants.{None, Passed, Failed}
-use Rattle.manual.specs.Configuration.{Configuration, events, places, frameBytes}
+use Rattle.manual.specs.Configuration.{Configuration, events, places, entryFrames}
 use Rattle.manual.specs.State.{State, recordWidth, storedAt, statusByte, D, allStopped}
 use Rattle.manual.specs.Memory.{memoryLength}
 use Rattle.manual.specs.Debouncing.{ticked}
@@ -90,7 +90,7 @@ abbrev pub blank : Configuration → State
 blank cfg = record {
   records = replicate (recordWidth * events cfg) 7;
   debounce = replicate (events cfg) (pos 7);
-  memory = replicate (memoryLength (places cfg) (frameBytes cfg)) 7;
+  memory = replicate (memoryLength (places cfg) (entryFrames cfg)) 7;
   board = record { running = allStopped; overflow = true };
 }
 

@@ -11,8 +11,8 @@ use Rattle.manual.specs.declared.StoreAnswer.the-variants.{Untold, Renew
 use Rattle.manual.specs.Words.{firstOf, orElse, those}
 use Rattle.manual.specs.Configuration.{mostPlaces, mostPayload}
 
--- "event number (2 bytes, high first), occurrence count (1 to 255), F frame bytes": the payload is what it holds of its
--- frame
+-- "event number (2 bytes, high first), occurrence count (1 to 255)"; document 02, W6: "An entry becomes event, count,
+-- first frame, latest frame.": the payload is its two frames
 pub record Entry : Type 0 where
   pub high : ℕ
   pub low : ℕ
@@ -25,13 +25,20 @@ eventOf x = x .high * 256 + x .low
 abbrev pub entryOf : ℕ → ℕ → List ℕ → Entry
 entryOf e count payload = record { high = e / 256; low = e % 256; count = count; payload = payload }
 
--- what a new entry holds of the lent frame
-abbrev pub payloadOf : List ℕ → List ℕ
-payloadOf frame = frame
+-- W6: "both the frame of the first failure and that of the latest": the two frames of a payload, each of F bytes
+abbrev pub firstFrame : ℕ → List ℕ → List ℕ
+firstFrame F payload = take F payload
 
--- "frame replaced": what an entry that held the old payload holds of the lent frame
-abbrev pub renewedPayload : List ℕ → List ℕ → List ℕ
-renewedPayload old frame = frame
+abbrev pub latestFrame : ℕ → List ℕ → List ℕ
+latestFrame F payload = drop F payload
+
+-- the two frames of a new entry are both the lent one
+unfoldable pub payloadOf : List ℕ → List ℕ
+payloadOf frame = frame ++ frame
+
+-- "A repeat replaces only the latest.": the frames of an entry that held the old ones
+unfoldable pub renewedPayload : List ℕ → List ℕ → List ℕ
+renewedPayload old frame = firstFrame (length frame) old ++ frame
 
 -- ---- the bytes of an entry, and the entry of some bytes: its layout, where F is the length of a payload
 
@@ -44,7 +51,8 @@ entryBytes x = x .high ∷ x .low ∷ x .count ∷ x .payload
 abbrev pub entryAt : ℕ → List ℕ → Entry
 entryAt F m = record { high = getD m 0 0; low = getD m 1 0; count = getD m 2 0; payload = take F (drop 3 m) }
 
--- ---- "Memory: 1 + M(3 + F) lent bytes: number of entries, then the entries with the oldest first"
+-- ---- "Memory: 1 + M(3 + F) lent bytes: number of entries, then the entries with the oldest first", where F is the
+-- length of a payload
 
 abbrev pub memoryLength : ℕ → ℕ → ℕ
 memoryLength M F = 1 + M * entryWidth F
@@ -143,7 +151,8 @@ module _ (M : ℕ) (priority : ℕ → ℕ) (quiet : ℕ → Bool) (e : ℕ) (fr
   unfoldable pub admitted : List Entry → Kept
   admitted xs = cond (ltb (length xs) M) (kept Added (appended 1 (payloadOf frame) xs)) (pushedOut (victim xs) xs)
 
-  -- "1. e has an entry: count up by one, at most 255; frame replaced; the entry moves to the end (newest)."
+  -- "1. e has an entry: count up by one, at most 255; frame replaced; the entry moves to the end (newest)."; W6: of its
+  -- two frames the latest
   unfoldable pub renewed : Option Entry → List Entry → Kept
   renewed (some x) xs =
       kept Renewed (appended (min 255 (suc (x .count))) (renewedPayload (x .payload) frame) (without e xs))

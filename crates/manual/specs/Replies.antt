@@ -14,9 +14,9 @@ use lib.Bits.{bitAnd}
 use lib.IntN.{pos}
 use Rattle.manual.specs.declared.Verdict.the-variants.{None}
 use Rattle.manual.specs.Words.{All, those, two, three, threeAt, between, twosComplement}
-use Rattle.manual.specs.Configuration.{Configuration, events, codeOf, configOk, FirstWithCode}
+use Rattle.manual.specs.Configuration.{Configuration, events, frameBytes, codeOf, configOk, FirstWithCode}
 use Rattle.manual.specs.State.{State, storedAt, statusByte}
-use Rattle.manual.specs.Memory.{Entry, entryFor}
+use Rattle.manual.specs.Memory.{Entry, firstFrame, latestFrame, entryFor}
 use Rattle.manual.specs.WellFormed.{entries, wellFormed}
 use Rattle.manual.specs.Answers.{Beside, withRoom, Outcome}
 use Rattle.manual.specs.Calls.{unknownCode, cleared}
@@ -102,6 +102,10 @@ module _ (cfg : Configuration) (request : List ℕ) (s : State) where
     length-of-04 : number ≡ 0x04 → MustHave 6
     length-of-06 : number ≡ 0x06 → MustHave 6
 
+  -- an entry's two frames of F bytes, "first, then latest"
+  abbrev pub firstThenLatest : Entry → List ℕ
+  firstThenLatest x = firstFrame (frameBytes cfg) (x .payload) ++ latestFrame (frameBytes cfg) (x .payload)
+
   -- a sub-function's positive reply
   pub data Asks : List ℕ → Type 0 where
     -- "01 mask: `59 01 FF 01` and the number of matching events, 2 bytes high first."
@@ -113,10 +117,10 @@ module _ (cfg : Configuration) (request : List ℕ) (s : State) where
     -- document 02, W1: "request `19 14` of length 2: `59 14`, then trouble code and counter byte (two's complement) for
     -- each event whose counter is 1 to 126, rising"
     list-near : number ≡ 0x14 → Asks (0x59 ∷ 0x14 ∷ flatMap counterLine nearing)
-    -- document 02, W4: "`59 04`, code, status, then if the event has an entry `01` and the F frame bytes", which its
-    -- payload is
+    -- document 02, W4: "`59 04`, code, status, then if the event has an entry `01` and the F frame bytes"; W6: "`19 04`
+    -- sends first, then latest."
     frame-of-entry : number ≡ 0x04 → (e : ℕ) → Shown e → (x : Entry) → HasEntry e x
-        → Asks (0x59 ∷ 0x04 ∷ (lineOf e ++ (0x01 ∷ x .payload)))
+        → Asks (0x59 ∷ 0x04 ∷ (lineOf e ++ (0x01 ∷ firstThenLatest x)))
     -- "`59 06`, code, status, then if it has an entry `01`, occurrence count, K, h, g"
     details-of-entry : number ≡ 0x06 → (e : ℕ) → Shown e → (x : Entry) → HasEntry e x
         → Asks (0x59 ∷ 0x06 ∷ (lineOf e ++ (0x01 ∷ detailsOf e x)))

@@ -10,6 +10,7 @@ use Rattle.history.specs.History.{Token, passed, failed, start, stop, clear, Hi
 use Rattle.manual.specs.declared.Board.{Board}
 use Rattle.manual.specs.declared.Verdict.{Verdict}
 use Rattle.manual.specs.declared.Verdict.the-variants.{None, Passed, Failed}
+use Rattle.manual.specs.declared.Which.{Which}
 use Rattle.manual.specs.Words.{threeAt}
 use Rattle.manual.specs.Configuration.{Configuration}
 use Rattle.manual.specs.State.{State, D}
@@ -26,7 +27,8 @@ use Rattle.manual.specs.Diagnostics.{requestRules, requestReply}
 
 -- the calls that only read the blocks and the board, with any arguments whatever
 pub data Query : Type 0 where
-  ReadStatus ReadFrame ReadCounter ReadPaint : ℕ → Query
+  ReadStatus ReadCounter ReadPaint : ℕ → Query
+  ReadFrame : ℕ → Which → Query
   ReadMissing : ℕ → ℕ → Query
   ReadTable ListGrey Save : Query
 
@@ -67,7 +69,7 @@ beginsAnew (Request bytes) = false
 module _ (cfg : Configuration) where
   abbrev pub answerTo : Query → Beside → State → Outcome
   answerTo (ReadStatus k) b s = readStatus cfg k b s
-  answerTo (ReadFrame k) b s = readFrame cfg k b s
+  answerTo (ReadFrame k which) b s = readFrame cfg k which b s
   answerTo (ReadCounter k) b s = readCounter cfg k b s
   answerTo (ReadMissing k present) b s = readMissing cfg k present b s
   answerTo ReadTable b s = readTable cfg b s
@@ -89,7 +91,7 @@ module _ (cfg : Configuration) where
   -- the list of refusals of a call, in its order
   abbrev pub queryRules : Query → Beside → State → List Rule
   queryRules (ReadStatus k) b s = readStatusRules cfg k s
-  queryRules (ReadFrame k) b s = readFrameRules cfg k s
+  queryRules (ReadFrame k which) b s = readFrameRules cfg k s
   queryRules (ReadCounter k) b s = readCounterRules cfg k s
   queryRules (ReadMissing k present) b s = readMissingRules cfg k s
   queryRules ReadTable b s = readTableRules cfg s

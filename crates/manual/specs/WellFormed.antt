@@ -23,12 +23,6 @@ module _ (cfg : Configuration) where
   abbrev pub debounceFits : State → Bool
   debounceFits s = eqb (length (s .debounce)) (events cfg)
 
-  abbrev pub memoryFits : State → Bool
-  memoryFits s = eqb (length (s .memory)) (memoryLength (places cfg) (entryFrames cfg))
-
-  unfoldable pub lengthsFit : State → Bool
-  lengthsFit s = holds (recordsFit s ∷ debounceFits s ∷ memoryFits s ∷ [])
-
   -- "and for each event: bit 4 set means …; … g = 0 when bit 3 is clear": the nine clauses on the record
   abbrev pub recordOk : ℕ → EventRecord → Bool
   recordOk e r = wellFormedRecord (limitsOf cfg e) r
@@ -47,9 +41,6 @@ module _ (cfg : Configuration) where
   abbrev pub atMostM : State → Bool
   atMostM s = leb (entryCount (s .memory)) (places cfg)
 
-  abbrev pub entries : State → List Entry
-  entries s = entriesOf (entryFrames cfg) (s .memory)
-
   -- "event numbers below n", "occurrence ≥ 1", "each entry's event has bit 5 set"
   abbrev pub eventBelow : Entry → Bool
   eventBelow x = ltb (eventOf x) (events cfg)
@@ -63,14 +54,48 @@ module _ (cfg : Configuration) where
   abbrev pub entryOk : State → Entry → Bool
   entryOk s x = holds (eventBelow x ∷ hasOccurred x ∷ hasFailed s x ∷ [])
 
-  -- "and the bytes after the last entry are 0"
+  -- ---- a state whose entries have payloads of W bytes
+
+  module _ (W : ℕ) where
+    abbrev pub memoryFitsWith : State → Bool
+    memoryFitsWith s = eqb (length (s .memory)) (memoryLength (places cfg) W)
+
+    unfoldable pub lengthsFitWith : State → Bool
+    lengthsFitWith s = holds (recordsFit s ∷ debounceFits s ∷ memoryFitsWith s ∷ [])
+
+    abbrev pub entriesWith : State → List Entry
+    entriesWith s = entriesOf W (s .memory)
+
+    -- "and the bytes after the last entry are 0"
+    abbrev pub zeroTailWith : State → Bool
+    zeroTailWith s = allOf (λ b. eqb b 0) (drop (bytesInUse W (entryCount (s .memory))) (s .memory))
+
+    -- "Memory has at most M entries, event numbers below n and no two equal, occurrence ≥ 1, each entry's event has bit
+    -- 5 set, and the bytes after the last entry are 0."
+    unfoldable pub memoryOkWith : State → Bool
+    memoryOkWith s =
+        holds
+        (atMostM s ∷ allOf (entryOk s) (entriesWith s) ∷ noTwice (entriesWith s) ∷ zeroTailWith s ∷ [])
+
+    unfoldable pub wellFormedWith : State → Bool
+    wellFormedWith s = holds (lengthsFitWith s ∷ allBelow (events cfg) (eventOk s) ∷ memoryOkWith s ∷ [])
+
+  -- ---- a state as the calls take it: document 02, W6, "Memory is 1 + M(3 + 2F) bytes."
+
+  abbrev pub memoryFits : State → Bool
+  memoryFits s = memoryFitsWith (entryFrames cfg) s
+
+  abbrev pub lengthsFit : State → Bool
+  lengthsFit s = lengthsFitWith (entryFrames cfg) s
+
+  abbrev pub entries : State → List Entry
+  entries s = entriesWith (entryFrames cfg) s
+
   abbrev pub zeroTail : State → Bool
-  zeroTail s = allOf (λ b. eqb b 0) (drop (bytesInUse (entryFrames cfg) (entryCount (s .memory))) (s .memory))
+  zeroTail s = zeroTailWith (entryFrames cfg) s
 
-  -- "Memory has at most M entries, event numbers below n and no two equal, occurrence ≥ 1, each entry's event has bit 5
-  -- set, and the bytes after the last entry are 0."
-  unfoldable pub memoryOk : State → Bool
-  memoryOk s = holds (atMostM s ∷ allOf (entryOk s) (entries s) ∷ noTwice (entries s) ∷ zeroTail s ∷ [])
+  abbrev pub memoryOk : State → Bool
+  memoryOk s = memoryOkWith (entryFrames cfg) s
 
-  unfoldable pub wellFormed : State → Bool
-  wellFormed s = holds (lengthsFit s ∷ allBelow (events cfg) (eventOk s) ∷ memoryOk s ∷ [])
+  abbrev pub wellFormed : State → Bool
+  wellFormed s = wellFormedWith (entryFrames cfg) s

@@ -35,8 +35,8 @@ pub const RECORD_WIDTH: usize = 4;
 // The longest block of records.
 pub const MOST_RECORDS: usize = RECORD_WIDTH * MOST_EVENTS;
 
-// "Memory: 1 + M(3 + F) lent bytes": the longest payload of an entry, and the longest block.
-pub const MOST_PAYLOAD: usize = MOST_FRAME;
+// Document 02, W6: "Memory is 1 + M(3 + 2F) bytes.": the longest payload of an entry, and the longest block.
+pub const MOST_PAYLOAD: usize = 2 * MOST_FRAME;
 
 pub const MOST_MEMORY: usize = 1 + MOST_PLACES * (3 + MOST_PAYLOAD);
 
@@ -126,6 +126,12 @@ pub enum Paint {
 pub enum PaintAnswer {
     Painted(Paint),
     Refused(Refusal),
+}
+
+// Document 02, W6: "Reading a frame takes a choice of which": the frame of the first failure, or of the latest.
+pub enum Which {
+    First,
+    Latest,
 }
 
 // A stored frame, as a part of the caller's own memory block: where it starts, and its length.

@@ -9,8 +9,8 @@ use native.Mathlib.Nat.{mul-suc, mul-zero, mul-le-mul-left, add-comm, add-zero, 
 use native.Mathlib.Numerals.{add-one}
 use native.Mathlib.Omega.{arith}
 use lib.Dec.{ltb}
-use lib.ListN.{length, take, drop, getD, drop-of-length-le}
-use lib.Seq.{drop-drop, getD-drop, drop-cons}
+use lib.ListN.{length, take, drop, getD, length-drop, drop-of-length-le}
+use lib.Seq.{drop-drop, getD-drop, drop-cons, length-take-le}
 use borrow.Author.Tests.{ltb-true}
 use Rattle.history.specs.Words.{allOf}
 use Rattle.history.proofs.WordsLaws.{and-left, and-right, both}
@@ -85,6 +85,17 @@ module _ (F : ℕ) (m : List ℕ) where
 
     pub frame-is-at : atPlace p (entriesOf F m) .payload ≡ take F (drop (bytesInUse F p + 3) m)
     frame-is-at = ap (λ (x : Entry). x .payload) entry-is ∙ ap (take F) (drop-drop 3 (bytesInUse F p) m)
+
+pub payload-long : (F p : ℕ) (m : List ℕ) → PlaceFits F m p → length (atPlace p (entriesOf F m) .payload) ≡ F
+payload-long F p m f =
+    ap length (frame-is-at F m p (f .below))
+    ∙ length-take-le F (drop (bytesInUse F p + 3) m)
+    (omega (arith, length-drop (bytesInUse F p + 3) m, entry-within F p m f))
+
+-- n bytes of it, where it was read as l
+pub front-long : (F p : ℕ) (m l : List ℕ) (n : ℕ) → PlaceFits F m p → l ≡ atPlace p (entriesOf F m) .payload → n ≤ F
+    → length (take n l) ≡ n
+front-long F p m l n f e h = length-take-le n l (omega (arith, ap length e, payload-long F p m f, h))
 
 -- ---- a search by place, turn by turn
 

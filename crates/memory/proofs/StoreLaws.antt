@@ -3,7 +3,7 @@ use mathlib.Core.Path.{_≡_, refl, sym, ap, subst, _∙_}
 use mathlib.Core.Bool.{Bool, true, false, cond}
 use mathlib.Core.List.{List, [], _∷_, _++_}
 use mathlib.Core.Option.{Option, none, some}
-use Prim.Native.Nat.{ℕ, suc, _≤_, _<_, min}
+use Prim.Native.Nat.{ℕ, suc, _+_, _≤_, _<_, min}
 use native.Mathlib.Omega.{arith}
 use lib.Dec.{ltb}
 use lib.ListN.{length}
@@ -171,26 +171,20 @@ module _ (cfg : Configuration) (records m : List ℕ) (e : ℕ) (frame : List �
   two-bytes : e < 65536
   two-bytes = omega (arith, may-search .1)
 
-  pub may-renew : (p : Place) → placeOf e (entriesOf W m) ≡ At p
-      → PlaceFits W m (p .0) ×
-      ((e < 65536) × (length (renewedPayload (atPlace (p .0) (entriesOf W m) .payload) frame) ≡ W))
-  may-renew p h =
-      let there = place-fits n M W m order (isOf e) p h in (
-        there,
-        (
-          two-bytes,
-          fits-here .renewal (atPlace (p .0) (entriesOf W m) .payload)
-              (place-framed n M W m order (p .0) (there .below)),
-        ),
-      )
+  two-frames : length frame + length frame ≡ W
+  two-frames = omega (arith, w, r .frame-fits)
 
-  pub may-append : entryCount m < places cfg → RoomAt W m (entryCount m) e × (length (payloadOf frame) ≡ W)
-  may-append h = (room-at-end n M W m order e two-bytes h, fits-here .new)
+  pub may-renew : (p : Place) → placeOf e (entriesOf W m) ≡ At p
+      → PlaceFits W m (p .0) × ((e < 65536) × (length frame + length frame ≡ W))
+  may-renew p h = (place-fits n M W m order (isOf e) p h, (two-bytes, two-frames))
+
+  pub may-append : entryCount m < places cfg → RoomAt W m (entryCount m) e × (length frame + length frame ≡ W)
+  may-append h = (room-at-end n M W m order e two-bytes h, two-frames)
 
   pub may-displace : (p : Place) → victimPlace (priorityOf cfg) quiet e (entriesOf W m) ≡ At p
-      → PlaceFits W m (p .0) × ((e < 65536) × (length (payloadOf frame) ≡ W))
+      → PlaceFits W m (p .0) × ((e < 65536) × (length frame + length frame ≡ W))
   may-displace p h =
-      (victim-fits n M W m order (priorityOf cfg) quiet e frame fits-here p h, (two-bytes, fits-here .new))
+      (victim-fits n M W m order (priorityOf cfg) quiet e frame fits-here p h, (two-bytes, two-frames))
 
   pub renews : (p : Place) → placeOf e (entriesOf W m) ≡ At p
       → leftWith (renewedAt W (p .0) e frame m) Renewed ≡ storesAt (entryFrames cfg)

@@ -10,7 +10,7 @@ use Rattle.history.specs.Words.{allOf}
 use Rattle.manual.specs.Configuration.{mostEvents, mostPlaces, mostPayload}
 use Rattle.manual.specs.Memory.{eventOf, memoryLength, entryCount, entriesOf, memoryOf, noTwice}
 
--- n events, M places, F frame bytes
+-- n events, M places, payloads of F bytes
 pub record InOrder (n M F : ℕ) (m : List ℕ) : Type 0 where
   pub events-most : n ≤ mostEvents
   pub places-most : M ≤ mostPlaces

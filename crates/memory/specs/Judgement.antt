@@ -10,7 +10,7 @@ use Rattle.manual.specs.Configuration.{mostEvents, mostPlaces, mostPayload}
 use Rattle.manual.specs.State.{recordWidth}
 use Rattle.manual.specs.Memory.{Entry, eventOf, memoryLength, entryCount, bytesInUse, entriesOf, noTwice}
 
--- n events, M places, F frame bytes, as an accepted configuration has them
+-- n events, M places, payloads of F bytes, as an accepted configuration has them
 pub record Small (n M F : ℕ) : Type 0 where
   pub events-most : n ≤ mostEvents
   pub places-most : M ≤ mostPlaces

@@ -8,7 +8,7 @@ use Rattle.manual.specs.Memory.{Entry, bytesInUse, isOf, outranked, resting}
 use Rattle.memory.specs.declared.Find.{Find}
 use Rattle.memory.specs.declared.Find.the-variants.{At, Nothing}
 
--- where the frame of the entry at a place starts: behind "event number (2 bytes, high first), occurrence count (1 to
+-- where the frames of the entry at a place start: behind "event number (2 bytes, high first), occurrence count (1 to
 -- 255)"
 abbrev pub frameAt : ℕ → Place → ℕ
 frameAt F p = bytesInUse F (p .0) + 3

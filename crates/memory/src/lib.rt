@@ -8,13 +8,15 @@ mod readings;
 
 ghost use mathlib.Core.Path.{_≡_};
 ghost use mathlib.Core.Bool.{_&&_};
+ghost use mathlib.Core.List.{_++_};
 ghost use lib.Dec.{eqb};
-ghost use Prim.Native.Nat.{suc, min, _≤_, _<_};
+ghost use Prim.Native.Nat.{suc, min, _+_, _≤_, _<_};
 ghost use lib.ListN.{length};
+ghost use lib.Seq.{sets};
 ghost use Rattle.history.specs.Words.{allOf};
 ghost use Rattle.manual.specs.Configuration.{mostEvents, mostPlaces, mostPayload, events};
 ghost use Rattle.manual.specs.Configuration.{places, entryFrames, priorityOf};
-ghost use Rattle.manual.specs.Memory.{eventOf, payloadOf, renewedPayload, displacing, memoryLength, entryCount};
+ghost use Rattle.manual.specs.Memory.{eventOf, firstFrame, payloadOf, displacing, memoryLength, entryCount};
 ghost use Rattle.manual.specs.Memory.{bytesInUse, entriesOf, memoryOf, without, noTwice};
 ghost use Rattle.memory.specs.Places.{frameAt, atPlace, firstPlace, placeOf, outranks, rests, victimPlace};
 ghost use Rattle.memory.specs.Fits.{EntriesFit, PlaceFits, RoomAt, EventsFit};
@@ -30,13 +32,13 @@ pub enum Find {
 }
 
 // "event number (2 bytes, high first), occurrence count (1 to 255)": the bytes of an entry before its payload.
-const BEFORE_PAYLOAD: usize = 3;
+pub const BEFORE_PAYLOAD: usize = 3;
 
 // The length of an entry's payload.
 pub fn entry_frames(cfg: &[i32]) -> usize
     ensures { λ r. ⌜ r ≡ entryFrames (now (cfg .entry)) ⌝ }
 {
-    config::frame_bytes(cfg)
+    config::entry_frames(cfg)
 }
 
 // The number of entries.
@@ -90,7 +92,7 @@ pub fn count_at(memory: &[u8], payload_bytes: usize, place: Place) -> u8
     memory[start + 2]
 }
 
-// Where the frame of the entry at a place starts.
+// Where the frames of the entry at a place start.
 pub fn frame_start(payload_bytes: usize, place: Place) -> usize
     requires { ⌜ («payload_bytes» ≤ mostPayload) × (place .0 ≤ mostPlaces) ⌝ }
     ensures { λ r. ⌜ r ≡ frameAt «payload_bytes» place ⌝ }
@@ -158,37 +160,56 @@ fn remove(memory: &mut [u8], payload_bytes: usize, place: Place)
     memory[0] = entries - 1;
 }
 
-// Writes an entry of the event, with an occurrence count and a payload, at a place.
+// Writes the frames of an entry at a byte: "first frame, latest frame".
+fn put_frames(memory: &mut [u8], at: usize, first: &[u8], latest: &[u8])
+    requires { ⌜ at + (length (now first) + length (now latest)) ≤ length (now memory) ⌝ }
+    ensures { λ _. ⌜ now (memory .exit)
+        ≡ sets (now (memory .entry)) at (now (first .entry) ++ now (latest .entry)) ⌝ }
+{
+    writing::put(memory, at, first);
+    writing::put(memory, at + first.len(), latest);
+}
+
+// Writes an entry of the event, with an occurrence count and two frames, at a place.
 fn enter(
     memory: &mut [u8],
     payload_bytes: usize,
     place: Place,
     event: EventNumber,
     count: u8,
-    payload: &[u8],
+    first: &[u8],
+    latest: &[u8],
 )
     requires { ⌜ (RoomAt «payload_bytes» (now memory) (place .0) (event .0))
-        × (length (now payload) ≡ «payload_bytes») ⌝ }
+        × (length (now first) + length (now latest) ≡ «payload_bytes») ⌝ }
     ensures { λ _. ⌜ now (memory .exit)
-        ≡ entered «payload_bytes» (place .0) (event .0) count (now (payload .entry)) (now (memory .entry)) ⌝ }
+        ≡ entered «payload_bytes» (place .0) (event .0) count (now (first .entry) ++ now (latest .entry))
+        (now (memory .entry)) ⌝ }
 {
     let start = start_of(payload_bytes, place);
     let high = (event.0 / 256) as u8;
     let low = (event.0 % 256) as u8;
     writing::put(memory, start, &[high, low, count]);
-    writing::put(memory, start + BEFORE_PAYLOAD, payload);
+    put_frames(memory, start + BEFORE_PAYLOAD, first, latest);
 }
 
-// Puts an entry of the event, with an occurrence count and a payload, at the end.
-fn append(memory: &mut [u8], payload_bytes: usize, event: EventNumber, count: u8, payload: &[u8])
+// Puts an entry of the event, with an occurrence count and two frames, at the end.
+fn append(
+    memory: &mut [u8],
+    payload_bytes: usize,
+    event: EventNumber,
+    count: u8,
+    first: &[u8],
+    latest: &[u8],
+)
     requires { ⌜ (RoomAt «payload_bytes» (now memory) (entryCount (now memory)) (event .0)) ×
-        (length (now payload) ≡ «payload_bytes») ⌝ }
+        (length (now first) + length (now latest) ≡ «payload_bytes») ⌝ }
     ensures { λ _. ⌜ now (memory .exit)
-        ≡ added «payload_bytes» (event .0) count (now (payload .entry)) (now (memory .entry)) ⌝ }
+        ≡ added «payload_bytes» (event .0) count (now (first .entry) ++ now (latest .entry)) (now (memory .entry)) ⌝ }
 {
     let end = Place(entry_count(memory));
     memory[0] = memory[0] + 1;
-    enter(memory, payload_bytes, end, event, count, payload);
+    enter(memory, payload_bytes, end, event, count, first, latest);
 }
 
 // Takes the entry at a place out and puts one of the event at the end, where the newest then stands.
@@ -198,16 +219,18 @@ fn replace(
     place: Place,
     event: EventNumber,
     count: u8,
-    payload: &[u8],
+    first: &[u8],
+    latest: &[u8],
 )
     requires { ⌜ (PlaceFits «payload_bytes» (now memory) (place .0)) ×
-        ((event .0 < 65536) × (length (now payload) ≡ «payload_bytes»)) ⌝ }
+        ((event .0 < 65536) × (length (now first) + length (now latest) ≡ «payload_bytes»)) ⌝ }
     ensures { λ _. ⌜ now (memory .exit)
-        ≡ replaced «payload_bytes» (place .0) (event .0) count (now (payload .entry)) (now (memory .entry)) ⌝ }
+        ≡ replaced «payload_bytes» (place .0) (event .0) count (now (first .entry) ++ now (latest .entry))
+        (now (memory .entry)) ⌝ }
 {
     let newest = Place(entry_count(memory) - 1);
     close_gap(memory, payload_bytes, place);
-    enter(memory, payload_bytes, newest, event, count, payload);
+    enter(memory, payload_bytes, newest, event, count, first, latest);
 }
 
 // The event's entry leaves, where it has one.
@@ -311,17 +334,31 @@ fn one_more(count: u8) -> u8
     if count < 255 { count + 1 } else { 255 }
 }
 
-// Rule 1: "e has an entry: count up by one, at most 255; frame replaced; the entry moves to the end (newest)."
+// The first frame of the entry at a place, as long as the buffer: its bytes are needed after the gap has closed.
+fn copy_first(memory: &[u8], payload_bytes: usize, place: Place, first: &mut [u8])
+    requires { ⌜ (PlaceFits «payload_bytes» (now memory) (place .0)) × (length (now first) ≤ «payload_bytes») ⌝ }
+    ensures { λ _. ⌜ now (first .exit)
+        ≡ firstFrame (length (now (first .entry)))
+        (atPlace (place .0) (entriesOf «payload_bytes» (now (memory .entry))) .payload) ⌝ }
+{
+    let payload = payload_at(memory, payload_bytes, place);
+    let frame_bytes = first.len();
+    writing::copy_bytes(&payload[..frame_bytes], first);
+}
+
+// Rule 1: "e has an entry: count up by one, at most 255; frame replaced; the entry moves to the end (newest).";
+// document 02, W6: "A repeat replaces only the latest."
 fn renew(memory: &mut [u8], payload_bytes: usize, place: Place, event: EventNumber, frame: &[u8])
     requires { ⌜ (PlaceFits «payload_bytes» (now memory) (place .0)) ×
-        ((event .0 < 65536) ×
-        (length (renewedPayload (atPlace (place .0) (entriesOf «payload_bytes» (now memory)) .payload) (now frame))
-        ≡ «payload_bytes»)) ⌝ }
+        ((event .0 < 65536) × (length (now frame) + length (now frame) ≡ «payload_bytes»)) ⌝ }
     ensures { λ _. ⌜ now (memory .exit)
         ≡ renewedAt «payload_bytes» (place .0) (event .0) (now (frame .entry)) (now (memory .entry)) ⌝ }
 {
     let count = one_more(count_at(memory, payload_bytes, place));
-    replace(memory, payload_bytes, place, event, count, frame);
+    let mut kept = [0; manual::MOST_FRAME];
+    let first = &mut kept[..frame.len()];
+    copy_first(memory, payload_bytes, place, first);
+    replace(memory, payload_bytes, place, event, count, first, frame);
 }
 
 // Rule 3: "The victim is taken out, e appended with count 1."
@@ -333,14 +370,14 @@ fn displace(
     frame: &[u8],
 ) -> StoreAnswer
     requires { ⌜ (PlaceFits «payload_bytes» (now memory) (place .0)) ×
-        ((event .0 < 65536) × (length (payloadOf (now frame)) ≡ «payload_bytes»)) ⌝ }
+        ((event .0 < 65536) × (length (now frame) + length (now frame) ≡ «payload_bytes»)) ⌝ }
     ensures { λ r. ⌜ leftWith (now (memory .exit)) r
         ≡ leftWith
         (replaced «payload_bytes» (place .0) (event .0) 1 (payloadOf (now (frame .entry))) (now (memory .entry)))
         (displacing (atPlace (place .0) (entriesOf «payload_bytes» (now (memory .entry))))) ⌝ }
 {
     let out = event_at(memory, payload_bytes, place);
-    replace(memory, payload_bytes, place, event, 1, frame);
+    replace(memory, payload_bytes, place, event, 1, frame, frame);
     StoreAnswer::Displaced(out)
 }
 
@@ -361,7 +398,7 @@ fn admit(
         (entriesOf (entryFrames (now (cfg .entry))) (now (memory .entry))) ⌝ }
 {
     if entry_count(memory) < config::places(cfg) {
-        append(memory, payload_bytes, event, 1, frame);
+        append(memory, payload_bytes, event, 1, frame, frame);
         return StoreAnswer::Added;
     }
     let found = victim(cfg, records, memory, payload_bytes, event);

@@ -1,5 +1,6 @@
--- The statements of `read_status`, `read_counter`, `read_missing`, `read_frame` and `frame_part` allow one outcome only:
--- one result. The calls are lent nothing to be written; of a frame the result says where it starts and how long it is.
+-- The statements of `read_status`, `read_counter`, `read_missing`, `read_frame` and `frame_part` allow one outcome
+-- only: one result. The calls are lent nothing to be written; of a frame the result says where it starts and how long
+-- it is.
 use mathlib.Core.Path.{_≡_, refl, sym, _∙_}
 use mathlib.Core.List.{List, []}
 use Prim.Native.Nat.{ℕ}
@@ -8,6 +9,7 @@ use Rattle.manual.specs.declared.CounterAnswer.{CounterAnswer}
 use Rattle.manual.specs.declared.CounterAnswer.the-variants.{Counter}
 use Rattle.manual.specs.declared.FrameAnswer.{FrameAnswer}
 use Rattle.manual.specs.declared.FrameAnswer.the-variants.{At}
+use Rattle.manual.specs.declared.Which.{Which}
 use Rattle.manual.specs.declared.MissingAnswer.{MissingAnswer}
 use Rattle.manual.specs.declared.MissingAnswer.the-variants.{Missing}
 use Rattle.manual.specs.declared.StatusAnswer.{StatusAnswer}
@@ -74,11 +76,11 @@ module _ (cfg : Configuration) (event : ℕ) (s : State) where
       refused-back (λ a. At (record { start = 0; length = 0 })) FrameAnswer.Refused r (ofFrame (FrameAnswer.Refused r))
       refl
 
-  pub one-read-frame : (r r′ : FrameAnswer)
-      → says r s ≡ frameRead cfg event s
-      → says r′ s ≡ frameRead cfg event s
+  pub one-read-frame : (which : Which) (r r′ : FrameAnswer)
+      → says r s ≡ frameRead cfg event which s
+      → says r′ s ≡ frameRead cfg event which s
       → r ≡ r′
-  one-read-frame r r′ p q = one-outcome answerIn (answer-back r) (answer-back r′) p q
+  one-read-frame which r r′ p q = one-outcome answerIn (answer-back r) (answer-back r′) p q
 
 pub one-frame-part : (memory : List ℕ) (answer : FrameAnswer) (part part′ : List ℕ) → part ≡ partOf answer memory
     → part′ ≡ partOf answer memory → part ≡ part′

@@ -2,11 +2,12 @@
 use mathlib.Core.Path.{_≡_, refl, sym, ap, _∙_}
 use mathlib.Core.Bool.{true, not, cond}
 use mathlib.Core.List.{List, [], _∷_}
-use Prim.Native.Nat.{ℕ, _+_, _≤_, _<_}
+use Prim.Native.Nat.{ℕ, _+_, _*_, _≤_, _<_}
 use native.Mathlib.Omega.{arith}
 use lib.Dec.{eqb}
 use lib.IntN.{ℤ, pos, negsuc}
-use lib.ListN.{length, take, drop}
+use lib.ListN.{length, take, drop, length-drop}
+use lib.Seq.{take-take, take-add, drop-at, drop-drop, length-take-le}
 use mir.Syntax.{w8}
 use mir.Val.{SFits}
 use borrow.Author.Tests.{le-leb, lt-leb, leb-true, leb-false, not-false}
@@ -15,6 +16,7 @@ use Rattle.manual.specs.declared.CounterAnswer.{CounterAnswer}
 use Rattle.manual.specs.declared.CounterAnswer.the-variants.{Counter}
 use Rattle.manual.specs.declared.FrameAnswer.{FrameAnswer}
 use Rattle.manual.specs.declared.FrameAnswer.the-variants.{At}
+use Rattle.manual.specs.declared.FramePart.{FramePart}
 use Rattle.manual.specs.declared.MissingAnswer.{MissingAnswer}
 use Rattle.manual.specs.declared.MissingAnswer.the-variants.{Missing}
 use Rattle.manual.specs.declared.Place.{Place}
@@ -22,7 +24,10 @@ use Rattle.manual.specs.declared.StillMissing.{StillMissing}
 use Rattle.manual.specs.declared.Refusal.{Refusal}
 use Rattle.manual.specs.declared.Refusal.the-variants.{NoEntry}
 use Rattle.manual.specs.declared.Verdict.the-variants.{None}
-use Rattle.manual.specs.Configuration.{Configuration, mostEvents, mostPlaces, mostPayload, events, frameBytes}
+use Rattle.manual.specs.declared.Which.{Which}
+use Rattle.manual.specs.declared.Which.the-variants.{First, Latest}
+use Rattle.manual.specs.Configuration.{Configuration, mostEvents, mostPlaces, mostFrame, mostPayload, events}
+use Rattle.manual.specs.Configuration.{frameBytes}
 use Rattle.manual.specs.Configuration.{entryFrames, neededOf, configOk}
 use Rattle.manual.specs.State.{State, statusByte}
 use Rattle.manual.specs.Memory.{entriesOf, isOf, entryFor}
@@ -32,7 +37,8 @@ use Rattle.manual.specs.Words.{between}
 use Rattle.manual.specs.Conditions.{missingOf, lowestMissingOf}
 use Rattle.manual.specs.Missing.{readMissingRules, readMissing, told, missingRead}
 use Rattle.manual.specs.Counter.{counterIn, readCounterRules, readCounter, counted, counterRead}
-use Rattle.manual.specs.Calls.{frameOf, begins, noSuchEvent, readStatusRules, readStatus, readFrameRules, readFrame}
+use Rattle.manual.specs.Calls.{chosen, frameOf, begins, noSuchEvent, readStatusRules, readStatus, readFrameRules}
+use Rattle.manual.specs.Calls.{readFrame}
 use Rattle.manual.proofs.WordsLaws.{first-none, first-some, between-from, between-to}
 use Rattle.manual.proofs.AnswersLaws.{first-of-both, none-applies, goes-through, stops-with}
 use Rattle.manual.proofs.OneOutcomeOnly.{not-done}
@@ -43,7 +49,8 @@ use Rattle.memory.specs.declared.Find.the-variants.{Nothing}
 use Rattle.memory.specs.Places.{frameAt, placeOf}
 use Rattle.memory.specs.Fits.{EntriesFit, PlaceFits}
 use Rattle.memory.proofs.PlacesLaws.{entries-fit, entry-within, entries-are-count, frame-is-at, found, found-nothing}
-use Rattle.queries.specs.Reading.{four, partAt, says, frameStart, entryAnswer, placed, frameRead}
+use Rattle.queries.specs.Reading.{four, partAt, says, skipped, chosenPart, frameStart, entryAnswer, placed}
+use Rattle.queries.specs.Reading.{frameRead}
 use Rattle.queries.specs.Reading as Reading
 
 -- ---- a part of a block
@@ -59,25 +66,43 @@ module _ (start size : ℕ) (m : List ℕ) where
 
 -- ---- the answer of a search
 
-module _ (W F e : ℕ) (m : List ℕ) {W′ : ℕ} (w : W′ ≡ W) where
-  pub found-most : EntriesFit W m → (p : Place) → placeOf e (entriesOf W′ m) ≡ Find.At p
-      → (W′ ≤ mostPayload) × (p .0 ≤ mostPlaces)
+-- W′ and F′ were read from the configuration
+module _ (cfg : Configuration) (e : ℕ) (which : Which) (m : List ℕ) {W′ F′ : ℕ} (w : W′ ≡ entryFrames cfg)
+    (f : F′ ≡ frameBytes cfg) where
+  pub found-most : EntriesFit (entryFrames cfg) m → (p : Place) → placeOf e (entriesOf W′ m) ≡ Find.At p
+      → (W′ ≤ mostPayload) × ((F′ ≤ mostFrame) × (p .0 ≤ mostPlaces))
   found-most fits p q =
       let inside = found (isOf e) (entriesOf W′ m) p q .inside in
       let most = fits .count-most in
-      (rw w (fits .payload-most), omega (arith, entries-are-count W′ m))
+      let few = fits .payload-most in
+      (rw w few, (omega (arith, f, few), omega (arith, entries-are-count W′ m)))
 
-  same-answer : entryAnswer W′ F (placeOf e (entriesOf W′ m)) ≡ entryAnswer W F (placeOf e (entriesOf W m))
-  same-answer = λ i. entryAnswer (w i) F (placeOf e (entriesOf (w i) m))
+  abbrev answer : FrameAnswer
+  answer = entryAnswer (entryFrames cfg) (frameBytes cfg) which (placeOf e (entriesOf (entryFrames cfg) m))
 
-  pub answers-at : (p : Place) {start size : ℕ} → placeOf e (entriesOf W′ m) ≡ Find.At p → start ≡ frameAt W′ p
-      → size ≡ F
-      → At (record { start = start; length = size }) ≡ entryAnswer W F (placeOf e (entriesOf W m))
-  answers-at p q k l = (λ i. At (record { start = k i; length = l i })) ∙ ap (entryAnswer W′ F) (sym q) ∙ same-answer
+  same-answer : entryAnswer W′ F′ which (placeOf e (entriesOf W′ m)) ≡ answer
+  same-answer = λ i. entryAnswer (w i) (f i) which (placeOf e (entriesOf (w i) m))
 
-  pub answers-nothing : placeOf e (entriesOf W′ m) ≡ Nothing
-      → FrameAnswer.Refused NoEntry ≡ entryAnswer W F (placeOf e (entriesOf W m))
-  answers-nothing q = ap (entryAnswer W′ F) (sym q) ∙ same-answer
+  pub answers-at : (p : Place) {part : FramePart} → placeOf e (entriesOf W′ m) ≡ Find.At p
+      → part ≡ chosenPart W′ F′ which p → At part ≡ answer
+  answers-at p q k = ap At k ∙ ap (entryAnswer W′ F′ which) (sym q) ∙ same-answer
+
+  pub answers-nothing : placeOf e (entriesOf W′ m) ≡ Nothing → FrameAnswer.Refused NoEntry ≡ answer
+  answers-nothing q = ap (entryAnswer W′ F′ which) (sym q) ∙ same-answer
+
+-- the chosen frame of two that stand at the front of some bytes
+chosen-is : (which : Which) (F : ℕ) (l : List ℕ) → 2 * F ≤ length l
+    → take F (drop (skipped which F) l) ≡ chosen which F (take (2 * F) l)
+chosen-is First F l h = sym (take-take F (2 * F) l (omega arith))
+chosen-is Latest F l h =
+    let twice : 2 * F ≡ F + F = omega arith in
+    sym
+    (ap (λ (k : ℕ). drop F (take k l)) twice ∙ ap (drop F) (take-add F F l)
+    ∙ drop-at (take F l) (take F (drop F l)) F (length-take-le F l (omega (arith, h))))
+
+pub skipped-most : (which : Which) (F : ℕ) → skipped which F ≤ F
+skipped-most First F = omega arith
+skipped-most Latest F = omega arith
 
 -- "read frame 4, 10"
 abbrev ten : Configuration → State → ℕ → List Rule
@@ -141,42 +166,51 @@ module _ (cfg : Configuration) (s : State) (e : ℕ)
   only-ten = then-ten cfg s e ∙ rw z
 
   -- the event has an entry
-  frame-there : (p : Place) → placeOf e (entries cfg s) ≡ Find.At p
-      → leaves (answered 0 None 0) (partAt (frameAt (entryFrames cfg) p) (frameBytes cfg) (s .memory)) alone s
-      ≡ readFrame cfg e alone s
+  frame-there : (which : Which) (p : Place) → placeOf e (entries cfg s) ≡ Find.At p
+      → let start = frameAt (entryFrames cfg) p + skipped which (frameBytes cfg) in
+      leaves (answered 0 None 0) (partAt start (frameBytes cfg) (s .memory)) alone s ≡ readFrame cfg e which alone s
   unfolding readFrame firstThatApplies
-  frame-there p q =
+  frame-there which p q =
       let own = found (isOf e) (entries cfg s) p q in
       let fits : PlaceFits (entryFrames cfg) (s .memory) (p .0) =
       record {
         entries = may-seek;
         below = omega (arith, own .inside, entries-are-count (entryFrames cfg) (s .memory));
       } in
-      let part : partAt (frameAt (entryFrames cfg) p) (frameBytes cfg) (s .memory)
-      ≡ frameOf (entryFor e (entries cfg s)) =
-      sym (part-within _ _ _ (omega (arith, entry-within (entryFrames cfg) (p .0) (s .memory) fits)))
-      ∙ sym (frame-is-at (entryFrames cfg) (s .memory) (p .0) (fits .below))
-      ∙ ap frameOf (sym (own .first)) in
+      let F = frameBytes cfg in
+      let at = frameAt (entryFrames cfg) p in
+      let within = entry-within (entryFrames cfg) (p .0) (s .memory) fits in
+      let behind : 2 * F ≤ length (drop at (s .memory)) = omega (arith, within, length-drop at (s .memory)) in
+      let part : partAt (at + skipped which F) F (s .memory) ≡ frameOf which F (entryFor e (entries cfg s)) =
+      sym (part-within _ _ _ (omega (arith, within, skipped-most which F)))
+      ∙ ap (take F) (sym (drop-drop (skipped which F) at (s .memory))) ∙ chosen-is which F (drop at (s .memory)) behind
+      ∙ ap (chosen which F) (sym (frame-is-at (entryFrames cfg) (s .memory) (p .0) (fits .below)))
+      ∙ ap (frameOf which F) (sym (own .first)) in
       ap (λ (l : List ℕ). leaves (answered 0 None 0) l alone s) part
       ∙ sym (goes-through _ alone s _ (only-ten ∙ rw (first-some (isOf e) (entries cfg s) _ (own .first))))
 
   -- it has none
-  frame-nowhere : placeOf e (entries cfg s) ≡ Nothing → refused 10 alone s ≡ readFrame cfg e alone s
+  frame-nowhere : (which : Which) → placeOf e (entries cfg s) ≡ Nothing
+      → refused 10 alone s ≡ readFrame cfg e which alone s
   unfolding readFrame firstThatApplies
-  frame-nowhere q =
+  frame-nowhere which q =
       stops-with _ alone s _ NoEntry
       (sym (only-ten ∙ rw (first-none (isOf e) (entries cfg s) (found-nothing (isOf e) (entries cfg s) q))))
 
-  pub frame-is : says (entryAnswer (entryFrames cfg) (frameBytes cfg) (placeOf e (entries cfg s))) s ≡ frameRead cfg e s
+  pub frame-is : (which : Which)
+      → says (entryAnswer (entryFrames cfg) (frameBytes cfg) which (placeOf e (entries cfg s))) s
+      ≡ frameRead cfg e which s
   unfolding frameRead
-  frame-is = go (placeOf e (entries cfg s)) refl
+  frame-is which = go (placeOf e (entries cfg s)) refl
     where
       go : (f : Find) → placeOf e (entries cfg s) ≡ f
-          → says (entryAnswer (entryFrames cfg) (frameBytes cfg) f) s
-          ≡ placed (readFrame cfg e alone s) (frameStart (entryFrames cfg) (placeOf e (entries cfg s)))
+          → says (entryAnswer (entryFrames cfg) (frameBytes cfg) which f) s
+          ≡ placed (readFrame cfg e which alone s)
+          (frameStart (entryFrames cfg) (frameBytes cfg) which (placeOf e (entries cfg s))) (frameBytes cfg)
+      go (Find.At p) q =
+          λ i. placed (frame-there which p q i) (frameStart (entryFrames cfg) (frameBytes cfg) which (sym q i))
           (frameBytes cfg)
-      go (Find.At p) q = λ i. placed (frame-there p q i) (frameStart (entryFrames cfg) (sym q i)) (frameBytes cfg)
-      go Nothing q = refused-is NoEntry s _ _ _ (frame-nowhere q)
+      go Nothing q = refused-is NoEntry s _ _ _ (frame-nowhere which q)
 
 -- ---- where 2, 3 or 4 applies
 
@@ -203,9 +237,9 @@ module _ (cfg : Configuration) (s : State) (e : ℕ) (r : Refusal)
       rw (not-done r) in
       here ∙ ap (λ (o : Outcome). told o lowest) (stops-with _ alone s _ r q)
 
-  pub frame-refused : says (FrameAnswer.Refused r) s ≡ frameRead cfg e s
+  pub frame-refused : (which : Which) → says (FrameAnswer.Refused r) s ≡ frameRead cfg e which s
   unfolding frameRead readFrame
-  frame-refused = refused-is r s _ _ _ (stops-with _ alone s _ r (sym (then-ten cfg s e ∙ rw (← q, not-done r))))
+  frame-refused which = refused-is r s _ _ _ (stops-with _ alone s _ r (sym (then-ten cfg s e ∙ rw (← q, not-done r))))
 
 -- a number from −128 to 127 fits a byte with a sign
 pub small-fits : (z : ℤ) → between (negsuc 127) (pos 127) z ≡ true → SFits w8 z

@@ -8,7 +8,11 @@ use lib.ListN.{length, take, drop}
 use Rattle.manual.specs.declared.CounterAnswer.{CounterAnswer}
 use Rattle.manual.specs.declared.FrameAnswer.{FrameAnswer}
 use Rattle.manual.specs.declared.FrameAnswer.the-variants.{At}
+use Rattle.manual.specs.declared.FramePart.{FramePart}
 use Rattle.manual.specs.declared.MissingAnswer.{MissingAnswer}
+use Rattle.manual.specs.declared.Place.{Place}
+use Rattle.manual.specs.declared.Which.{Which}
+use Rattle.manual.specs.declared.Which.the-variants.{First, Latest}
 use Rattle.manual.specs.declared.Refusal.the-variants.{NoEntry}
 use Rattle.manual.specs.Configuration.{Configuration, frameBytes, entryFrames}
 use Rattle.manual.specs.State.{State}
@@ -69,14 +73,23 @@ abbrev pub says : FrameAnswer → State → FrameRead
 says a s =
     record { outcome = leaves (ofFrame a) (partOf a (s .memory)) alone s; start = startIn a; length = lengthIn a }
 
-abbrev pub frameStart : ℕ → Find → ℕ
-frameStart W (Find.At p) = frameAt W p
-frameStart W Nothing = 0
+-- document 02, W6: "first frame, latest frame": the bytes of a payload before the chosen one, of frames of F bytes
+abbrev pub skipped : Which → ℕ → ℕ
+skipped First F = 0
+skipped Latest F = F
 
--- the answer where 2, 3 and 4 do not apply, with payloads of W bytes and frames of F: "10 | event has no memory entry"
-abbrev pub entryAnswer : ℕ → ℕ → Find → FrameAnswer
-entryAnswer W F (Find.At p) = At (record { start = frameAt W p; length = F })
-entryAnswer W F Nothing = FrameAnswer.Refused NoEntry
+-- with payloads of W bytes
+abbrev pub chosenPart : ℕ → ℕ → Which → Place → FramePart
+chosenPart W F which p = record { start = frameAt W p + skipped which F; length = F }
+
+abbrev pub frameStart : ℕ → ℕ → Which → Find → ℕ
+frameStart W F which (Find.At p) = chosenPart W F which p .start
+frameStart W F which Nothing = 0
+
+-- the answer where 2, 3 and 4 do not apply: "10 | event has no memory entry"
+abbrev pub entryAnswer : ℕ → ℕ → Which → Find → FrameAnswer
+entryAnswer W F which (Find.At p) = At (chosenPart W F which p)
+entryAnswer W F which Nothing = FrameAnswer.Refused NoEntry
 
 -- "a frame part empty": a refusal has neither start nor length
 abbrev pub placed : Outcome → ℕ → ℕ → FrameRead
@@ -84,7 +97,8 @@ placed o start size =
     record { outcome = o; start = cond (eqb (o .answer) 0) start 0; length = cond (eqb (o .answer) 0) size 0 }
 
 -- "The stored frame is read as a part of the caller's own memory block, no copy.": the F bytes that stand in the
--- event's own entry
-unfoldable pub frameRead : Configuration → ℕ → State → FrameRead
-frameRead cfg e s =
-    placed (readFrame cfg e alone s) (frameStart (entryFrames cfg) (placeOf e (entries cfg s))) (frameBytes cfg)
+-- event's own entry; W6: "takes a choice of which, and hands back that part of the block"
+unfoldable pub frameRead : Configuration → ℕ → Which → State → FrameRead
+frameRead cfg e which s =
+    placed (readFrame cfg e which alone s)
+    (frameStart (entryFrames cfg) (frameBytes cfg) which (placeOf e (entries cfg s))) (frameBytes cfg)

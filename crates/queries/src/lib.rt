@@ -8,13 +8,16 @@ use manual::EventNumber;
 use manual::FrameAnswer;
 use manual::FramePart;
 use manual::MissingAnswer;
+use manual::Place;
 use manual::Refusal;
 use manual::StatusAnswer;
+use manual::Which;
 use memory::Find;
 ghost use mathlib.Core.Bool.{true};
 ghost use mathlib.Core.Path.{_≡_};
 ghost use mathlib.Core.List.{[]};
-ghost use Rattle.manual.specs.Configuration.{frameBytes, entryFrames};
+ghost use Prim.Native.Nat.{_≤_};
+ghost use Rattle.manual.specs.Configuration.{mostPlaces, mostFrame, mostPayload, frameBytes, entryFrames};
 ghost use Rattle.manual.specs.State.{lent};
 ghost use Rattle.manual.specs.Memory.{entriesOf};
 ghost use Rattle.manual.specs.Answers.{alone, firstThatApplies, ofStatus, leaves};
@@ -24,7 +27,8 @@ ghost use Rattle.manual.specs.Missing.{missingRead};
 ghost use Rattle.judgement.specs.Checks.{checkNumber};
 ghost use Rattle.memory.specs.Fits.{EntriesFit};
 ghost use Rattle.memory.specs.Places.{placeOf};
-ghost use Rattle.queries.specs.Reading.{four, tells, tellsMissing, partAt, partOf, says, entryAnswer, frameRead};
+ghost use Rattle.queries.specs.Reading.{four, tells, tellsMissing, partAt, partOf, says, skipped, chosenPart};
+ghost use Rattle.queries.specs.Reading.{entryAnswer, frameRead};
 
 // ---- 2, 3, 4
 
@@ -128,26 +132,47 @@ pub fn read_missing(
 
 // ---- read frame
 
-// Where the frame of the event's entry stands; "10 | event has no memory entry".
-fn frame_of(cfg: &[i32], memory: &[u8], event: EventNumber) -> FrameAnswer
+// Document 02, W6: "first frame, latest frame": the bytes of a payload before the chosen one.
+fn skipped(which: Which, frame_bytes: usize) -> usize
+    ensures { λ r. ⌜ r ≡ skipped which «frame_bytes» ⌝ }
+{
+    match which {
+        Which::First => 0,
+        Which::Latest => frame_bytes,
+    }
+}
+
+// Where the chosen frame of the entry at a place stands.
+fn chosen_part(payload_bytes: usize, frame_bytes: usize, which: Which, place: Place) -> FramePart
+    requires { ⌜ («payload_bytes» ≤ mostPayload) × ((«frame_bytes» ≤ mostFrame) × (place .0 ≤ mostPlaces)) ⌝ }
+    ensures { λ r. ⌜ r ≡ chosenPart «payload_bytes» «frame_bytes» which place ⌝ }
+{
+    FramePart {
+        start: memory::frame_start(payload_bytes, place) + skipped(which, frame_bytes),
+        length: frame_bytes,
+    }
+}
+
+// Where the chosen frame of the event's entry stands; "10 | event has no memory entry".
+fn frame_of(cfg: &[i32], memory: &[u8], event: EventNumber, which: Which) -> FrameAnswer
     requires { ⌜ EntriesFit (entryFrames (now cfg)) (now memory) ⌝ }
     ensures { λ r. ⌜ r
-        ≡ entryAnswer (entryFrames (now (cfg .entry))) (frameBytes (now (cfg .entry)))
+        ≡ entryAnswer (entryFrames (now (cfg .entry))) (frameBytes (now (cfg .entry))) which
         (placeOf (event .0) (entriesOf (entryFrames (now (cfg .entry))) (now (memory .entry)))) ⌝ }
 {
     let frame_bytes = config::frame_bytes(cfg);
     let payload_bytes = memory::entry_frames(cfg);
     let own = memory::place_of(memory, payload_bytes, event);
     match own {
-        Find::At(place) => FrameAnswer::At(FramePart {
-            start: memory::frame_start(payload_bytes, place),
-            length: frame_bytes,
-        }),
+        Find::At(place) => {
+            FrameAnswer::At(chosen_part(payload_bytes, frame_bytes, which, place))
+        }
         Find::Nothing => FrameAnswer::Refused(Refusal::NoEntry),
     }
 }
 
-// Where the event's frame stands in the caller's own memory block; `frame_part` gives the bytes.
+// Where the event's frame, the first or the latest, stands in the caller's own memory block; `frame_part` gives the
+// bytes.
 pub fn read_frame(
     cfg: &[i32],
     records: &[u8],
@@ -155,13 +180,14 @@ pub fn read_frame(
     memory: &[u8],
     board: Board,
     event: EventNumber,
+    which: Which,
 ) -> FrameAnswer
     ensures { λ r. ⌜ says r (lent (now (records .entry)) (now (debounce .entry)) (now (memory .entry)) board)
-        ≡ frameRead (now (cfg .entry)) (event .0)
+        ≡ frameRead (now (cfg .entry)) (event .0) which
         (lent (now (records .entry)) (now (debounce .entry)) (now (memory .entry)) board) ⌝ }
 {
     match judge(cfg, records, debounce, memory, board, event) {
-        Check::Go => frame_of(cfg, memory, event),
+        Check::Go => frame_of(cfg, memory, event, which),
         Check::Stop(refusal) => FrameAnswer::Refused(refusal),
     }
 }

@@ -51,6 +51,11 @@ module _ {A : Type 0} where
       set-split l place x h ∙ sym (append-snoc (take place l) x (drop (suc place) l))
       ∙ ap (λ (k : ℕ). (take place l ++ x ∷ []) ++ drop k l) (sym n)
 
+  -- over a list that is no longer
+  pub laid-whole : (xs l : List A) → length l ≤ length xs → laid xs l ≡ xs
+  unfolding laid
+  laid-whole xs l h = ap (λ (r : List A). xs ++ r) (drop-of-length-le l h) ∙ append-nil xs
+
   -- the front as it stands
   pub laid-front : (l : List A) (n : ℕ) → n ≤ length l → laid (take n l) l ≡ l
   unfolding laid

@@ -1,6 +1,6 @@
 //! One call with its arguments, what it answers, and how the reference takes it.
 
-use crate::reference::{self, Paint, State, Verdict, DONE};
+use crate::reference::{self, Paint, State, Verdict, Which, DONE};
 use std::fmt;
 
 #[derive(Clone, PartialEq, Eq, Debug)]
@@ -29,8 +29,10 @@ pub enum Call {
     ReadStatus {
         event: usize,
     },
+    /// Which frame as C has it: 0 the first, anything else the latest.
     ReadFrame {
         event: usize,
+        which: u32,
     },
     /// The room by its length.
     Save {
@@ -151,12 +153,13 @@ impl Call {
         }
     }
 
-    /// The call's own numbers: event, cycle, milliseconds or trouble code; and a report's code.
+    /// The call's own numbers: event, cycle, milliseconds or trouble code; and a report's code, or
+    /// which frame is read.
     pub fn numbers(&self) -> (usize, u32) {
         match self {
             Call::Report { event, code, .. } => (*event, *code),
+            Call::ReadFrame { event, which } => (*event, *which),
             Call::ReadStatus { event }
-            | Call::ReadFrame { event }
             | Call::ReadCounter { event }
             | Call::ReadPaint { event }
             | Call::ReadMissing { event, .. } => (*event, 0),
@@ -207,7 +210,10 @@ impl Call {
             Call::Stop { cycle } => nothing(reference::stop(config, state, *cycle)),
             Call::Clear { code } => nothing(reference::clear(config, state, *code)),
             Call::ReadStatus { event } => status(reference::read_status(config, state, *event)),
-            Call::ReadFrame { event } => frame(reference::read_frame(config, state, *event)),
+            Call::ReadFrame { event, which } => {
+                let which = choice(*which);
+                frame(reference::read_frame(config, state, *event, which))
+            }
             Call::Save { .. } => length(reference::save(config, state, room)),
             Call::Restore { image } => nothing(reference::restore(config, state, image)),
             Call::Request { request, .. } => {
@@ -223,6 +229,14 @@ impl Call {
                 missing(reference::read_missing(config, state, *event, *present))
             }
         }
+    }
+}
+
+/// The choice that a flag of C makes.
+pub fn choice(which: u32) -> Which {
+    match which {
+        0 => Which::First,
+        _ => Which::Latest,
     }
 }
 
@@ -337,8 +351,8 @@ impl fmt::Display for Call {
             Call::Tick { ms, frame, .. } => write!(f, "{name} {ms} ms frame {}", hex(frame)),
             Call::Start { cycle } | Call::Stop { cycle } => write!(f, "{name} cycle {cycle}"),
             Call::Clear { code } => write!(f, "{name} code {code}"),
+            Call::ReadFrame { event, which } => write!(f, "{name} event {event} which {which}"),
             Call::ReadStatus { event }
-            | Call::ReadFrame { event }
             | Call::ReadCounter { event }
             | Call::ReadPaint { event }
             | Call::ReadMissing { event, .. } => {

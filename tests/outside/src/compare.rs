@@ -1,6 +1,6 @@
 //! Makes one call on both sides, which are compared in every byte that was lent.
 
-use crate::call::{Call, Outcome, ANSWERS};
+use crate::call::{choice, Call, Outcome, ANSWERS};
 use crate::door::{self, Asked, Program, Way};
 use crate::line::{Expected, Line};
 use crate::random::Random;
@@ -23,10 +23,12 @@ fn as_flags(board: &door::Board) -> reference::Board {
     }
 }
 
-/// The bytes of an event's entry, for a call that reads its frame.
+/// The bytes of the frame in an event's entry, for a call that reads it.
 pub fn stored_frame(config: &[i32], state: &State, call: &Call) -> Vec<u8> {
     match call {
-        Call::ReadFrame { event } => reference::stored_frame(config, state, *event).to_vec(),
+        Call::ReadFrame { event, which } => {
+            reference::stored_frame(config, state, *event, choice(*which)).to_vec()
+        }
         _ => Vec::new(),
     }
 }

@@ -1,7 +1,7 @@
 //! Damage to configurations, states and images: small, near the bounds, or wild.
 
 use crate::random::Random;
-use crate::reference::{Configuration, State, ROW};
+use crate::reference::{Configuration, State, EDITION_1, EDITION_2, ROW};
 
 /// Numbers of the configuration in front of its rows.
 const FRONT: usize = 3;
@@ -197,12 +197,21 @@ fn one_entry(random: &mut Random, config: &Configuration, state: &mut State) {
     }
 }
 
-/// Changes a byte of an image (of its head as often as not), cuts or extends it.
+/// The same bytes under the other edition's number.
+pub fn other_edition(image: &[u8]) -> Vec<u8> {
+    let mut other = image.to_vec();
+    other[1] ^= EDITION_1 ^ EDITION_2;
+    other
+}
+
+/// Changes a byte of an image (of its head as often as not) or its edition, cuts or extends it.
 pub fn image(random: &mut Random, mut image: Vec<u8>) -> Vec<u8> {
     let length = image.len();
-    match random.below(6) {
+    match random.below(8) {
         0 | 1 => one_byte(random, &mut image[..20]),
         2 => one_byte(random, &mut image),
+        5 => image = other_edition(&image),
+        6 => image[1] = random.pick(&[0, 1, 2, 3, 0x80, 0xFF]),
         3 => {
             // The overflow flag.
             image[length - 1] = random.byte();

@@ -4,11 +4,11 @@
 use crate::call::Call;
 use crate::making::NO_CONDITION;
 use crate::reference::{
-    grey_events, Configuration, State, CONFIRMED, FAILED_THIS_CYCLE, KIND_TIME,
-    NOT_COMPLETED_THIS_CYCLE, PENDING, TEST_FAILED, WARNING,
+    grey_events, Configuration, State, CONFIRMED, EDITION_1, EDITION_2, FAILED_THIS_CYCLE,
+    KIND_TIME, NOT_COMPLETED_THIS_CYCLE, PENDING, TEST_FAILED, WARNING,
 };
 
-const NEEDED: [&str; 55] = [
+const NEEDED: [&str; 74] = [
     "an event confirms",
     "an event asks for the indicator",
     "an event fails by a tick",
@@ -20,6 +20,8 @@ const NEEDED: [&str; 55] = [
     "an event ages that still asks for the indicator",
     "an untested run ends where a clean one would age the event",
     "a known entry moves to the end",
+    "a renewed entry's first frame is not its latest",
+    "a first frame stays while the latest changes once more",
     "an occurrence count held at 255",
     "an entry of greater priority number is displaced",
     "an entry of equal priority number is displaced",
@@ -40,6 +42,7 @@ const NEEDED: [&str; 55] = [
     "a reply with events",
     "a reply with counters",
     "a reply with a frame",
+    "a reply with two frames that differ",
     "a reply with details",
     "a reply of an event without an entry",
     "an event with an entry does not fit the room",
@@ -52,6 +55,22 @@ const NEEDED: [&str; 55] = [
     "some events are listed as grey, and some are not",
     "no event is listed as grey",
     "a table with bits in two cycles",
+    "a first frame is read that is not the latest",
+    "a latest frame is read that is not the first",
+    "a latest frame is read by a flag above 1",
+    "a restore of edition 1 with frames",
+    "a restore of edition 2 with frames that differ",
+    "a restore of edition 1 without frames",
+    "a restore of edition 2 without frames",
+    "edition 1 with entries of two frames is refused",
+    "edition 2 with entries of one frame is refused",
+    "edition 1 is refused, damaged",
+    "edition 2 is refused, damaged",
+    "edition 1 is refused, cut",
+    "edition 2 is refused, cut",
+    "edition 1 is refused, with bytes behind it",
+    "edition 2 is refused, with bytes behind it",
+    "an image of no edition is refused",
     "a restore with entries",
     "a restore with overflow",
     "a report is refused for its conditions",
@@ -65,6 +84,32 @@ const NEEDED: [&str; 55] = [
     "one of the needed conditions is missing",
     "several of the needed conditions are missing",
 ];
+
+/// Of an image of this edition: the frames of an entry, and what a refusal shows where the image is as
+/// long as it should be, as long as one of the other edition, shorter, or longer.
+fn refused_as(edition: &u8) -> Option<(usize, [&'static str; 4])> {
+    match *edition {
+        EDITION_1 => Some((
+            1,
+            [
+                "edition 1 is refused, damaged",
+                "edition 1 with entries of two frames is refused",
+                "edition 1 is refused, cut",
+                "edition 1 is refused, with bytes behind it",
+            ],
+        )),
+        EDITION_2 => Some((
+            2,
+            [
+                "edition 2 is refused, damaged",
+                "edition 2 with entries of one frame is refused",
+                "edition 2 is refused, cut",
+                "edition 2 is refused, with bytes behind it",
+            ],
+        )),
+        _ => None,
+    }
+}
 
 /// So many trouble codes are many: four halvings or more leave one of them.
 const MANY: usize = 16;
@@ -109,8 +154,7 @@ impl Happenings {
             Call::Report { event, present, .. } => {
                 self.failures(before, after, false);
                 self.storing(config, *event, before, after);
-                let just = *present != 0 && *present == config.row(*event).needed as u32;
-                self.met("a report counts with what it needs and no more", just);
+                self.reports(config, *event, *present);
             }
             Call::Tick { ms, present, .. } => {
                 self.failures(before, after, true);
@@ -120,20 +164,26 @@ impl Happenings {
             }
             Call::Stop { .. } => self.stops(config, before, after),
             Call::Clear { code } => self.clears(config, *code, before, after),
-            Call::Request { request, room: 3.. } => self.replies(request, room, before == after),
+            Call::Request { request, room: 3.. } => {
+                self.replies(request, room, before == after);
+                self.two_frames(config, request, room);
+            }
+            Call::ReadFrame { event, which } => self.reads(config, *event, *which, after),
             Call::ReadPaint { event } => self.paints(config, *event, after),
             Call::ReadMissing { event, present } => self.missed(config, *event, *present),
             Call::ListGrey { .. } => self.lists(config, after),
             Call::ReadTable => self.tables(room),
-            Call::Restore { .. } => {
-                self.met("a restore with entries", after.memory[0] > 0);
-                self.met("a restore with overflow", after.board.overflow);
-            }
+            Call::Restore { image } => self.restores(config, image, after),
             _ => {}
         }
         if !matches!(call, Call::Tick { .. }) {
             self.forget(before, after);
         }
+    }
+
+    fn reports(&mut self, config: &Configuration, event: usize, present: u32) {
+        let just = present != 0 && present == config.row(event).needed as u32;
+        self.met("a report counts with what it needs and no more", just);
     }
 
     fn lists(&mut self, config: &Configuration, state: &State) {
@@ -262,6 +312,7 @@ impl Happenings {
         }
         let overflow = after.board.overflow && !before.board.overflow;
         self.met("overflow", overflow);
+        self.renewal(config, event, before, after);
         let (old, new) = (entries(config, before), entries(config, after));
         if let Some((_, count)) = old.iter().find(|(known, _)| *known == event) {
             let was_last = old.last().is_some_and(|(last, _)| *last == event);
@@ -275,6 +326,80 @@ impl Happenings {
             self.met("an entry of greater priority number is displaced", greater);
             self.met("an entry of equal priority number is displaced", equal);
         }
+    }
+
+    /// A fresh failure of an event that had an entry.
+    fn renewal(&mut self, config: &Configuration, event: usize, before: &State, after: &State) {
+        let Some((was_first, was_latest)) = frames_of(config, before, event) else {
+            return;
+        };
+        let Some((first, latest)) = frames_of(config, after, event) else {
+            return;
+        };
+        let differ = first != latest;
+        self.met("a renewed entry's first frame is not its latest", differ);
+        let again = was_first != was_latest && first == was_first && latest != was_latest;
+        self.met(
+            "a first frame stays while the latest changes once more",
+            again && differ,
+        );
+    }
+
+    fn reads(&mut self, config: &Configuration, event: usize, which: u32, state: &State) {
+        let frames = frames_of(config, state, event);
+        let differ = frames.is_some_and(|(first, latest)| first != latest);
+        let first = which == 0;
+        self.met(
+            "a first frame is read that is not the latest",
+            differ && first,
+        );
+        self.met(
+            "a latest frame is read that is not the first",
+            differ && !first,
+        );
+        let above = differ && which > 1;
+        self.met("a latest frame is read by a flag above 1", above);
+    }
+
+    /// An image that was accepted.
+    fn restores(&mut self, config: &Configuration, image: &[u8], after: &State) {
+        self.met("a restore with entries", after.memory[0] > 0);
+        self.met("a restore with overflow", after.board.overflow);
+        let some = after.memory[0] > 0;
+        let with_frames = some && config.frame > 0;
+        let (one, two) = (image[1] == EDITION_1, image[1] == EDITION_2);
+        self.met("a restore of edition 1 with frames", one && with_frames);
+        let differ = (0..config.events)
+            .filter_map(|event| frames_of(config, after, event))
+            .any(|(first, latest)| first != latest);
+        self.met(
+            "a restore of edition 2 with frames that differ",
+            two && differ,
+        );
+        let without = some && config.frame == 0;
+        self.met("a restore of edition 1 without frames", one && without);
+        self.met("a restore of edition 2 without frames", two && without);
+    }
+
+    /// Looks at an image that was refused: what its length, by its edition and its number of entries,
+    /// says of it.
+    pub fn spoilt(&mut self, config: &Configuration, image: &[u8]) {
+        let Some((frames, [damaged, of_other, cut, longer])) = image.get(1).and_then(refused_as)
+        else {
+            self.met("an image of no edition is refused", image.len() > 1);
+            return;
+        };
+        let body = 20 + 4 * config.events;
+        let count = image.get(body).map_or(0, |count| usize::from(*count));
+        let length = |frames: usize| body + 1 + count * (3 + frames * config.frame) + 1;
+        let (own, other) = (length(frames), length(3 - frames));
+        let what = match image.len() {
+            found if found == own => damaged,
+            found if found == other => of_other,
+            found if found < own => cut,
+            _ => longer,
+        };
+        self.met(what, true);
     }
 
     fn stops(&mut self, config: &Configuration, before: &State, after: &State) {
@@ -325,6 +450,18 @@ impl Happenings {
         }
     }
 
+    /// 04 with both frames in the room.
+    fn two_frames(&mut self, config: &Configuration, request: &[u8], room: &[u8]) {
+        let shown = matches!(request, [0x19, 0x04, ..]) && room.starts_with(&[0x59, 0x04]);
+        let frames = room.get(7..7 + 2 * config.frame);
+        let differ = frames.is_some_and(|frames| {
+            let (first, latest) = frames.split_at(config.frame);
+            first != latest
+        });
+        let told = shown && room.get(6) == Some(&0x01) && differ;
+        self.met("a reply with two frames that differ", told);
+    }
+
     /// A request of the length that 04 and 06 ask for.
     fn shows_one(&mut self, second: u8, room: &[u8]) {
         if !matches!(second & 0x7F, 0x04 | 0x06) {
@@ -355,6 +492,19 @@ type Pair<'a> = (&'a [u8], &'a [u8]);
 fn pairs<'a>(before: &'a State, after: &'a State) -> impl Iterator<Item = (usize, Pair<'a>)> {
     let was = before.records.chunks_exact(4);
     was.zip(after.records.chunks_exact(4)).enumerate()
+}
+
+/// The first and the latest frame in the entry of an event.
+fn frames_of<'a>(
+    config: &Configuration,
+    state: &'a State,
+    event: usize,
+) -> Option<(&'a [u8], &'a [u8])> {
+    let place = entries(config, state)
+        .iter()
+        .position(|(known, _)| *known == event)?;
+    let from = 1 + place * config.entry() + 3;
+    Some(state.memory[from..from + 2 * config.frame].split_at(config.frame))
 }
 
 /// The event number and occurrence count of each entry.

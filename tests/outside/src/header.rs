@@ -182,9 +182,9 @@ fn numbers() -> Vec<String> {
 }
 
 fn sizes(n: usize, m: usize, f: usize) -> [String; 7] {
-    let memory = 1 + m * (3 + f);
+    let memory = 1 + m * (3 + 2 * f);
     let image = 20 + 4 * n + memory + 1;
-    let reply = (3 + 4 * n).max(7 + f).max(11);
+    let reply = (3 + 4 * n).max(7 + 2 * f).max(11);
     [
         format!("GRELPICADO_CONFIG_NUMBERS({n}) {}", 3 + r::ROW * n),
         format!("GRELPICADO_RECORDS_BYTES({n}) {}", 4 * n),
@@ -196,8 +196,8 @@ fn sizes(n: usize, m: usize, f: usize) -> [String; 7] {
     ]
 }
 
-const NAMED: [(&str, u32); 64] = [
-    ("HEADER_VERSION", 3000),
+const NAMED: [(&str, u32); 66] = [
+    ("HEADER_VERSION", 4000),
     ("MAX_EVENTS", 512),
     ("MAX_PLACES", 64),
     ("MAX_FRAME", 32),
@@ -257,6 +257,8 @@ const NAMED: [(&str, u32); 64] = [
     ("PAINT_GREY", 0),
     ("PAINT_RED", 1),
     ("PAINT_LIVE", 2),
+    ("FIRST", 0),
+    ("LATEST", 1),
     ("ALL_CODES", r::ALL_CODES),
     ("CAN_REFUSED", 13),
     ("CAN_LONGEST", 4095),

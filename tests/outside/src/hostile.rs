@@ -6,7 +6,7 @@ use crate::damage;
 use crate::door::{self, Program};
 use crate::making;
 use crate::random::Random;
-use crate::reference::{self, Board, Configuration, State, ALL_CODES};
+use crate::reference::{self, Board, Configuration, State, ALL_CODES, EDITION_2};
 use crate::tally::Tally;
 
 /// The test fails when some answer of the documents' table was not given in so many calls.
@@ -151,7 +151,10 @@ fn reading(random: &mut Random, config: &Configuration, which: usize) -> Call {
     let event = event(random, config);
     match which {
         6 => Call::ReadStatus { event },
-        7 => Call::ReadFrame { event },
+        7 => {
+            let which = random.pick(&[0, 0, 1, 1, 2, 0xFF, 0x100, u32::MAX]);
+            Call::ReadFrame { event, which }
+        }
         11 => Call::ReadCounter { event },
         13 => Call::ReadPaint { event },
         _ => {
@@ -248,7 +251,7 @@ fn frame(random: &mut Random, config: &Configuration) -> Vec<u8> {
 }
 
 fn image_room(random: &mut Random, config: &Configuration, state: &State) -> usize {
-    let exact = making::image(config, state).len();
+    let exact = making::image(config, EDITION_2, state).len();
     let any = random.below(exact);
     random.pick(&[
         exact,
@@ -268,8 +271,8 @@ fn reply_room(random: &mut Random, config: &Configuration) -> usize {
     let some = 3 + 4 * random.below(n + 1);
     let all = 3 + 4 * n;
     let small = random.below(9);
-    // What shows one event takes 6 bytes, or 7 + F with its frame, or 11.
-    let one = random.pick(&[6, 7 + config.frame, 11]);
+    // What shows one event takes 6 bytes, or 7 + 2F with its frames, or 11.
+    let one = random.pick(&[6, 7 + 2 * config.frame, 7 + config.frame, 11]);
     let just = one - random.below(2);
     random.pick(&[
         all,
@@ -293,26 +296,27 @@ fn list(random: &mut Random, config: &Configuration, state: &State) -> usize {
     random.pick(&[exact, exact, short, exact + 1, config.events, any, 0])
 }
 
-/// The image of some state of stopped cycles, whole or damaged, or no image at all.
+/// The image of some state of stopped cycles, of either edition, whole or damaged, or no image at all.
 fn image(random: &mut Random, config: &Configuration) -> Vec<u8> {
     let board = Board {
         running: [false; 4],
         overflow: random.one_in(2),
     };
     let mut state = making::state(random, config, board);
+    let edition = making::edition(random);
     match random.below(10) {
-        0..3 => making::image(config, &state),
+        0..3 => making::image(config, edition, &state),
         3..5 => {
             // A right head over bodies that need not be well formed.
             damage::state(random, config, &mut state);
-            making::image(config, &state)
+            making::image(config, edition, &state)
         }
-        5..8 => damage::image(random, making::image(config, &state)),
+        5..8 => damage::image(random, making::image(config, edition, &state)),
         8 => {
             let numbers = making::configuration(random);
             let other = Configuration::judge(&numbers).expect("made to be right");
             let state = making::state(random, &other, board);
-            making::image(&other, &state)
+            making::image(&other, edition, &state)
         }
         _ => {
             let length = random.pick(&[0, 1, 19, 20, 26, 30, 100]);

@@ -21,7 +21,7 @@ pub struct Expected {
     pub board: Board,
     pub after: State,
     pub room: Vec<u8>,
-    /// The bytes of the event's entry, for a call that reads its frame.
+    /// The bytes of the frame in the event's entry, for a call that reads it.
     pub frame: Vec<u8>,
 }
 

@@ -2,8 +2,8 @@
 
 use crate::random::Random;
 use crate::reference::{
-    image_head, Board, Configuration, Row, State, ALL_PRESENT, CONDITIONS, CONFIRMED,
-    FAILED_SINCE_CLEAR, FAILED_THIS_CYCLE, FRESH_STATUS, KIND_COUNTER, KIND_INTERNAL,
+    image_head, Board, Configuration, Row, State, ALL_PRESENT, CONDITIONS, CONFIRMED, EDITION_1,
+    EDITION_2, FAILED_SINCE_CLEAR, FAILED_THIS_CYCLE, FRESH_STATUS, KIND_COUNTER, KIND_INTERNAL,
     NOT_COMPLETED_SINCE_CLEAR, NOT_COMPLETED_THIS_CYCLE, PENDING, TEST_FAILED, WARNING,
 };
 
@@ -231,6 +231,10 @@ fn fill_memory(random: &mut Random, config: &Configuration, state: &mut State) {
         let count = random.pick(&[1, 2, 3, 254, 255]);
         entry[..3].copy_from_slice(&[(event >> 8) as u8, event as u8, count]);
         entry[3..].fill_with(|| random.byte());
+        // Some failed once only: both frames are the same.
+        if random.one_in(3) {
+            entry.copy_within(3..3 + config.frame, 3 + config.frame);
+        }
     }
     state.memory[0] = wanted as u8;
 }
@@ -245,15 +249,38 @@ pub fn junk(random: &mut Random, config: &Configuration) -> State {
     }
 }
 
-/// The image that a state's bytes make, well formed or not: the first byte of
-/// memory says how many entries it holds, and zeros stand for missing ones.
-pub fn image(config: &Configuration, state: &State) -> Vec<u8> {
-    let count = usize::from(state.memory.first().copied().unwrap_or(0));
-    let mut image = image_head(config, count).to_vec();
+pub fn edition(random: &mut Random) -> u8 {
+    random.pick(&[EDITION_1, EDITION_2])
+}
+
+/// The image of this edition that a state's bytes make, well formed or not: the
+/// first byte of memory says how many entries it holds, and zeros stand for missing
+/// ones. Of edition 1 it has the first frames alone.
+pub fn image(config: &Configuration, edition: u8, state: &State) -> Vec<u8> {
+    let count = state.memory.first().copied().unwrap_or(0);
+    let mut entries = state.memory.get(1..).unwrap_or_default().to_vec();
+    entries.resize(usize::from(count) * config.entry(), 0);
+    let width = config.entry_of(edition).expect("an edition");
+    let mut memory = vec![count];
+    for entry in entries.chunks_exact(config.entry()) {
+        memory.extend(&entry[..width]);
+    }
+    let mut image = image_head(config, edition, memory.len()).to_vec();
     image.extend(&state.records);
-    let mut memory = state.memory.clone();
-    memory.resize(1 + count * config.entry(), 0);
     image.extend(memory);
     image.push(u8::from(state.board.overflow));
     image
+}
+
+/// The state that an image of edition 1 of this state tells: each entry's one frame is both.
+pub fn told_by_edition_1(config: &Configuration, state: &State) -> State {
+    let mut told = state.clone();
+    let entries = usize::from(state.memory[0]);
+    for entry in told.memory[1..]
+        .chunks_exact_mut(config.entry())
+        .take(entries)
+    {
+        entry.copy_within(3..3 + config.frame, 3 + config.frame);
+    }
+    told
 }

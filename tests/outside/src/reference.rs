@@ -54,11 +54,22 @@ pub const JUMP_DOWN: i32 = 2;
 /// The image's two bytes in front and three rows of 6.
 const IMAGE_HEAD: usize = 20;
 
+/// The editions of an image: entries of one frame, and of two.
+pub const EDITION_1: u8 = 1;
+pub const EDITION_2: u8 = 2;
+
 #[derive(Clone, Copy, PartialEq, Eq, Debug)]
 pub enum Verdict {
     None,
     Passed,
     Failed,
+}
+
+/// Document 02: "Reading a frame takes a choice of which".
+#[derive(Clone, Copy, PartialEq, Eq, Debug)]
+pub enum Which {
+    First,
+    Latest,
 }
 
 /// "Which of the four cycles run, and an overflow flag."
@@ -256,9 +267,18 @@ impl<'a> Configuration<'a> {
         self.rows.iter().map(Row::read)
     }
 
-    /// Bytes of an entry: event number 2, occurrence count 1, frame F.
+    /// Bytes of an entry: event number 2, occurrence count 1, first frame F, latest frame F.
     pub fn entry(&self) -> usize {
-        3 + self.frame
+        3 + 2 * self.frame
+    }
+
+    /// Bytes of an entry in an image of edition 1 or 2; none for an edition that there is not.
+    pub fn entry_of(&self, edition: u8) -> Option<usize> {
+        match edition {
+            EDITION_1 => Some(3 + self.frame),
+            EDITION_2 => Some(self.entry()),
+            _ => None,
+        }
     }
 
     pub fn memory(&self) -> usize {
@@ -340,13 +360,14 @@ fn memory_well_formed(config: &Configuration, state: &State) -> bool {
         return false;
     }
     let (used, after) = state.memory[1..].split_at(entries * config.entry());
-    entries_well_formed(config, used, &state.records) && after.iter().all(|byte| *byte == 0)
+    entries_well_formed(config, config.entry(), used, &state.records)
+        && after.iter().all(|byte| *byte == 0)
 }
 
 /// "Event numbers below n and no two equal, occurrence ≥ 1, each entry's event has bit 5 set."
-fn entries_well_formed(config: &Configuration, used: &[u8], records: &[u8]) -> bool {
+fn entries_well_formed(config: &Configuration, width: usize, used: &[u8], records: &[u8]) -> bool {
     let mut seen = [false; 512];
-    for entry in used.chunks_exact(config.entry()) {
+    for entry in used.chunks_exact(width) {
         let event = event_in(entry);
         if event >= config.events || seen[event] || entry[2] == 0 {
             return false;
@@ -496,8 +517,12 @@ fn fail(config: &Configuration, state: &mut State, event: usize, frame: &[u8]) {
 /// "Fresh failure of e with the lent frame", cases 1 to 4.
 fn store(config: &Configuration, state: &mut State, event: usize, frame: &[u8]) {
     let mut count = 1;
+    let mut first = frame.to_vec();
     if let Some(place) = place_of(config, &state.memory, event) {
-        count = state.memory[at(config, place) + 2].saturating_add(1);
+        let known = &state.memory[at(config, place)..];
+        count = known[2].saturating_add(1);
+        // "A repeat replaces only the latest."
+        first = known[3..3 + config.frame].to_vec();
         take_out(config, &mut state.memory, place);
     } else if usize::from(state.memory[0]) == config.places {
         match victim(config, state, event) {
@@ -511,7 +536,8 @@ fn store(config: &Configuration, state: &mut State, event: usize, frame: &[u8]) 
     let from = at(config, usize::from(state.memory[0]));
     let entry = &mut state.memory[from..from + config.entry()];
     entry[..3].copy_from_slice(&[(event >> 8) as u8, event as u8, count]);
-    entry[3..].copy_from_slice(frame);
+    entry[3..3 + config.frame].copy_from_slice(&first);
+    entry[3 + config.frame..].copy_from_slice(frame);
     state.memory[0] += 1;
 }
 
@@ -835,32 +861,47 @@ pub fn list_grey(config: &[i32], state: &State, list: &mut [u16]) -> Result<usiz
     Ok(grey.len())
 }
 
-/// The frame's start in the memory block, and its length.
-pub fn read_frame(config: &[i32], state: &State, event: usize) -> Result<(usize, usize), u8> {
+/// The start of the frame asked for in the memory block, and its length.
+pub fn read_frame(
+    config: &[i32],
+    state: &State,
+    event: usize,
+    which: Which,
+) -> Result<(usize, usize), u8> {
     let config = judge(config, state)?;
     if event >= config.events {
         return Err(NO_SUCH);
     }
-    match place_of(&config, &state.memory, event) {
-        Some(place) => Ok((at(&config, place) + 3, config.frame)),
-        None => Err(NO_ENTRY),
-    }
+    let place = place_of(&config, &state.memory, event).ok_or(NO_ENTRY)?;
+    let first = at(&config, place) + 3;
+    let start = match which {
+        Which::First => first,
+        Which::Latest => first + config.frame,
+    };
+    Ok((start, config.frame))
 }
 
-/// The stored frame's bytes, by the event's entry and not by a place; empty where the call is refused.
-pub fn stored_frame<'a>(config: &[i32], state: &'a State, event: usize) -> &'a [u8] {
+/// The bytes of the frame asked for, by the event's entry and not by a place; empty where the call is
+/// refused.
+pub fn stored_frame<'a>(config: &[i32], state: &'a State, event: usize, which: Which) -> &'a [u8] {
     let Ok(config) = judge(config, state) else {
         return &[];
     };
     let own = entries(&config, &state.memory).find(|entry| event_in(entry) == event);
-    own.map_or(&[], |entry| &entry[3..])
+    own.map_or(&[], |entry| {
+        let (first, latest) = entry[3..].split_at(config.frame);
+        match which {
+            Which::First => first,
+            Which::Latest => latest,
+        }
+    })
 }
 
-/// The image's bytes before its bodies, for this many entries.
-pub fn image_head(config: &Configuration, entries: usize) -> [u8; IMAGE_HEAD] {
+/// The bytes before the bodies of an image of this edition, whose second body is so long.
+pub fn image_head(config: &Configuration, edition: u8, memory: usize) -> [u8; IMAGE_HEAD] {
     let mut head = [0; IMAGE_HEAD];
-    head[..2].copy_from_slice(&[3, 1]);
-    let lengths = [4 * config.events, 1 + entries * config.entry(), 1];
+    head[..2].copy_from_slice(&[3, edition]);
+    let lengths = [4 * config.events, memory, 1];
     let mut offset = IMAGE_HEAD;
     for (body, length) in lengths.into_iter().enumerate() {
         let row = &mut head[2 + 6 * body..8 + 6 * body];
@@ -878,14 +919,14 @@ pub fn save(config: &[i32], state: &State, room: &mut [u8]) -> Result<usize, u8>
     if state.board.running.contains(&true) {
         return Err(WRONG_CYCLE_STATE);
     }
-    let count = usize::from(state.memory[0]);
-    let used = at(&config, count);
+    let used = at(&config, usize::from(state.memory[0]));
     let memory_from = IMAGE_HEAD + state.records.len();
     let overflow_at = memory_from + used;
     if room.len() < overflow_at + 1 {
         return Err(ROOM_TOO_SMALL);
     }
-    room[..IMAGE_HEAD].copy_from_slice(&image_head(&config, count));
+    // "Saving always writes edition 2"
+    room[..IMAGE_HEAD].copy_from_slice(&image_head(&config, EDITION_2, used));
     room[IMAGE_HEAD..memory_from].copy_from_slice(&state.records);
     room[memory_from..overflow_at].copy_from_slice(&state.memory[..used]);
     room[overflow_at] = u8::from(state.board.overflow);
@@ -894,28 +935,51 @@ pub fn save(config: &[i32], state: &State, room: &mut [u8]) -> Result<usize, u8>
 
 pub fn restore(config: &[i32], state: &mut State, image: &[u8]) -> Result<(), u8> {
     let config = judge_lengths(config, state)?;
-    let (records, memory, overflow) = bodies(&config, image).ok_or(BAD_IMAGE)?;
-    state.records.copy_from_slice(records);
+    let bodies = bodies(&config, image).ok_or(BAD_IMAGE)?;
+    state.records.copy_from_slice(bodies.records);
     state.debounce.fill(0);
-    state.memory[..memory.len()].copy_from_slice(memory);
-    state.memory[memory.len()..].fill(0);
+    state.memory.fill(0);
+    state.memory[0] = bodies.memory[0];
+    let saved = bodies.memory[1..].chunks_exact(bodies.width);
+    let places = state.memory[1..].chunks_exact_mut(config.entry());
+    for (entry, saved) in places.zip(saved) {
+        // "its one frame becoming both": in edition 1 the first and the last F bytes are the same.
+        let first = &saved[3..3 + config.frame];
+        let latest = &saved[saved.len() - config.frame..];
+        entry[..3].copy_from_slice(&saved[..3]);
+        entry[3..3 + config.frame].copy_from_slice(first);
+        entry[3 + config.frame..].copy_from_slice(latest);
+    }
     state.board = Board {
         running: [false; 4],
-        overflow,
+        overflow: bodies.overflow,
     };
     Ok(())
 }
 
-/// The three bodies of an image of a well-formed state with all cycles
-/// stopped; none for anything else.
-fn bodies<'a>(config: &Configuration, image: &'a [u8]) -> Option<(&'a [u8], &'a [u8], bool)> {
+/// The bodies of an acceptable image.
+struct Bodies<'a> {
+    records: &'a [u8],
+    /// The entry count and the entries.
+    memory: &'a [u8],
+    /// Bytes of an entry.
+    width: usize,
+    overflow: bool,
+}
+
+/// The bodies of an image, of either edition, of a well-formed state with all
+/// cycles stopped; none for anything else.
+fn bodies<'a>(config: &Configuration, image: &'a [u8]) -> Option<Bodies<'a>> {
     let (head, rest) = image.split_at_checked(IMAGE_HEAD)?;
+    let edition = head[1];
+    let width = config.entry_of(edition)?;
     let (records, rest) = rest.split_at_checked(4 * config.events)?;
     let count = usize::from(*rest.first()?);
-    if count > config.places || head != image_head(config, count) {
+    let length = 1 + count * width;
+    if count > config.places || head != image_head(config, edition, length) {
         return None;
     }
-    let (memory, rest) = rest.split_at_checked(at(config, count))?;
+    let (memory, rest) = rest.split_at_checked(length)?;
     let overflow = match rest {
         [0] => false,
         [1] => true,
@@ -923,8 +987,13 @@ fn bodies<'a>(config: &Configuration, image: &'a [u8]) -> Option<(&'a [u8], &'a 
     };
     let mut rows = config.rows().zip(records.as_chunks::<4>().0);
     let fits = rows.all(|(row, record)| record_well_formed(&row, record))
-        && entries_well_formed(config, &memory[1..], records);
-    fits.then_some((records, memory, overflow))
+        && entries_well_formed(config, width, &memory[1..], records);
+    fits.then_some(Bodies {
+        records,
+        memory,
+        width,
+        overflow,
+    })
 }
 
 // Three things are called 14.
@@ -1044,7 +1113,7 @@ fn near(config: &Configuration, state: &State, room: &mut [u8]) -> Result<usize,
     send(&reply, false, room)
 }
 
-/// Document 02: what 04 and 06 tell of the event of a code, its frame or its details.
+/// Document 02: what 04 and 06 tell of the event of a code, its frames or its details.
 fn about_one(
     config: &Configuration,
     state: &State,
@@ -1066,6 +1135,7 @@ fn about_one(
     if let Some(entry) = entries(config, &state.memory).find(|entry| event_in(entry) == event) {
         reply.push(0x01);
         match sub_function {
+            // The first frame, then the latest.
             0x04 => reply.extend(&entry[3..]),
             _ => reply.extend([entry[2], k, h, g]),
         }

@@ -3,13 +3,15 @@
 
 use crate::call::{Call, Outcome};
 use crate::compare::{as_bytes, Comparison};
+use crate::damage;
 use crate::door::Program;
 use crate::happenings::Happenings;
 use crate::making;
 use crate::random::Random;
 use crate::reference::{
-    grey_events, Board, Configuration, State, ALL_CODES, ALL_PRESENT, DONE, FAILED, KIND_INTERNAL,
-    KIND_TIME, MISSING_CONDITION, NO_SUCH, PASSED, PRE_FAILED, PRE_PASSED,
+    grey_events, Board, Configuration, State, ALL_CODES, ALL_PRESENT, BAD_IMAGE, DONE, EDITION_1,
+    EDITION_2, FAILED, KIND_INTERNAL, KIND_TIME, MISSING_CONDITION, NO_SUCH, PASSED, PRE_FAILED,
+    PRE_PASSED,
 };
 use crate::tally::Tally;
 
@@ -119,25 +121,54 @@ impl Story<'_> {
         match (outcome.number, &call) {
             (NO_SUCH, Call::Clear { code }) => self.happenings.unknown(&self.config, *code),
             (MISSING_CONDITION, Call::Report { present, .. }) => self.happenings.switched(*present),
+            (BAD_IMAGE, Call::Restore { image }) => self.happenings.spoilt(&self.config, image),
             _ => {}
         }
         Some(outcome)
     }
 
-    /// Restores the image of a random well-formed state.
+    /// Restores an image, of either edition, of a random well-formed state; sometimes first its bytes
+    /// under the other's number, or damaged.
     fn take_over(&mut self) -> Option<()> {
         let board = Board {
             running: [false; 4],
             overflow: self.random.one_in(2),
         };
         let other = making::state(self.random, &self.config, board);
-        let image = making::image(&self.config, &other);
+        let edition = making::edition(self.random);
+        let image = making::image(&self.config, edition, &other);
+        if self.random.one_in(3) {
+            let spoilt = match self.random.one_in(2) {
+                true => damage::other_edition(&image),
+                false => damage::image(self.random, image.clone()),
+            };
+            self.call(Call::Restore { image: spoilt })?;
+        }
         self.call(Call::Restore { image })?;
-        if self.state != other {
+        let told = match edition {
+            EDITION_1 => making::told_by_edition_1(&self.config, &other),
+            _ => other,
+        };
+        if self.state != told {
             let text = "the state restored is not the state of the image";
             self.both.tally.differ(text.to_string());
         }
+        if edition == EDITION_1 {
+            self.save_as_edition_2()?;
+        }
         Some(())
+    }
+
+    /// "Saving always writes edition 2", and that one restored is the same state.
+    fn save_as_edition_2(&mut self) -> Option<()> {
+        let image = making::image(&self.config, EDITION_2, &self.state);
+        let room = image.len();
+        self.call(Call::Save { room })?;
+        if self.both.room() != image {
+            let text = "an edition 1 image restored and saved is not the edition 2 image";
+            self.both.tally.differ(text.to_string());
+        }
+        self.bring_back(image)
     }
 
     fn step(&mut self) -> Option<()> {
@@ -152,7 +183,7 @@ impl Story<'_> {
             82..86 => return self.save(),
             86..87 => return self.missing(),
             87..88 => self.call(Call::ReadStatus { event }),
-            88..90 => self.call(Call::ReadFrame { event }),
+            88..90 => return self.frame_of(),
             90..92 => self.call(Call::ReadCounter { event }),
             92..93 => self.call(Call::ReadTable),
             93..95 => self.call(Call::ReadPaint { event }),
@@ -231,6 +262,17 @@ impl Story<'_> {
             true => making::present(self.random, self.config.row(event).needed),
             false => ALL_PRESENT,
         }
+    }
+
+    /// Reads a frame, mostly of an event that this story is about; any byte but 0 is the latest.
+    fn frame_of(&mut self) -> Option<()> {
+        let event = match self.random.one_in(4) {
+            true => self.random.below(self.config.events + 1),
+            false => self.event(),
+        };
+        let which = self.random.pick(&[0, 0, 1, 1, 2, 0x100]);
+        self.call(Call::ReadFrame { event, which })?;
+        Some(())
     }
 
     fn missing(&mut self) -> Option<()> {
@@ -314,9 +356,9 @@ impl Story<'_> {
     fn reply_room(&mut self) -> usize {
         let whole = 3 + 4 * self.config.events;
         let some = 3 + 4 * self.random.below(self.config.events + 1);
-        let frame = 7 + self.config.frame;
+        let frames = 7 + 2 * self.config.frame;
         let lists = [whole, whole, whole + 9, some, some + 1];
-        let shows = [frame, frame - 1, 11, 10, 6, 5, 3, 2];
+        let shows = [frames, frames, frames - 1, 11, 10, 6, 5, 3, 2];
         match self.random.below(lists.len() + shows.len()) < lists.len() {
             true => self.random.pick(&lists),
             false => self.random.pick(&shows),
@@ -341,7 +383,7 @@ impl Story<'_> {
                 }
             }
         }
-        let exact = making::image(&self.config, &self.state).len();
+        let exact = making::image(&self.config, EDITION_2, &self.state).len();
         let room = self.random.pick(&[exact, exact, exact + 7, exact - 1]);
         let saved = self.call(Call::Save { room })?;
         if saved.number == DONE {

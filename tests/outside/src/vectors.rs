@@ -336,7 +336,10 @@ fn changing(words: &[&str]) -> Option<Call> {
 fn reading(words: &[&str]) -> Option<Call> {
     Some(match *words {
         ["read_status", event] => read(event, |event| Call::ReadStatus { event }),
-        ["read_frame", event] => read(event, |event| Call::ReadFrame { event }),
+        ["read_frame", event, ref rest @ ..] => Call::ReadFrame {
+            event: number(event),
+            which: which_of(rest),
+        },
         ["read_counter", event] => read(event, |event| Call::ReadCounter { event }),
         ["table"] => Call::ReadTable,
         ["paint", event] => read(event, |event| Call::ReadPaint { event }),
@@ -367,6 +370,15 @@ fn conditions(rest: &[&str]) -> u32 {
             number(set.unwrap_or_else(|| panic!("{word} tells no conditions")))
         }
         _ => panic!("{rest:?} is more than the conditions"),
+    }
+}
+
+/// `which=0` or `which=1`: first or latest; without the word first.
+fn which_of(rest: &[&str]) -> u32 {
+    match rest {
+        [] | ["which=0"] => 0,
+        ["which=1"] => 1,
+        _ => panic!("{rest:?} is no choice of a frame"),
     }
 }
 

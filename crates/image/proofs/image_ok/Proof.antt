@@ -1,102 +1,45 @@
--- `image_ok` meets its contract: past the test of the length each part that is judged lies in the image.
-use mathlib.Core.Path.{_≡_, sym, _∙_}
-use mathlib.Core.Bool.{true}
-use Prim.Native.Nat.{_+_, _≤_}
+-- `image_ok` meets its contract: byte 1 tells the edition.
+use mathlib.Core.Path.{sym}
 use native.Mathlib.Omega.{arith}
 use denote.Ref.{now}
-use lib.ListN.{length}
-use lib.Seq.{length-take-le}
-use borrow.Author.Tests.{not-true, not-false}
-use Rattle.image.specs.Layout.{memoryAt, lengthOk}
-use Rattle.image.proofs.LayoutLaws.{length-least, length-most}
-use Rattle.image.proofs.JudgementLaws.{refused-by-length, judged-right}
+use Rattle.manual.proofs.ConfigurationLaws.{config-tells}
+use Rattle.image.proofs.JudgementLaws.{judged-as-1, judged-as-2, refused-short}
 use borrow.Author.Needs.{needs}
 use Rattle.image.proofs.image_ok.Statement.{statement}
 use Rattle.image.proofs.image_ok.Tie as tie
 
--- past the test of the length
-right : (c : tie.Else1)
-    → lengthOk (now (c .before .before .before .args .cfg)) (now (c .before .before .before .args .image)) ≡ true
-right c = sym (c .before .length-ok .ensures) ∙ not-false _ (c .if1 .left)
-
-least : (c : tie.Else1)
-    → memoryAt (now (c .before .before .before .args .cfg)) + 2 ≤ length (now (c .before .before .before .args .image))
-least c = length-least _ _ (right c)
-
 returns : tie.Need-returns
-returns c = sym (refused-by-length _ _ (sym (c .before .length-ok .ensures) ∙ not-true _ (c .if1 .taken)))
+returns c = sym (refused-short _ (now (c .before .before .args .image)) (c .if1 .taken))
 
-sub-end : tie.Need-sub-end
-sub-end c = omega (arith, least (c .before))
-
-sub-header-2 : tie.Need-sub-header-2
-sub-header-2 c = omega (arith, least (c .before), c .memory-at .ensures)
-
-header-requires : tie.Need-header-requires
-header-requires c κs =
-    omega (
-      arith,
-      least (c .before),
-      length-most _ _ (right (c .before)) (c .before .before .before .before .pre),
-      c .memory-at .ensures,
-    )
-
-slice-aggregate-same-bytes-2 : tie.Need-slice-aggregate-same-bytes-2
-slice-aggregate-same-bytes-2 c =
-    sym
-    (length-take-le 20 (now (c .before .before .before .before .before .before .before .args .image))
-    (omega (arith, least (c .before .before .before .before))))
-
-part-bodies-ok-end : tie.Need-part-bodies-ok-end
-part-bodies-ok-end c =
-    omega
-    (arith, least (c .before .before .before .before .before), c .before .before .before .before .memory-at .ensures)
-
-sub-bodies-ok-2 : tie.Need-sub-bodies-ok-2
-sub-bodies-ok-2 c =
-    omega (
-      arith,
-      least (c .before .before .before .before .before .before),
-      c .before .before .before .before .before .memory-at .ensures,
-    )
-
-part-bodies-ok-start-2 : tie.Need-part-bodies-ok-start-2
-part-bodies-ok-start-2 c =
-    omega (
-      arith,
-      least (c .before .before .before .before .before .before),
-      c .before .before .before .before .before .memory-at .ensures,
-    )
-
-shared-slice-read-result : tie.Need-shared-slice-read-result
-shared-slice-read-result c =
-    let c8 = c .before .before .before .before .before .before .before .before in
-    omega (arith, least (c8 .before))
+image-in-requires : tie.Need-image-in-requires
+image-in-requires c κs =
+    let pre = c .before .before .before .before .before .before .pre in
+    (pre, omega (arith, c .before .before .before .frame-bytes .ensures, config-tells _ pre .F-most))
 
 returns-2 : tie.Need-returns-2
 returns-2 c =
-    let c8 = c .before .before .before .before .before .before .before .before in
-    judged-right _ _ (right (c8 .before))
-    (c8 .memory-at .ensures) (c .before .before .before .before .before .before .before .header .ensures)
-    (c .before .before .before .before .same-bytes .ensures) (c .before .bodies-ok .ensures)
+    judged-as-1 _ (now (c .before .before .before .before .before .before .before .args .image))
+    (c .before .if2 .taken) (c .before .before .before .before .frame-bytes .ensures)
+    (c .image-in .ensures)
+
+image-in-requires-2 : tie.Need-image-in-requires-2
+image-in-requires-2 c κs =
+    let pre = c .before .before .before .before .before .before .pre in
+    (pre, omega (arith, c .before .before .entry-frames .ensures, config-tells _ pre .payload-most))
+
+returns-3 : tie.Need-returns-3
+returns-3 c =
+    judged-as-2 _ (now (c .before .before .before .before .before .before .before .args .image))
+    (c .before .if2 .left) (c .before .before .before .entry-frames .ensures)
+    (c .image-in2 .ensures)
 
 pub image-ok-spec : {M : Type 1} → statement M
 image-ok-spec =
     tie.close
     (tie.spec
-    (λ c κs. search needs)
     returns
-    (λ c κs. search needs)
-    sub-end
-    (λ c. search needs)
-    sub-header-2
-    header-requires
-    (λ c. search needs)
-    slice-aggregate-same-bytes-2
-    (λ c κs. search needs) (λ c. search needs) (λ c. search needs)
-    part-bodies-ok-end
-    sub-bodies-ok-2
-    part-bodies-ok-start-2
-    (λ c. search needs) (λ c κs. search needs)
-    shared-slice-read-result
-    returns-2)
+    (λ c κs. search needs) (λ c κs. search needs) (λ c. search needs)
+    image-in-requires
+    returns-2
+    image-in-requires-2
+    returns-3)

@@ -1,6 +1,6 @@
 use Prim.Native.Nat.{_≤_}
 use native.Mathlib.Omega.{arith}
-use Rattle.manual.specs.WellFormed.{lengthsFit}
+use Rattle.manual.specs.WellFormed.{lengthsFitWith}
 use Rattle.manual.proofs.ConfigurationLaws.{config-tells}
 use Rattle.config.proofs.Tests.{joined-is}
 use borrow.Author.Needs.{needs}
@@ -18,7 +18,7 @@ mul-result c =
     .events .result ≤ 512 = rw (c .before .before .before .events .ensures) (t .n-most) in record { fits = omega arith }
 
 returns : tie.Need-returns
-unfolding lengthsFit
+unfolding lengthsFitWith
 returns c =
     λ b. rw (
       c .memory-length .ensures,

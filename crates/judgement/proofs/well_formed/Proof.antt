@@ -23,7 +23,7 @@ fits c =
 returns : tie.Need-returns
 returns c =
     sym
-    (not-fitting _ _ _ _ _
+    (not-fitting _ _ _ _ _ _
     (sym (c .before .lengths-fit .ensures (c .before .before .before .before .args .board))
     ∙ not-true _ (c .if1 .taken)))
 
@@ -57,7 +57,7 @@ returns-2 c =
     let f = c .before .before .before .entry-frames .ensures in
     (λ i. c .before .before .records-ok .ensures i && c .before .numbers-ok .ensures i
     && (c .memory-ok .ensures ∙ (λ j. blockOk (n j) (m j) (f j) (now (a .records)) (now (a .memory)))) i)
-    ∙ judged-in-passes _ _ _ _ _ (fits (c .before .before .before .before .before .before))
+    ∙ judged-in-passes _ _ _ _ _ _ (fits (c .before .before .before .before .before .before))
 
 pub well-formed-spec : {M : Type 1} → statement M
 well-formed-spec =

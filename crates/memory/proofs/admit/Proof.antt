@@ -4,7 +4,7 @@ use Prim.Native.Nat.{ℕ, _≤_, _<_}
 use native.Mathlib.Omega.{arith}
 use denote.Ref.{now}
 use Rattle.manual.specs.Configuration.{places}
-use Rattle.manual.specs.Memory.{entryCount}
+use Rattle.manual.specs.Memory.{payloadOf, entryCount}
 use Rattle.manual.specs.declared.StoreAnswer.the-variants.{Added}
 use Rattle.memory.specs.Store.{leftWith}
 use Rattle.memory.proofs.StoreLaws.{may-append, may-search, may-displace, appends, displaces, loses}
@@ -27,6 +27,7 @@ append-requires c κs =
     may-append (now (a .cfg)) (now (a .records)) (now (a .memory)) (a .event .0) (now (a .frame)) (pre .0) (pre .1) h
 
 returns : tie.Need-returns
+unfolding payloadOf
 returns c =
     let c8 = c .before .before .before .before .before .before .before .before in
     let a = c8 .before .before .before .args in

@@ -1,3 +1,4 @@
+use Rattle.manual.specs.Memory.{payloadOf}
 use Rattle.memory.specs.Store.{leftWith}
 use Rattle.manual.specs.declared.StoreAnswer.the-variants.{Displaced}
 use borrow.Author.Needs.{needs}
@@ -5,6 +6,7 @@ use Rattle.memory.proofs.displace.Statement.{statement}
 use Rattle.memory.proofs.displace.Tie as tie
 
 returns : tie.Need-returns
+unfolding payloadOf
 returns c =
     λ i. leftWith (c .before .before .replace .ensures i)
     (Displaced (record { 0 = c .before .before .before .before .event-at .ensures i }))

@@ -23,14 +23,14 @@ returns c =
     let s = lent (now (a .records)) (now (a .debounce)) (now (a .memory)) (a .board) in
     ap (λ (r : FrameAnswer). says r s) (c .frame-of .ensures)
     ∙ frame-is (now (a .cfg)) s (a .event .0)
-    (sym (c .before .before .before .judge .ensures) ∙ ap checkNumber (c .before .enum-told .given .1))
+    (sym (c .before .before .before .judge .ensures) ∙ ap checkNumber (c .before .enum-told .given .1)) (a .which)
 
 returns-2 : tie.Need-returns-2
 returns-2 c =
     let a = c .before .before .before .before .before .before .args in
     let s = lent (now (a .records)) (now (a .debounce)) (now (a .memory)) (a .board) in
     frame-refused (now (a .cfg)) s (a .event .0) (c .before .refusal .given .0 .0)
-    (ap checkNumber (sym (c .before .refusal .given .1)) ∙ c .before .before .before .judge .ensures)
+    (ap checkNumber (sym (c .before .refusal .given .1)) ∙ c .before .before .before .judge .ensures) (a .which)
 
 pub read-frame-spec : {M : Type 1} → statement M
 read-frame-spec =
