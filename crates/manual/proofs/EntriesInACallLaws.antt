@@ -111,7 +111,7 @@ module _ (cfg : Configuration) (frame : List ℕ) (k : ℕ) where
       store (places cfg) (priorityOf cfg) (isQuiet cfg (happens cfg failed k u)) k frame (entries cfg u) .entries
 
   module _ (framed : length frame ≡ frameBytes cfg) (below : k < events cfg) where
-    told-entries : (u : State) → MemoryGood cfg u
+    pub told-entries : (u : State) → MemoryGood cfg u
         → entries cfg (memoryTold cfg frame k (happens cfg failed k u)) ≡ toldEntries u
     unfolding memoryTold keeps happens
     told-entries u m =

@@ -21,6 +21,7 @@ pub mod SequencesLaws
 pub mod RecordsFollowHistories
 pub mod EventLoops
 pub mod EntriesInACallLaws
+pub mod CountsLaws
 pub mod RepliesLaws
 pub mod BelowLaws
 pub mod ListedRepliesLaws
@@ -30,6 +31,8 @@ pub mod OneOutcomeOnly
 pub mod StaysWellFormed
 pub mod OnlyTheNamedEntryLeaves
 pub mod OnlyTheNamedEntryLeavesInEveryCall
+pub mod AccountsLaws
+pub mod RiseIsTheEntriesGone
 pub mod RepliesFollowTheSentences
 pub mod NegativeRepliesExactly
 pub mod SuppressedRepliesExactly

@@ -182,7 +182,8 @@ module _ (cfg : Configuration) where
       ∙ simp and-true
 
   -- a start changes no entry
-  start-entries : (c : ℕ) (s : State) → entries cfg (forThose cfg (ofCycle cfg c) (happens cfg start) s) ≡ entries cfg s
+  pub start-entries : (c : ℕ) (s : State)
+      → entries cfg (forThose cfg (ofCycle cfg c) (happens cfg start) s) ≡ entries cfg s
   unfolding forThose happens
   start-entries c s =
       for-below-keeps (λ (t : State). entries cfg t ≡ entries cfg s) _ (events cfg) (events cfg) (le-refl (events cfg))

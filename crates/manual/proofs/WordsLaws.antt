@@ -15,7 +15,8 @@ use lib.Signed.{leZ}
 use borrow.Author.Tests.{eq-eqb, eqb-true}
 use Rattle.history.specs.Words.{anyOf, allOf}
 use Rattle.history.proofs.WordsLaws.{and-left, and-right, both}
-use Rattle.manual.specs.Words.{All, allBelow, forBelow, firstOf, orElse, lowestBelow, those, equal, eqZ, between}
+use Rattle.manual.specs.Words.{All, allBelow, forBelow, firstOf, orElse, lowestBelow, those, countThose, equal}
+use Rattle.manual.specs.Words.{eqZ, between}
 
 -- ---- tests
 
@@ -295,6 +296,18 @@ module _ {A : Type 0} where
   those-all p (x ∷ xs) e =
       let n = neither (p x) (anyOf p xs) e in rw (n .0) (ap (λ (l : List A). x ∷ l) (those-all p xs (n .1)))
 
+-- how many pass
+module _ {A : Type 0} where
+  pub count-append : (p : A → Bool) (xs ys : List A) → countThose p (xs ++ ys) ≡ countThose p xs + countThose p ys
+  unfolding countThose
+  count-append p [] ys = omega arith
+  count-append p (x ∷ xs) ys = omega (arith, count-append p xs ys)
+
+  pub count-all : (xs : List A) → countThose (λ x. true) xs ≡ length xs
+  unfolding countThose
+  count-all [] = refl
+  count-all (x ∷ xs) = omega (arith, count-all xs)
+
 -- one is taken out, one put at the end
 module _ {A : Type 0} (xs older : List A) (v : A) (newer : List A) (s : xs ≡ older ++ v ∷ newer) where
   pub others-in : (x y : A) → List·Memᴰ x xs → (x ≡ v) ⊎ List·Memᴰ x (older ++ newer ++ (y ∷ []))
@@ -305,6 +318,16 @@ module _ {A : Type 0} (xs older : List A) (v : A) (newer : List A) (s : xs ≡ o
 
   pub as-long : (y : A) → length (older ++ newer ++ (y ∷ [])) ≡ length xs
   as-long y = rw s (simp length-append (omega arith))
+
+  pub count-taken : (p : A → Bool) → countThose p (older ++ newer) + cond (p v) 1 0 ≡ countThose p xs
+  unfolding countThose
+  count-taken p =
+      omega (arith, ap (countThose p) s, count-append p older (v ∷ newer), count-append p older newer)
+
+  pub count-swapped : (p : A → Bool) (y : A)
+      → countThose p (older ++ newer ++ (y ∷ [])) + cond (p v) 1 0 ≡ countThose p xs + cond (p y) 1 0
+  unfolding countThose
+  count-swapped p y = omega (arith, count-taken p, count-append p (older ++ newer) (y ∷ []))
 
   pub one-in : List·Memᴰ v xs
   one-in = rw s (Memᴰ·append-right older (List·Memᴰ·head refl))

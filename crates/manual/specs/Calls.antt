@@ -7,7 +7,6 @@ use Prim.Native.Nat.{ℕ, zero, suc}
 use lib.ListN.{length, replicate}
 use lib.IntN.{pos}
 use lib.Dec.{eqb, leb, ltb}
-use Rattle.history.specs.Words.{anyOf}
 use Rattle.history.specs.StatusByte.{freshRecord}
 use Rattle.history.specs.History.{start}
 use Rattle.manual.specs.declared.Board.{Board}
@@ -23,8 +22,9 @@ use Rattle.manual.specs.WellFormed.{lengthsFit, wellFormed, entries}
 use Rattle.manual.specs.Answers.{Beside, Outcome, done, Rule, _if_, judged}
 use Rattle.manual.specs.Debouncing.{Debounced, reported, ticked}
 use Rattle.manual.specs.Conditions.{enabled}
-use Rattle.manual.specs.OneEvent.{happens, qualifies, qualifiesDid, stops, clears, forThose}
-use Rattle.manual.specs.Memory.{Entry, firstFrame, latestFrame, memoryLength, isOf, entryFor}
+use Rattle.manual.specs.OneEvent.{hasEntry, happens, qualifies, qualifiesDid, stops, clears, forThose}
+use Rattle.manual.specs.Memory.{Entry, firstFrame, latestFrame, memoryLength, entryFor}
+use Rattle.manual.specs.Counts.{Happening, ofStore, logThose, stopsLog, clearsLog}
 
 -- the bytes of n fresh records
 unfoldable pub freshRecords : ℕ → List ℕ
@@ -125,6 +125,10 @@ module _ (cfg : Configuration) where
   abbrev pub reportDid : ℕ → ℕ → List ℕ → State → StoreAnswer
   reportDid e code frame s = appliedDid frame e (debouncedBy e code s) s
 
+  -- document 02, W7: what becomes of entries in it
+  unfoldable pub reportLog : ℕ → ℕ → List ℕ → State → List Happening
+  reportLog e code frame s = ofStore e (reportDid e code frame s)
+
   unfoldable pub report : ℕ → ℕ → List ℕ → ℕ → Beside → State → Outcome
   report e code frame present b s = judged (reportRules e code frame present s) b s (reportDone e code frame b s)
 
@@ -148,6 +152,10 @@ module _ (cfg : Configuration) where
   abbrev pub ticksDid : ℕ → List ℕ → ℕ → State → StoreAnswer
   ticksDid ms frame e s = appliedDid frame e (ticked cfg e ms (D s e)) s
 
+  unfoldable pub tickLog : ℕ → List ℕ → ℕ → State → List Happening
+  tickLog ms frame present s =
+      logThose cfg (tickMoves present (s .board)) (ticks ms frame) (λ e u. ofStore e (ticksDid ms frame e u)) s
+
   unfoldable pub tick : ℕ → List ℕ → ℕ → Beside → State → Outcome
   tick ms frame present b s =
       judged (tickRules ms frame s) b s (done b (forThose cfg (tickMoves present (s .board)) (ticks ms frame) s))
@@ -166,6 +174,9 @@ module _ (cfg : Configuration) where
 
   unfoldable pub stopRules : ℕ → State → List Rule
   stopRules c s = begins s true ((4 if noSuchCycle c) ∷ (5 if not (runs (s .board) c)) ∷ [])
+
+  unfoldable pub stopLog : ℕ → State → List Happening
+  stopLog c s = logThose cfg (ofCycle c) (stops cfg) (stopsLog cfg) s
 
   unfoldable pub stopCycle : ℕ → Beside → State → Outcome
   stopCycle c b s = judged (stopRules c s) b s (done b (withCycle c false (forThose cfg (ofCycle c) (stops cfg) s)))
@@ -187,6 +198,9 @@ module _ (cfg : Configuration) where
   unfoldable pub cleared : ℕ → State → State
   cleared code s = overflowCleared code (forThose cfg (covers code) (clears cfg) s)
 
+  unfoldable pub clearLog : ℕ → State → List Happening
+  clearLog code s = logThose cfg (covers code) (clears cfg) (clearsLog cfg) s
+
   unfoldable pub clearRules : ℕ → State → List Rule
   clearRules code s = begins s true ((4 if unknownCode code) ∷ [])
 
@@ -207,7 +221,7 @@ module _ (cfg : Configuration) where
 
   -- "10 | event has no memory entry"
   unfoldable pub readFrameRules : ℕ → State → List Rule
-  readFrameRules e s = begins s true ((4 if noSuchEvent e) ∷ (10 if not (anyOf (isOf e) (entries cfg s))) ∷ [])
+  readFrameRules e s = begins s true ((4 if noSuchEvent e) ∷ (10 if not (hasEntry cfg s e)) ∷ [])
 
   -- "The stored frame is read as a part of the caller's own memory block"
   unfoldable pub readFrame : ℕ → Which → Beside → State → Outcome

@@ -8,6 +8,7 @@ pub mod Conditions
 pub mod OneEvent
 pub mod Memory
 pub mod Displacement
+pub mod Counts
 pub mod Calls
 pub mod Counter
 pub mod Missing

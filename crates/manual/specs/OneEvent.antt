@@ -1,8 +1,9 @@
 -- Document 01, "Status byte" and "Memory": what happens to one event, in the lent blocks. Assumes nothing.
-use mathlib.Core.Bool.{Bool, not, _||_, cond}
+use mathlib.Core.Bool.{Bool, not, _&&_, _||_, cond}
 use mathlib.Core.List.{List}
 use Prim.Native.Nat.{ℕ}
 use lib.IntN.{pos}
+use Rattle.history.specs.Words.{anyOf}
 use Rattle.history.specs.StatusByte.{testFailed, freshFailure, agesAtStop}
 use Rattle.history.specs.History.{Token, passed, failed, stop, clear, step}
 use Rattle.manual.specs.declared.Verdict.{Verdict}
@@ -12,7 +13,7 @@ use Rattle.manual.specs.declared.StoreAnswer.the-variants.{Untold}
 use Rattle.manual.specs.Words.{forBelow}
 use Rattle.manual.specs.Configuration.{Configuration, events, places, entryFrames, priorityOf, limitsOf}
 use Rattle.manual.specs.State.{State, recordOf, withRecord, withD, withMemory, withOverflow}
-use Rattle.manual.specs.Memory.{Entry, memoryOf, without, Kept, isLost, store}
+use Rattle.manual.specs.Memory.{Entry, memoryOf, isOf, without, Kept, isLost, store}
 use Rattle.manual.specs.WellFormed.{entries}
 
 module _ (cfg : Configuration) where
@@ -22,6 +23,13 @@ module _ (cfg : Configuration) where
 
   abbrev pub withEntries : List Entry → State → State
   withEntries xs s = withMemory (memoryOf (places cfg) (entryFrames cfg) xs) s
+
+  -- the event has an entry; it has one before, and none after
+  abbrev pub hasEntry : State → ℕ → Bool
+  hasEntry s e = anyOf (isOf e) (entries cfg s)
+
+  abbrev pub losesEntry : State → State → ℕ → Bool
+  losesEntry before after e = hasEntry before e && not (hasEntry after e)
 
   -- "its entry leaves memory"
   unfoldable pub entryLeaves : ℕ → State → State

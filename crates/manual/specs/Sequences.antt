@@ -19,6 +19,8 @@ use Rattle.manual.specs.Debouncing.{reported, ticked}
 use Rattle.manual.specs.Calls.{freshRules, reportRules, tickRules, startRules, stopRules, clearRules}
 use Rattle.manual.specs.Calls.{readStatusRules, readFrameRules, fresh, report, tick, startCycle, stopCycle}
 use Rattle.manual.specs.Calls.{clearCode, readStatus, readFrame, tickMoves, ofCycle, covers, unknownCode}
+use Rattle.manual.specs.Calls.{reportLog, tickLog, stopLog, clearLog}
+use Rattle.manual.specs.Counts.{Happening}
 use Rattle.manual.specs.Counter.{readCounterRules, readCounter}
 use Rattle.manual.specs.Missing.{readMissingRules, readMissing}
 use Rattle.manual.specs.Untested.{readTableRules, readPaintRules, listGreyRules, readTable, readPaint, listGrey}
@@ -134,6 +136,23 @@ module _ (cfg : Configuration) where
   -- the tokens that a call on state s, with this lent beside it, gives each event
   abbrev pub tokensAt : Call → Beside → State → ℕ → List Token
   tokensAt c b s e = tokens (outcome c b s .answer) c (s .board) e (D s e)
+
+  -- document 02, W7: what becomes of entries in an accepted call, the newest first; a request's is that of the clear
+  -- that it asks for
+  abbrev pub logOf : Call → State → List Happening
+  logOf Fresh s = []
+  logOf (Report k code frame present) s = reportLog cfg k code frame s
+  logOf (Tick ms frame present) s = tickLog cfg ms frame present s
+  logOf (Start c) s = []
+  logOf (Stop c) s = stopLog cfg c s
+  logOf (Clear code) s = clearLog cfg code s
+  logOf (Read q) s = []
+  logOf (Restore image) s = []
+  logOf (Request bytes) s = cond (asksClear bytes) (clearLog cfg (threeAt 1 bytes) s) []
+
+  -- what becomes of them in a call on state s, with this lent beside it: nothing in a refused one
+  abbrev pub logAt : Call → Beside → State → List Happening
+  logAt c b s = cond (eqb (outcome c b s .answer) 0) (logOf c s) []
 
   -- the call neither makes a second fresh state nor restores one
   abbrev pub goesOn : Call → Beside → State → Bool

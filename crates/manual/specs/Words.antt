@@ -53,6 +53,11 @@ module _ {A : Type 0} where
   those p [] = []
   those p (x ∷ l) = cond (p x) (x ∷ those p l) (those p l)
 
+  -- how many pass
+  unfoldable pub countThose : (A → Bool) → List A → ℕ
+  countThose p [] = 0
+  countThose p (x ∷ l) = cond (p x) 1 0 + countThose p l
+
 -- the lowest number below n that passes
 unfoldable pub lowestBelow : ℕ → (ℕ → Bool) → Option ℕ
 lowestBelow zero f = none
