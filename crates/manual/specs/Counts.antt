@@ -8,6 +8,7 @@ use lib.ListN.{length}
 use lib.Dec.{eqb, ltb}
 use Rattle.history.specs.Words.{anyOf}
 use Rattle.history.specs.StatusByte.{agesAtStop}
+use Rattle.manual.specs.declared.Rise.{Rise}
 use Rattle.manual.specs.declared.StoreAnswer.{StoreAnswer}
 use Rattle.manual.specs.declared.StoreAnswer.the-variants.{Untold, Renewed, Added, Displaced, NotStored}
 use Rattle.manual.specs.Words.{forBelow, countThose}
@@ -98,6 +99,10 @@ countOf place log = countThose (λ h. eqb (placeOf h) place) log
 -- "Keep five counts, …: entries admitted, pushed out, aged, cleared, and failures not stored."
 abbrev pub riseOf : List Happening → List ℕ
 riseOf log = countOf 0 log ∷ countOf 1 log ∷ countOf 2 log ∷ countOf 3 log ∷ countOf 4 log ∷ []
+
+-- the same five, as code hands them on
+abbrev pub numbers : Rise → List ℕ
+numbers r = r .admitted ∷ r .«pushed_out» ∷ r .aged ∷ r .cleared ∷ r .«not_stored» ∷ []
 
 -- the counts with a rise
 unfoldable pub raised : List ℕ → List ℕ → List ℕ

@@ -63,6 +63,19 @@ pub enum StoreAnswer {
     NotStored,
 }
 
+// Document 02, W7: "Keep five counts, each 32 bits and lent as a slice of five".
+pub const COUNTS: usize = 5;
+
+// "entries admitted, pushed out, aged, cleared, and failures not stored": five numbers in their order, as what a call
+// adds to the counts.
+pub struct Rise {
+    pub admitted: u32,
+    pub pushed_out: u32,
+    pub aged: u32,
+    pub cleared: u32,
+    pub not_stored: u32,
+}
+
 // Why a call was refused: document 01's numbers 1 to 10 and document 02's 11, in their order.
 pub enum Refusal {
     BadArgument,

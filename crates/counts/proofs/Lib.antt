@@ -1,0 +1,2 @@
+pub mod FiveLaws
+pub mod NearLaws
