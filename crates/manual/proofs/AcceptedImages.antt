@@ -12,14 +12,11 @@ use Rattle.manual.specs.Configuration.{Configuration}
 use Rattle.manual.specs.State.{State}
 use Rattle.manual.specs.Image.{Edition, edition1, edition2, StillWith, Still, imageIn, stateIn}
 use Rattle.manual.specs.Image.{widened, acceptableIn, acceptable, stateOf}
+use Rattle.manual.proofs.WordsLaws.{either}
 use Rattle.manual.proofs.WidenedLaws.{widened-still}
 use Rattle.manual.proofs.ImageLaws as ImageLaws
 
 -- one of two tests
-either : (a b : Bool) → a || b ≡ true → (a ≡ true) ⊎ (b ≡ true)
-either true b e = inl refl
-either false b e = inr e
-
 left-so : (a b : Bool) → a ≡ true → a || b ≡ true
 left-so a b e = rw e
 
