@@ -18,7 +18,7 @@ unfolding holds
 joined-is a [] = rw (and-true a)
 joined-is a (b ∷ bs) = rw (joined-is (a && b) bs, and-assoc a b (holds bs))
 
-holds-both : (xs ys : List Bool) → holds xs && holds ys ≡ holds (xs ++ ys)
+pub holds-both : (xs ys : List Bool) → holds xs && holds ys ≡ holds (xs ++ ys)
 unfolding holds
 holds-both [] ys = refl
 holds-both (x ∷ xs) ys = rw (← and-assoc x (holds xs) (holds ys), holds-both xs ys)

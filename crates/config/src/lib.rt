@@ -3,8 +3,9 @@
 use manual::EventNumber;
 ghost use mathlib.Core.Path.{_≡_};
 ghost use mathlib.Core.Bool.{true};
+ghost use mathlib.Core.List.{[], _∷_};
 ghost use Prim.Native.Nat.{_^_, _*_, _<_};
-ghost use lib.IntN.{pos};
+ghost use lib.IntN.{pos, negsuc};
 ghost use Rattle.history.specs.Words.{holds};
 ghost use Rattle.manual.specs.Words.{allBelow, between, eqZ, natOf};
 ghost use Rattle.manual.specs.Configuration.{mostEvents, numberAt, events, places, frameBytes, entryFrames};
@@ -339,16 +340,37 @@ fn is_zero(cfg: &[i32], event: EventNumber, k: usize) -> bool
     number_within(cfg, event, k) == 0
 }
 
-// The numbers 5 to 9 of a row of kind 0.
-fn internal_ok(cfg: &[i32], event: EventNumber) -> bool
+// The numbers 5 and 6 of a row of kind 0.
+fn unbounded(cfg: &[i32], event: EventNumber) -> bool
     requires { ⌜ RowWithin (now cfg) (event .0) ⌝ }
-    ensures { λ r. ⌜ r ≡ holds (ofKind (pos 0) (now (cfg .entry)) (event .0)) ⌝ }
+    ensures { λ r. ⌜ r
+        ≡ holds
+        (eqZ (column 5 (now (cfg .entry)) (event .0)) (pos 0) ∷ eqZ (column 6 (now (cfg .entry)) (event .0)) (pos 0)
+        ∷ []) ⌝ }
 {
-    is_zero(cfg, event, P)
-        & is_zero(cfg, event, Q)
-        & is_zero(cfg, event, UP)
-        & is_zero(cfg, event, DOWN)
-        & is_zero(cfg, event, JUMPS)
+    is_zero(cfg, event, P) & is_zero(cfg, event, Q)
+}
+
+// The same of kind 2.
+fn bounded(cfg: &[i32], event: EventNumber) -> bool
+    requires { ⌜ RowWithin (now cfg) (event .0) ⌝ }
+    ensures { λ r. ⌜ r
+        ≡ holds
+        (between (negsuc 29999) (negsuc 0) (column 5 (now (cfg .entry)) (event .0))
+        ∷ between (pos 1) (pos 30000) (column 6 (now (cfg .entry)) (event .0)) ∷ []) ⌝ }
+{
+    in_range(cfg, event, P, -30_000, -1) & in_range(cfg, event, Q, 1, 30_000)
+}
+
+// The numbers 7 to 9 of a row of kind 0 or 2.
+fn stepless(cfg: &[i32], event: EventNumber) -> bool
+    requires { ⌜ RowWithin (now cfg) (event .0) ⌝ }
+    ensures { λ r. ⌜ r
+        ≡ holds
+        (eqZ (column 7 (now (cfg .entry)) (event .0)) (pos 0) ∷ eqZ (column 8 (now (cfg .entry)) (event .0)) (pos 0)
+        ∷ eqZ (column 9 (now (cfg .entry)) (event .0)) (pos 0) ∷ []) ⌝ }
+{
+    is_zero(cfg, event, UP) & is_zero(cfg, event, DOWN) & is_zero(cfg, event, JUMPS)
 }
 
 // The numbers 5 to 9 of a row of kind 1.
@@ -363,18 +385,6 @@ fn counter_ok(cfg: &[i32], event: EventNumber) -> bool
         & in_range(cfg, event, JUMPS, 0, 3)
 }
 
-// The numbers 5 to 9 of a row of kind 2.
-fn time_ok(cfg: &[i32], event: EventNumber) -> bool
-    requires { ⌜ RowWithin (now cfg) (event .0) ⌝ }
-    ensures { λ r. ⌜ r ≡ holds (ofKind (pos 2) (now (cfg .entry)) (event .0)) ⌝ }
-{
-    in_range(cfg, event, P, -30_000, -1)
-        & in_range(cfg, event, Q, 1, 30_000)
-        & is_zero(cfg, event, UP)
-        & is_zero(cfg, event, DOWN)
-        & is_zero(cfg, event, JUMPS)
-}
-
 // The numbers 5 to 9 of a row; one of a kind that the table does not have is judged as kind 2, and fails by its kind.
 // So the kind is compared as it is, a negative one too.
 fn of_kind_ok(cfg: &[i32], event: EventNumber) -> bool
@@ -383,13 +393,14 @@ fn of_kind_ok(cfg: &[i32], event: EventNumber) -> bool
         ≡ holds (ofKind (column 4 (now (cfg .entry)) (event .0)) (now (cfg .entry)) (event .0)) ⌝ }
 {
     let kind = number_within(cfg, event, KIND);
-    if kind == KIND_INTERNAL {
-        return internal_ok(cfg, event);
-    }
     if kind == KIND_COUNTER {
         return counter_ok(cfg, event);
     }
-    time_ok(cfg, event)
+    let no_steps = stepless(cfg, event);
+    if kind == KIND_INTERNAL {
+        return unbounded(cfg, event) & no_steps;
+    }
+    bounded(cfg, event) & no_steps
 }
 
 // The table's column "allowed", a line for each number of the row, but one for those that go by the kind.
