@@ -13,7 +13,12 @@
  *   debounce   one signed 32-bit number for each event
  *   memory     the number of entries, then the entries, the oldest first: event number (2 bytes, high
  *              first), occurrence count, first frame, latest frame
+ *   counts     five unsigned 32-bit numbers: how many entries were admitted, pushed out, aged and
+ *              cleared, and how many failures were not stored
  *   board      which of the four cycles run, and the overflow flag, by value
+ *
+ * The counts are lent to the calls that move them: fresh, report, tick, stop, clear,
+ * restore and the diagnostic request. The other calls take no counts.
  *
  * A call takes any numbers, any bytes and any lengths. It answers with a number:
  * 0 when it is done, else one of the refusals below, the first that applies in
@@ -45,10 +50,10 @@ extern "C" {
 #endif
 
 /*
- * Of this header: 4000 is 4.0. The thousands rise when a program that includes it must be changed
+ * Of this header: 5000 is 5.0. The thousands rise when a program that includes it must be changed
  * or compiled again, the rest when something is added.
  */
-#define GRELPICADO_HEADER_VERSION 4000
+#define GRELPICADO_HEADER_VERSION 5000
 
 /* A cast and a check in the words of either language, for this file. */
 #ifdef __cplusplus
@@ -75,6 +80,8 @@ extern "C" {
 #define GRELPICADO_MEMORY_BYTES(M, F) \
     (GRELPICADO_SIZE_(1) \
         + GRELPICADO_SIZE_(M) * (GRELPICADO_SIZE_(3) + GRELPICADO_SIZE_(2) * GRELPICADO_SIZE_(F)))
+/* Counts. */
+#define GRELPICADO_COUNTS 5u
 /* Bytes of the largest saved image. */
 #define GRELPICADO_IMAGE_BYTES(n, M, F) \
     (GRELPICADO_SIZE_(20) + GRELPICADO_RECORDS_BYTES(n) + GRELPICADO_MEMORY_BYTES(M, F) + GRELPICADO_SIZE_(1))
@@ -212,6 +219,7 @@ typedef struct grelpicado_event {
 #define GRELPICADO_WRONG_FRAME 9        /* the lent frame is not F bytes */
 #define GRELPICADO_NO_ENTRY 10          /* the event has no memory entry */
 #define GRELPICADO_MISSING_CONDITION 11 /* a condition that the event needs is not present */
+#define GRELPICADO_COUNTS_FULL 12       /* the call would carry a count past 4,294,967,295 */
 
 /* ---- the status byte, ISO 14229-1 */
 
@@ -248,6 +256,21 @@ typedef struct grelpicado_event {
 #define GRELPICADO_FIRST 0  /* that of the failure which made the entry; of an entry that was restored from an
                                image of edition 1, the one that the image had, its latest by then */
 #define GRELPICADO_LATEST 1 /* that of its latest fresh failure; after one failure both are the same */
+
+/* ---- the counts, by their places in the slice of five */
+
+/*
+ * How many since the fresh state or the restore, 32 bits each. While calls alone change them, as many
+ * entries were admitted as are in memory, were pushed out, aged and were cleared. A fresh failure of an
+ * event that has an entry admits none. Fresh zeroes all five; restore sets the first to the entries
+ * present and the rest to 0. They are in no image, and a call only adds to them: the caller may set
+ * them. A call that would carry one past 4,294,967,295 is refused whole, with 12.
+ */
+#define GRELPICADO_COUNT_ADMITTED 0   /* entries stored anew */
+#define GRELPICADO_COUNT_PUSHED_OUT 1 /* entries that gave way to another */
+#define GRELPICADO_COUNT_AGED 2       /* entries that left at a stop, since their event aged */
+#define GRELPICADO_COUNT_CLEARED 3    /* entries that left at a clear, or at a request of service 14h */
+#define GRELPICADO_COUNT_NOT_STORED 4 /* fresh failures that found no place */
 
 /* The trouble code that clears all events. */
 #define GRELPICADO_ALL_CODES 0xFFFFFFu
@@ -333,21 +356,23 @@ typedef struct grelpicado_request_answer {
 /* ---- the sixteen calls */
 
 /*
- * The fresh state: every status 50h, no entry, cycles stopped, overflow clear.
- * Refusals, in order: 2, 3 (the blocks' lengths alone; their contents may be anything).
+ * The fresh state: every status 50h, no entry, cycles stopped, overflow clear, all counts 0.
+ * Refusals, in order: 2, 3 (the lengths alone, that of the counts too; what they hold may be anything).
  */
 grelpicado_answer grelpicado_fresh(
     const int32_t *config, size_t config_length,
     uint8_t *records, size_t records_length,
     int32_t *debounce, size_t debounce_length,
     uint8_t *memory, size_t memory_length,
-    grelpicado_board board);
+    grelpicado_board board,
+    uint32_t *counts, size_t counts_length);
 
 /*
  * A test's result for one event: code GRELPICADO_PASSED to GRELPICADO_PRE_FAILED, the frame, of F bytes,
  * that is stored should this be a fresh failure, and the set of conditions that are present:
  * GRELPICADO_ALL_PRESENT where there are none to watch.
- * Refusals, in order: 2, 3, 4 (event), 1 (code), 6, 9, 5 (cycle stopped), 11 (one it needs is missing).
+ * Refusals, in order: 2, 3, 4 (event), 1 (code), 6, 9, 5 (cycle stopped), 11 (one it needs is missing),
+ * 12 (a count).
  */
 grelpicado_report_answer grelpicado_report(
     const int32_t *config, size_t config_length,
@@ -357,12 +382,13 @@ grelpicado_report_answer grelpicado_report(
     grelpicado_board board,
     size_t event, uint32_t code,
     const uint8_t *frame, size_t frame_length,
-    uint32_t present);
+    uint32_t present,
+    uint32_t *counts, size_t counts_length);
 
 /*
  * ms milliseconds have passed, 0 to 60,000, with these conditions present. Every event that fails by it
  * takes the frame. An event that needs a condition which is not among them keeps its debounce number.
- * Refusals, in order: 2, 3, 1 (ms), 9.
+ * Refusals, in order: 2, 3, 1 (ms), 9, 12 (a count; then none of its events has moved).
  */
 grelpicado_answer grelpicado_tick(
     const int32_t *config, size_t config_length,
@@ -372,7 +398,8 @@ grelpicado_answer grelpicado_tick(
     grelpicado_board board,
     uint32_t ms,
     const uint8_t *frame, size_t frame_length,
-    uint32_t present);
+    uint32_t present,
+    uint32_t *counts, size_t counts_length);
 
 /*
  * Starts a cycle, 0 to 3.
@@ -388,7 +415,7 @@ grelpicado_answer grelpicado_start(
 
 /*
  * Stops a cycle, 0 to 3.
- * Refusals, in order: 2, 3, 4 (cycle), 5 (it is stopped).
+ * Refusals, in order: 2, 3, 4 (cycle), 5 (it is stopped), 12 (a count).
  */
 grelpicado_answer grelpicado_stop(
     const int32_t *config, size_t config_length,
@@ -396,11 +423,12 @@ grelpicado_answer grelpicado_stop(
     int32_t *debounce, size_t debounce_length,
     uint8_t *memory, size_t memory_length,
     grelpicado_board board,
-    uint32_t cycle);
+    uint32_t cycle,
+    uint32_t *counts, size_t counts_length);
 
 /*
  * Clears the event of a trouble code, or all for GRELPICADO_ALL_CODES, in any cycle state.
- * Refusals, in order: 2, 3, 4 (code).
+ * Refusals, in order: 2, 3, 4 (code), 12 (a count).
  */
 grelpicado_answer grelpicado_clear(
     const int32_t *config, size_t config_length,
@@ -408,7 +436,8 @@ grelpicado_answer grelpicado_clear(
     int32_t *debounce, size_t debounce_length,
     uint8_t *memory, size_t memory_length,
     grelpicado_board board,
-    uint32_t code);
+    uint32_t code,
+    uint32_t *counts, size_t counts_length);
 
 /*
  * The status byte of an event. Writes nothing.
@@ -520,8 +549,9 @@ grelpicado_length_answer grelpicado_save(
 
 /*
  * Makes the state that an image was saved of, all cycles stopped. The blocks may hold anything. Of an
- * image of edition 1, whose entries have one frame, that frame becomes the first and the latest.
- * Refusals, in order: 2, 3 (the blocks' lengths alone), 8.
+ * image of edition 1, whose entries have one frame, that frame becomes the first and the latest. The
+ * entries admitted are those present, the other counts 0.
+ * Refusals, in order: 2, 3 (the lengths alone, that of the counts too), 8.
  */
 grelpicado_answer grelpicado_restore(
     const int32_t *config, size_t config_length,
@@ -529,13 +559,15 @@ grelpicado_answer grelpicado_restore(
     int32_t *debounce, size_t debounce_length,
     uint8_t *memory, size_t memory_length,
     grelpicado_board board,
-    const uint8_t *image, size_t image_length);
+    const uint8_t *image, size_t image_length,
+    uint32_t *counts, size_t counts_length);
 
 /*
  * Answers a diagnostic request, services 19h and 14h. A negative reply (7Fh, service, code) is
  * written with number 0. A suppressed positive reply has length 0. A room of
  * GRELPICADO_REPLY_BYTES(n, F) bytes holds every reply.
- * Refusals, in order: 2, 3, 7 (the room is below 3 bytes), 1 (the request is empty).
+ * Refusals, in order: 2, 3, 7 (the room is below 3 bytes), 1 (the request is empty), 12 (a count, of a
+ * request that would clear; any other leaves the counts).
  */
 grelpicado_request_answer grelpicado_request(
     const int32_t *config, size_t config_length,
@@ -544,7 +576,8 @@ grelpicado_request_answer grelpicado_request(
     uint8_t *memory, size_t memory_length,
     grelpicado_board board,
     const uint8_t *request, size_t request_length,
-    uint8_t *room, size_t room_length);
+    uint8_t *room, size_t room_length,
+    uint32_t *counts, size_t counts_length);
 
 /* ---- replies over CAN: ISO 15765-2, 8-byte frames, normal addressing */
 
@@ -662,7 +695,7 @@ grelpicado_can_take_answer grelpicado_can_take(
 /* ---- the context: the same calls on what one object holds */
 
 /*
- * All that every call is lent, and the board that the last call handed back. grelpicado_begin fills
+ * All that the calls are lent, and the board that the last call handed back. grelpicado_begin fills
  * it; it holds pointers into your arrays, which must live as long as it does.
  *
  * Each function grelpicado_ctx_x makes the plain call grelpicado_x, with its refusals in its order,
@@ -681,6 +714,8 @@ typedef struct grelpicado {
     size_t debounce_length; /* numbers */
     uint8_t *memory;
     size_t memory_length; /* bytes */
+    uint32_t *counts;
+    size_t counts_length; /* numbers */
     grelpicado_board board;
 } grelpicado;
 
@@ -697,6 +732,9 @@ typedef struct grelpicado_verdict_answer {
     (manager)->memory, (manager)->memory_length,        \
     (manager)->board
 
+/* And, behind a call's own arguments, where it moves the counts. */
+#define GRELPICADO_COUNTS_(manager) (manager)->counts, (manager)->counts_length
+
 /* Keeps the board, answers the number. */
 static inline uint8_t grelpicado_keep_(grelpicado *manager, grelpicado_answer answer)
 {
@@ -711,23 +749,24 @@ static inline const uint8_t *grelpicado_bytes_(const uint8_t *bytes, size_t leng
     return length == 0 ? &none : bytes;
 }
 
-/* The fresh state. The blocks may hold anything. */
+/* The fresh state. The blocks and the counts may hold anything. */
 static inline uint8_t grelpicado_ctx_fresh(grelpicado *manager)
 {
-    return grelpicado_keep_(manager, grelpicado_fresh(GRELPICADO_LENT_(manager)));
+    return grelpicado_keep_(manager, grelpicado_fresh(GRELPICADO_LENT_(manager), GRELPICADO_COUNTS_(manager)));
 }
 
 /*
  * Fills the context from the caller's arrays and makes the fresh state. Every length is the number of
  * elements: GRELPICADO_LEND and GRELPICADO_LEND_CONFIG write pointer and length of an array.
- * Refusals, in order: 2, 3 (the blocks' lengths alone).
+ * Refusals, in order: 2, 3 (the lengths alone).
  */
 static inline uint8_t grelpicado_begin(
     grelpicado *manager,
     const int32_t *config, size_t config_length,
     uint8_t *records, size_t records_length,
     int32_t *debounce, size_t debounce_length,
-    uint8_t *memory, size_t memory_length)
+    uint8_t *memory, size_t memory_length,
+    uint32_t *counts, size_t counts_length)
 {
     const grelpicado_board stopped = {{0, 0, 0, 0}, 0};
     manager->config = config;
@@ -738,30 +777,34 @@ static inline uint8_t grelpicado_begin(
     manager->debounce_length = debounce_length;
     manager->memory = memory;
     manager->memory_length = memory_length;
+    manager->counts = counts;
+    manager->counts_length = counts_length;
     manager->board = stopped;
     return grelpicado_ctx_fresh(manager);
 }
 
 /*
  * A test's result for one event, with the frame of F bytes and the conditions that are present.
- * Refusals: 2, 3, 4, 1, 6, 9, 5, 11.
+ * Refusals: 2, 3, 4, 1, 6, 9, 5, 11, 12.
  */
 static inline grelpicado_verdict_answer grelpicado_ctx_report(
     grelpicado *manager, size_t event, uint32_t code, const uint8_t *frame, size_t frame_length, uint32_t present)
 {
     const grelpicado_report_answer answer = grelpicado_report(
-        GRELPICADO_LENT_(manager), event, code, grelpicado_bytes_(frame, frame_length), frame_length, present);
+        GRELPICADO_LENT_(manager), event, code, grelpicado_bytes_(frame, frame_length), frame_length, present,
+        GRELPICADO_COUNTS_(manager));
     const grelpicado_verdict_answer rest = {answer.number, answer.verdict};
     manager->board = answer.board;
     return rest;
 }
 
-/* So many milliseconds have passed, with these conditions present. Refusals: 2, 3, 1, 9. */
+/* So many milliseconds have passed, with these conditions present. Refusals: 2, 3, 1, 9, 12. */
 static inline uint8_t grelpicado_ctx_tick(
     grelpicado *manager, uint32_t ms, const uint8_t *frame, size_t frame_length, uint32_t present)
 {
     return grelpicado_keep_(manager, grelpicado_tick(
-        GRELPICADO_LENT_(manager), ms, grelpicado_bytes_(frame, frame_length), frame_length, present));
+        GRELPICADO_LENT_(manager), ms, grelpicado_bytes_(frame, frame_length), frame_length, present,
+        GRELPICADO_COUNTS_(manager)));
 }
 
 /* Starts a cycle. Refusals: 2, 3, 4, 5. */
@@ -770,16 +813,16 @@ static inline uint8_t grelpicado_ctx_start(grelpicado *manager, uint32_t cycle)
     return grelpicado_keep_(manager, grelpicado_start(GRELPICADO_LENT_(manager), cycle));
 }
 
-/* Stops a cycle. Refusals: 2, 3, 4, 5. */
+/* Stops a cycle. Refusals: 2, 3, 4, 5, 12. */
 static inline uint8_t grelpicado_ctx_stop(grelpicado *manager, uint32_t cycle)
 {
-    return grelpicado_keep_(manager, grelpicado_stop(GRELPICADO_LENT_(manager), cycle));
+    return grelpicado_keep_(manager, grelpicado_stop(GRELPICADO_LENT_(manager), cycle, GRELPICADO_COUNTS_(manager)));
 }
 
-/* Clears the event of a trouble code, or all for GRELPICADO_ALL_CODES. Refusals: 2, 3, 4. */
+/* Clears the event of a trouble code, or all for GRELPICADO_ALL_CODES. Refusals: 2, 3, 4, 12. */
 static inline uint8_t grelpicado_ctx_clear(grelpicado *manager, uint32_t code)
 {
-    return grelpicado_keep_(manager, grelpicado_clear(GRELPICADO_LENT_(manager), code));
+    return grelpicado_keep_(manager, grelpicado_clear(GRELPICADO_LENT_(manager), code, GRELPICADO_COUNTS_(manager)));
 }
 
 /* The status byte of an event. Refusals: 2, 3, 4. */
@@ -836,27 +879,29 @@ static inline grelpicado_length_answer grelpicado_ctx_save(
     return grelpicado_save(GRELPICADO_LENT_(manager), room_length == 0 ? &none : room, room_length);
 }
 
-/* Makes the state that an image of edition 1 or 2 was saved of. Refusals: 2, 3 (the blocks' lengths alone), 8. */
+/* Makes the state that an image of edition 1 or 2 was saved of. Refusals: 2, 3 (the lengths alone), 8. */
 static inline uint8_t grelpicado_ctx_restore(grelpicado *manager, const uint8_t *image, size_t image_length)
 {
     return grelpicado_keep_(manager, grelpicado_restore(
-        GRELPICADO_LENT_(manager), grelpicado_bytes_(image, image_length), image_length));
+        GRELPICADO_LENT_(manager), grelpicado_bytes_(image, image_length), image_length,
+        GRELPICADO_COUNTS_(manager)));
 }
 
-/* Answers a diagnostic request. Refusals: 2, 3, 7, 1. */
+/* Answers a diagnostic request. Refusals: 2, 3, 7, 1, 12. */
 static inline grelpicado_length_answer grelpicado_ctx_request(
     grelpicado *manager, const uint8_t *request, size_t request_length, uint8_t *room, size_t room_length)
 {
     uint8_t none = 0;
     const grelpicado_request_answer answer = grelpicado_request(
         GRELPICADO_LENT_(manager), grelpicado_bytes_(request, request_length), request_length,
-        room_length == 0 ? &none : room, room_length);
+        room_length == 0 ? &none : room, room_length, GRELPICADO_COUNTS_(manager));
     const grelpicado_length_answer rest = {answer.number, answer.length};
     manager->board = answer.board;
     return rest;
 }
 
 #undef GRELPICADO_LENT_
+#undef GRELPICADO_COUNTS_
 
 /* ---- the layout that the archive was compiled for; a compiler that lays out otherwise stops here */
 

@@ -12,6 +12,9 @@
  * value as the pressure is painted, but grey unless the link is live and the pump is on. So a last value
  * does not stay live on the glass after the link has dropped, the pump was switched off or the run has
  * ended, when nothing is tested and the bytes stay.
+ *
+ * The memory has one place, and the pressure is the more important: its entry pushes the link's out, and
+ * while it is there a failure of the link is not stored. The counts tell a service engineer so.
  */
 #include <stdbool.h>
 #include <stdio.h>
@@ -20,7 +23,7 @@
 
 #include "grelpicado.h"
 
-enum { EVENTS = 2, PLACES = 2, FRAME = 2 };
+enum { EVENTS = 2, PLACES = 1, FRAME = 2 };
 enum { PRESSURE = 0, LINK = 1 };
 enum { RUN = 0 };      /* the cycle of both events */
 enum { PUMP_ON = 0 };  /* the condition that the pressure needs */
@@ -69,6 +72,7 @@ struct panel {
     uint8_t records[GRELPICADO_RECORDS_BYTES(EVENTS)];
     int32_t debounce[GRELPICADO_DEBOUNCE_NUMBERS(EVENTS)];
     uint8_t memory[GRELPICADO_MEMORY_BYTES(PLACES, FRAME)];
+    uint32_t counts[GRELPICADO_COUNTS];
     grelpicado manager;
     uint32_t present; /* the set of conditions that are present */
 };
@@ -90,7 +94,7 @@ static void begin(struct panel *panel)
 {
     uint8_t number = grelpicado_begin(
         &panel->manager, GRELPICADO_LEND_CONFIG(config), GRELPICADO_LEND(panel->records),
-        GRELPICADO_LEND(panel->debounce), GRELPICADO_LEND(panel->memory));
+        GRELPICADO_LEND(panel->debounce), GRELPICADO_LEND(panel->memory), GRELPICADO_LEND(panel->counts));
     must_be_done(number, "begin");
     switch_pump(panel, true);
 }
@@ -187,6 +191,16 @@ static void print_frames(const struct panel *panel)
     }
 }
 
+/* Where the entries went: those admitted are those in memory, pushed out, aged and cleared. */
+static void print_counts(const struct panel *panel)
+{
+    const uint32_t *counts = panel->counts;
+    printf("  entries: %u admitted; %u in memory, %u pushed out, %u aged, %u cleared; failures not stored: %u\n",
+        (unsigned)counts[GRELPICADO_COUNT_ADMITTED], (unsigned)panel->memory[0],
+        (unsigned)counts[GRELPICADO_COUNT_PUSHED_OUT], (unsigned)counts[GRELPICADO_COUNT_AGED],
+        (unsigned)counts[GRELPICADO_COUNT_CLEARED], (unsigned)counts[GRELPICADO_COUNT_NOT_STORED]);
+}
+
 /* ---- the loop */
 
 /* Without a condition that the event needs, it is not tested now: refused, and nothing has changed. */
@@ -263,6 +277,19 @@ static void switch_off_and_on(struct panel *panel)
     stop(panel);
 }
 
+/* ---- the service screen */
+
+/* A tester clears the code of the pressure. */
+static void service(struct panel *panel)
+{
+    static const uint8_t request[] = {0x14, 0x00, 0x0A, 0x11};
+    uint8_t reply[GRELPICADO_REPLY_BYTES(EVENTS, FRAME)];
+    must_be_done(
+        grelpicado_ctx_request(&panel->manager, GRELPICADO_LEND(request), GRELPICADO_LEND(reply)).number, "request");
+    printf("Service: a tester clears the code of the pressure.\n");
+    print_counts(panel);
+}
+
 int main(void)
 {
     static const int no_answer[] = {SILENT, SILENT, SILENT, SILENT, SILENT, SILENT};
@@ -279,10 +306,12 @@ int main(void)
     run(&panel, GRELPICADO_LEND(falling));
     print_panel(&panel, "Second run: the link is back, then the pressure falls.");
     print_frames(&panel);
+    print_counts(&panel);
     stop(&panel);
 
     lose_power(&panel);
     print_panel(&panel, "Power on: the state is as it was saved.");
+    print_counts(&panel);
 
     run(&panel, GRELPICADO_LEND(good));
     print_panel(&panel, "Third run: the pressure is good again.");
@@ -292,8 +321,10 @@ int main(void)
 
     run(&panel, GRELPICADO_LEND(dropping));
     print_panel(&panel, "Fourth run: 2.10 bar, then the link drops.");
+    print_counts(&panel);
     stop(&panel);
 
     switch_off_and_on(&panel);
+    service(&panel);
     return EXIT_SUCCESS;
 }

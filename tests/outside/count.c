@@ -39,7 +39,8 @@ struct world {
     uint8_t memory[GRELPICADO_MEMORY_BYTES(MOST_PLACES, FRAME)];
     uint8_t room[GRELPICADO_IMAGE_BYTES(MOST_EVENTS, MOST_PLACES, FRAME)];
     uint16_t list[GRELPICADO_LIST_NUMBERS(MOST_EVENTS)];
-    uint16_t counts[GRELPICADO_CYCLES][8];
+    uint16_t table[GRELPICADO_CYCLES][8];
+    uint32_t counts[GRELPICADO_COUNTS];
     grelpicado_board board;
     uint8_t number;
     uint8_t value;
@@ -158,6 +159,8 @@ static const struct side plain = {
     world->debounce, GRELPICADO_DEBOUNCE_NUMBERS(n),                            \
     world->memory, GRELPICADO_MEMORY_BYTES(places, FRAME), world->board
 
+#define COUNTED GRELPICADO_LEND(world->counts)
+
 /* The event whose entry stands in the middle. */
 static size_t middle(void)
 {
@@ -177,7 +180,8 @@ static void keep(struct world *world, grelpicado_answer got)
 
 static void report(const struct side *by, struct world *world, size_t event, uint32_t code)
 {
-    grelpicado_report_answer got = by->report(LENT, event, code, GRELPICADO_LEND(frame), GRELPICADO_ALL_PRESENT);
+    grelpicado_report_answer got =
+        by->report(LENT, event, code, GRELPICADO_LEND(frame), GRELPICADO_ALL_PRESENT, COUNTED);
     world->number = got.number;
     world->value = got.verdict;
     world->board = got.board;
@@ -185,7 +189,7 @@ static void report(const struct side *by, struct world *world, size_t event, uin
 
 static void request(const struct side *by, struct world *world, const uint8_t *bytes, size_t length)
 {
-    grelpicado_request_answer got = by->request(LENT, bytes, length, GRELPICADO_LEND(world->room));
+    grelpicado_request_answer got = by->request(LENT, bytes, length, GRELPICADO_LEND(world->room), COUNTED);
     world->number = got.number;
     world->length = got.length;
     world->board = got.board;
@@ -193,7 +197,7 @@ static void request(const struct side *by, struct world *world, const uint8_t *b
 
 static void fresh(const struct side *by, struct world *world)
 {
-    keep(world, by->fresh(LENT));
+    keep(world, by->fresh(LENT, COUNTED));
 }
 
 static void report_renews(const struct side *by, struct world *world)
@@ -219,7 +223,7 @@ static void report_pre_failed(const struct side *by, struct world *world)
 
 static void tick(const struct side *by, struct world *world)
 {
-    keep(world, by->tick(LENT, 10, GRELPICADO_LEND(frame), GRELPICADO_ALL_PRESENT));
+    keep(world, by->tick(LENT, 10, GRELPICADO_LEND(frame), GRELPICADO_ALL_PRESENT, COUNTED));
 }
 
 static void start(const struct side *by, struct world *world)
@@ -229,17 +233,17 @@ static void start(const struct side *by, struct world *world)
 
 static void stop(const struct side *by, struct world *world)
 {
-    keep(world, by->stop(LENT, 0));
+    keep(world, by->stop(LENT, 0, COUNTED));
 }
 
 static void clear_one(const struct side *by, struct world *world)
 {
-    keep(world, by->clear(LENT, middle_code()));
+    keep(world, by->clear(LENT, middle_code(), COUNTED));
 }
 
 static void clear_all(const struct side *by, struct world *world)
 {
-    keep(world, by->clear(LENT, GRELPICADO_ALL_CODES));
+    keep(world, by->clear(LENT, GRELPICADO_ALL_CODES, COUNTED));
 }
 
 static void read_status(const struct side *by, struct world *world)
@@ -268,7 +272,7 @@ static void read_table(const struct side *by, struct world *world)
 {
     grelpicado_table_answer got = by->read_table(LENT);
     world->number = got.number;
-    memcpy(world->counts, got.counts, sizeof got.counts);
+    memcpy(world->table, got.counts, sizeof got.counts);
 }
 
 static void read_paint(const struct side *by, struct world *world)
@@ -302,12 +306,12 @@ static void save(const struct side *by, struct world *world)
 
 static void restore(const struct side *by, struct world *world)
 {
-    keep(world, by->restore(LENT, image, image_length));
+    keep(world, by->restore(LENT, image, image_length, COUNTED));
 }
 
 static void restore_older(const struct side *by, struct world *world)
 {
-    keep(world, by->restore(LENT, older, older_length));
+    keep(world, by->restore(LENT, older, older_length, COUNTED));
 }
 
 static void count_by_mask(const struct side *by, struct world *world)

@@ -7,9 +7,10 @@
  *   door layout    prints the size of each struct, and where its fields lie
  *   door numbers   prints what the header's macros stand for
  *
- * A call is a struct head, then the contents of the six blocks in their order.
- * Its answer is a struct answer, then the six blocks as the call left them. The
+ * A call is a struct head, then the contents of the seven blocks in their order.
+ * Its answer is a struct answer, then the seven blocks as the call left them. The
  * room of list grey holds its 16-bit numbers; read table has one for its counts.
+ * The five counts are a block, also of a plain call that does not take them.
  * Numbers are little-endian: the archive is for x86-64.
  */
 #define _POSIX_C_SOURCE 200809L
@@ -25,7 +26,7 @@
 
 /* ---- what goes over the pipes */
 
-enum { CONFIG, RECORDS, DEBOUNCE, MEMORY, INPUT, ROOM, BLOCKS };
+enum { CONFIG, RECORDS, DEBOUNCE, MEMORY, COUNTS, INPUT, ROOM, BLOCKS };
 
 enum {
     FRESH, REPORT, TICK, START, STOP, CLEAR, READ_STATUS, READ_FRAME, SAVE, RESTORE, REQUEST, READ_COUNTER,
@@ -44,13 +45,13 @@ struct head {
     uint64_t event;         /* or cycle, milliseconds, trouble code */
     uint64_t code;          /* of a report; or which frame is read */
     uint64_t present;       /* the set of conditions */
-    uint64_t bytes[BLOCKS]; /* of each block; a configuration and debounce numbers in bytes too */
+    uint64_t bytes[BLOCKS]; /* of each block; numbers in bytes too */
 };
 
 struct answer {
     uint8_t number;
     uint8_t value;  /* verdict, status or paint */
-    uint8_t broken; /* a bit for each block beside which a byte was written; 40h: the context's blocks changed */
+    uint8_t broken; /* a bit for each block beside which a byte was written; 80h: the context's blocks changed */
     grelpicado_board board;
     uint64_t turn;
     uint64_t start;  /* of a frame; or a counter, as a signed number; or how many conditions are missing */
@@ -58,7 +59,7 @@ struct answer {
     uint64_t nanoseconds;
 };
 
-_Static_assert(sizeof(struct head) == 88, "the other side writes 88 bytes");
+_Static_assert(sizeof(struct head) == 96, "the other side writes 96 bytes");
 _Static_assert(sizeof(struct answer) == 40, "the other side reads 40 bytes");
 
 static struct {
@@ -190,11 +191,19 @@ static void make_room(struct block *block, size_t length, size_t width)
     draw_guards(block);
 }
 
+/* Bytes of an element of a block. */
+static size_t width_of(size_t block, const struct head *head)
+{
+    if (block == CONFIG || block == DEBOUNCE || block == COUNTS) {
+        return 4;
+    }
+    return block == ROOM && head->call == LIST_GREY ? 2 : 1;
+}
+
 static void make_rooms(struct block blocks[BLOCKS], const struct head *head)
 {
     for (size_t i = 0; i < BLOCKS; i++) {
-        size_t width = i == CONFIG || i == DEBOUNCE ? 4 : i == ROOM && head->call == LIST_GREY ? 2 : 1;
-        make_room(&blocks[i], (size_t)head->bytes[i], width);
+        make_room(&blocks[i], (size_t)head->bytes[i], width_of(i, head));
     }
 }
 
@@ -211,6 +220,11 @@ static int32_t *numbers_of(const struct block *block)
 static size_t count_of(const struct block *block)
 {
     return block->length / sizeof(int32_t);
+}
+
+static uint32_t *counts_of(const struct block *block)
+{
+    return (uint32_t *)(void *)bytes_of(block);
 }
 
 static uint16_t *list_of(const struct block *block)
@@ -232,6 +246,7 @@ static uint8_t *bytes_or_null(const struct block *block)
     numbers_of(&b[DEBOUNCE]), count_of(&b[DEBOUNCE]),           \
     bytes_of(&b[MEMORY]), b[MEMORY].length
 
+#define COUNTED counts_of(&b[COUNTS]), count_of(&b[COUNTS])
 #define INPUT_BYTES bytes_of(&b[INPUT]), b[INPUT].length
 #define ROOM_BYTES bytes_of(&b[ROOM]), b[ROOM].length
 #define ROOM_LIST list_of(&b[ROOM]), b[ROOM].length / sizeof(uint16_t)
@@ -312,17 +327,17 @@ static void by_plain(const struct head *head, const struct block b[BLOCKS], stru
     uint32_t code = (uint32_t)head->code;
     uint32_t present = (uint32_t)head->present;
     switch (head->call) {
-    case FRESH: take(answer, grelpicado_fresh(LENT, board)); break;
-    case REPORT: take_report(answer, grelpicado_report(LENT, board, event, code, INPUT_BYTES, present)); break;
-    case TICK: take(answer, grelpicado_tick(LENT, board, number, INPUT_BYTES, present)); break;
+    case FRESH: take(answer, grelpicado_fresh(LENT, board, COUNTED)); break;
+    case REPORT: take_report(answer, grelpicado_report(LENT, board, event, code, INPUT_BYTES, present, COUNTED)); break;
+    case TICK: take(answer, grelpicado_tick(LENT, board, number, INPUT_BYTES, present, COUNTED)); break;
     case START: take(answer, grelpicado_start(LENT, board, number)); break;
-    case STOP: take(answer, grelpicado_stop(LENT, board, number)); break;
-    case CLEAR: take(answer, grelpicado_clear(LENT, board, number)); break;
+    case STOP: take(answer, grelpicado_stop(LENT, board, number, COUNTED)); break;
+    case CLEAR: take(answer, grelpicado_clear(LENT, board, number, COUNTED)); break;
     case READ_STATUS: take_status(answer, grelpicado_read_status(LENT, board, event)); break;
     case READ_FRAME: take_frame(answer, grelpicado_read_frame(LENT, board, event, code)); break;
     case SAVE: take_length(answer, grelpicado_save(LENT, board, ROOM_BYTES)); break;
-    case RESTORE: take(answer, grelpicado_restore(LENT, board, INPUT_BYTES)); break;
-    case REQUEST: take_request(answer, grelpicado_request(LENT, board, INPUT_BYTES, ROOM_BYTES)); break;
+    case RESTORE: take(answer, grelpicado_restore(LENT, board, INPUT_BYTES, COUNTED)); break;
+    case REQUEST: take_request(answer, grelpicado_request(LENT, board, INPUT_BYTES, ROOM_BYTES, COUNTED)); break;
     case READ_COUNTER: take_counter(answer, grelpicado_read_counter(LENT, board, event)); break;
     case READ_TABLE: take_table(answer, &b[ROOM], grelpicado_read_table(LENT, board)); break;
     case READ_PAINT: take_paint(answer, grelpicado_read_paint(LENT, board, event)); break;
@@ -378,21 +393,22 @@ static bool holds(const grelpicado *manager, const struct block b[BLOCKS])
     return manager->config == numbers_of(&b[CONFIG]) && manager->config_length == count_of(&b[CONFIG])
         && manager->records == bytes_of(&b[RECORDS]) && manager->records_length == b[RECORDS].length
         && manager->debounce == numbers_of(&b[DEBOUNCE]) && manager->debounce_length == count_of(&b[DEBOUNCE])
-        && manager->memory == bytes_of(&b[MEMORY]) && manager->memory_length == b[MEMORY].length;
+        && manager->memory == bytes_of(&b[MEMORY]) && manager->memory_length == b[MEMORY].length
+        && manager->counts == counts_of(&b[COUNTS]) && manager->counts_length == count_of(&b[COUNTS]);
 }
 
 static void by_context(const struct head *head, const struct block b[BLOCKS], struct answer *answer)
 {
-    grelpicado manager = {LENT, head->board};
+    grelpicado manager = {LENT, COUNTED, head->board};
     if (head->way == BY_BEGIN) {
         memset(&manager, 0xA5, sizeof manager);
-        answer->number = grelpicado_begin(&manager, LENT);
+        answer->number = grelpicado_begin(&manager, LENT, COUNTED);
     } else {
         on_context(head, b, &manager, answer);
     }
     answer->board = manager.board;
     if (!holds(&manager, b)) {
-        answer->broken |= 0x40;
+        answer->broken |= 0x80;
     }
 }
 
@@ -580,6 +596,13 @@ static const struct {
     NUMBER(GRELPICADO_WRONG_FRAME),
     NUMBER(GRELPICADO_NO_ENTRY),
     NUMBER(GRELPICADO_MISSING_CONDITION),
+    NUMBER(GRELPICADO_COUNTS_FULL),
+    NUMBER(GRELPICADO_COUNTS),
+    NUMBER(GRELPICADO_COUNT_ADMITTED),
+    NUMBER(GRELPICADO_COUNT_PUSHED_OUT),
+    NUMBER(GRELPICADO_COUNT_AGED),
+    NUMBER(GRELPICADO_COUNT_CLEARED),
+    NUMBER(GRELPICADO_COUNT_NOT_STORED),
     NUMBER(GRELPICADO_TEST_FAILED),
     NUMBER(GRELPICADO_TEST_FAILED_THIS_OPERATION_CYCLE),
     NUMBER(GRELPICADO_PENDING),

@@ -6,7 +6,8 @@
  * It is written as firmware is written that should be quick and readable. Rows are read through the
  * header's struct. What is wrong is left at once. That no two entries are of one event is told by a mark
  * for each event seen, not by comparing pairs. A trouble code is searched by halving, since the codes
- * rise. Blocks of bytes are moved, filled and compared by the C library.
+ * rise. Blocks of bytes are moved, filled and compared by the C library. Where a count is near its limit,
+ * the blocks are kept, the work is done, and undone where a count would be past it.
  */
 #include "plain.h"
 
@@ -41,12 +42,13 @@ struct table {
     const grelpicado_event *event;
 };
 
-/* What a call may change. */
+/* What a call may change, and what it adds to the counts. */
 struct state {
     uint8_t *records;
     int32_t *debounce;
     uint8_t *memory;
     grelpicado_board board;
+    uint32_t rise[GRELPICADO_COUNTS];
 };
 
 /* What every call is lent, and the same as it is handed on. */
@@ -56,8 +58,10 @@ struct state {
     writes int32_t *debounce, size_t debounce_length,       \
     writes uint8_t *memory, size_t memory_length,           \
     grelpicado_board board
+#define COUNTS uint32_t *counts, size_t counts_length
 #define LENGTHS config, config_length, records_length, debounce_length, memory_length
 #define BLOCKS records, debounce, memory
+#define STATE {BLOCKS, tidy(board), {0, 0, 0, 0, 0}}
 
 /* ---- the configuration */
 
@@ -235,6 +239,62 @@ static uint8_t judge(
     return memory_fits(table, memory, records) ? GRELPICADO_DONE : GRELPICADO_BAD_STATE;
 }
 
+/* The same of a call that is lent counts: 3 of theirs comes with that of the blocks. */
+static uint8_t with_counts(uint8_t number, size_t counts_length)
+{
+    return number == GRELPICADO_DONE && counts_length != GRELPICADO_COUNTS ? GRELPICADO_BAD_STATE : number;
+}
+
+/* ---- the counts */
+
+/* The blocks as they were, while a call may have to be undone. */
+struct kept {
+    bool is_kept;
+    uint8_t records[GRELPICADO_RECORDS_BYTES(GRELPICADO_MAX_EVENTS)];
+    int32_t debounce[GRELPICADO_DEBOUNCE_NUMBERS(GRELPICADO_MAX_EVENTS)];
+    uint8_t memory[GRELPICADO_MEMORY_BYTES(GRELPICADO_MAX_PLACES, GRELPICADO_MAX_FRAME)];
+};
+
+static void copy_blocks(
+    const struct table *table, uint8_t *records, int32_t *debounce, uint8_t *memory,
+    const uint8_t *from_records, const int32_t *from_debounce, const uint8_t *from_memory)
+{
+    memcpy(records, from_records, RECORD * table->events);
+    memcpy(debounce, from_debounce, table->events * sizeof *debounce);
+    memcpy(memory, from_memory, 1 + table->places * table->entry);
+}
+
+/* Each count rises at most once for an event: further from its limit it cannot come past it. */
+static void keep_if_near(
+    const struct table *table, const struct state *state, const uint32_t *counts, struct kept *kept)
+{
+    kept->is_kept = false;
+    for (size_t i = 0; i < GRELPICADO_COUNTS; i++) {
+        kept->is_kept = kept->is_kept || counts[i] > UINT32_MAX - table->events;
+    }
+    if (kept->is_kept) {
+        copy_blocks(
+            table, kept->records, kept->debounce, kept->memory, state->records, state->debounce, state->memory);
+    }
+}
+
+/* The rise goes to the counts, whole; or the blocks become what they were. */
+static uint8_t add_or_undo(
+    const struct table *table, struct state *state, uint32_t *counts, const struct kept *kept)
+{
+    for (size_t i = 0; kept->is_kept && i < GRELPICADO_COUNTS; i++) {
+        if (state->rise[i] > UINT32_MAX - counts[i]) {
+            copy_blocks(
+                table, state->records, state->debounce, state->memory, kept->records, kept->debounce, kept->memory);
+            return GRELPICADO_COUNTS_FULL;
+        }
+    }
+    for (size_t i = 0; i < GRELPICADO_COUNTS; i++) {
+        counts[i] += state->rise[i];
+    }
+    return GRELPICADO_DONE;
+}
+
 /* ---- memory */
 
 static uint8_t *entry_at(const struct table *table, uint8_t *memory, size_t place)
@@ -263,11 +323,13 @@ static void take_out(const struct table *table, uint8_t *memory, size_t place)
     memory[0]--;
 }
 
-static void leave(const struct table *table, uint8_t *memory, size_t event)
+/* The event's entry leaves, where it has one, and is counted. */
+static void leave(const struct table *table, struct state *state, size_t event, size_t as)
 {
-    int place = place_of(table, memory, event);
+    int place = place_of(table, state->memory, event);
     if (place != NO_PLACE) {
-        take_out(table, memory, (size_t)place);
+        take_out(table, state->memory, (size_t)place);
+        state->rise[as]++;
     }
 }
 
@@ -309,8 +371,13 @@ static void store(const struct table *table, struct state *state, size_t event, 
         place = victim_for(table, state, event);
         if (place == NO_PLACE) {
             state->board.overflow = 1;
+            state->rise[GRELPICADO_COUNT_NOT_STORED]++;
             return;
         }
+        state->rise[GRELPICADO_COUNT_PUSHED_OUT]++;
+        state->rise[GRELPICADO_COUNT_ADMITTED]++;
+    } else {
+        state->rise[GRELPICADO_COUNT_ADMITTED]++;
     }
     if (place != NO_PLACE) {
         take_out(table, memory, (size_t)place);
@@ -439,10 +506,10 @@ static grelpicado_board tidy(grelpicado_board board)
 
 /* ---- the calls */
 
-grelpicado_answer plain_fresh(LENT())
+grelpicado_answer plain_fresh(LENT(), COUNTS)
 {
     struct table table;
-    uint8_t number = judge_lengths(&table, LENGTHS);
+    uint8_t number = with_counts(judge_lengths(&table, LENGTHS), counts_length);
     if (number != GRELPICADO_DONE) {
         return (grelpicado_answer){number, board};
     }
@@ -451,6 +518,7 @@ grelpicado_answer plain_fresh(LENT())
     }
     memset(debounce, 0, debounce_length * sizeof *debounce);
     memset(memory, 0, memory_length);
+    memset(counts, 0, counts_length * sizeof *counts);
     return (grelpicado_answer){GRELPICADO_DONE, {{0, 0, 0, 0}, 0}};
 }
 
@@ -501,18 +569,24 @@ static uint8_t take_result(
 }
 
 grelpicado_report_answer plain_report(
-    LENT(), size_t event, uint32_t code, const uint8_t *frame, size_t frame_length, uint32_t present)
+    LENT(), size_t event, uint32_t code, const uint8_t *frame, size_t frame_length, uint32_t present, COUNTS)
 {
     struct table table;
-    uint8_t number = judge(&table, LENGTHS, BLOCKS, &board);
+    struct kept kept;
+    uint8_t number = with_counts(judge(&table, LENGTHS, BLOCKS, &board), counts_length);
     if (number == GRELPICADO_DONE) {
         number = judge_report(&table, &board, event, code, frame_length, present);
     }
     if (number != GRELPICADO_DONE) {
         return (grelpicado_report_answer){number, GRELPICADO_VERDICT_NONE, board};
     }
-    struct state state = {BLOCKS, tidy(board)};
+    struct state state = STATE;
+    keep_if_near(&table, &state, counts, &kept);
     uint8_t verdict = take_result(&table, &state, event, code, frame);
+    number = add_or_undo(&table, &state, counts, &kept);
+    if (number != GRELPICADO_DONE) {
+        return (grelpicado_report_answer){number, GRELPICADO_VERDICT_NONE, board};
+    }
     return (grelpicado_report_answer){GRELPICADO_DONE, verdict, state.board};
 }
 
@@ -535,10 +609,11 @@ static void pass_time(
 }
 
 grelpicado_answer plain_tick(
-    LENT(), uint32_t ms, const uint8_t *frame, size_t frame_length, uint32_t present)
+    LENT(), uint32_t ms, const uint8_t *frame, size_t frame_length, uint32_t present, COUNTS)
 {
     struct table table;
-    uint8_t number = judge(&table, LENGTHS, BLOCKS, &board);
+    struct kept kept;
+    uint8_t number = with_counts(judge(&table, LENGTHS, BLOCKS, &board), counts_length);
     if (number == GRELPICADO_DONE && ms > GRELPICADO_MAX_TICK) {
         number = GRELPICADO_BAD_ARGUMENT;
     }
@@ -548,9 +623,11 @@ grelpicado_answer plain_tick(
     if (number != GRELPICADO_DONE) {
         return (grelpicado_answer){number, board};
     }
-    struct state state = {BLOCKS, tidy(board)};
+    struct state state = STATE;
+    keep_if_near(&table, &state, counts, &kept);
     pass_time(&table, &state, (int32_t)ms, frame, present);
-    return (grelpicado_answer){GRELPICADO_DONE, state.board};
+    number = add_or_undo(&table, &state, counts, &kept);
+    return (grelpicado_answer){number, number == GRELPICADO_DONE ? state.board : board};
 }
 
 /* The first refusal of a start or stop that applies after 2 and 3. */
@@ -588,26 +665,35 @@ grelpicado_answer plain_start(
     return (grelpicado_answer){GRELPICADO_DONE, tidy(board)};
 }
 
-grelpicado_answer plain_stop(LENT(), uint32_t cycle)
+static void stop_events(const struct table *table, struct state *state, uint32_t cycle)
+{
+    for (size_t e = 0; e < table->events; e++) {
+        if (table->event[e].cycle == (int32_t)cycle) {
+            if (heal_and_age(&table->event[e], state->records + RECORD * e)) {
+                leave(table, state, e, GRELPICADO_COUNT_AGED);
+            }
+            state->debounce[e] = 0;
+        }
+    }
+    state->board.running[cycle] = 0;
+}
+
+grelpicado_answer plain_stop(LENT(), uint32_t cycle, COUNTS)
 {
     struct table table;
-    uint8_t number = judge(&table, LENGTHS, BLOCKS, &board);
+    struct kept kept;
+    uint8_t number = with_counts(judge(&table, LENGTHS, BLOCKS, &board), counts_length);
     if (number == GRELPICADO_DONE) {
         number = judge_cycle(&board, cycle, true);
     }
     if (number != GRELPICADO_DONE) {
         return (grelpicado_answer){number, board};
     }
-    for (size_t e = 0; e < table.events; e++) {
-        if (table.event[e].cycle == (int32_t)cycle) {
-            if (heal_and_age(&table.event[e], records + RECORD * e)) {
-                leave(&table, memory, e);
-            }
-            debounce[e] = 0;
-        }
-    }
-    board.running[cycle] = 0;
-    return (grelpicado_answer){GRELPICADO_DONE, tidy(board)};
+    struct state state = STATE;
+    keep_if_near(&table, &state, counts, &kept);
+    stop_events(&table, &state, cycle);
+    number = add_or_undo(&table, &state, counts, &kept);
+    return (grelpicado_answer){number, number == GRELPICADO_DONE ? state.board : board};
 }
 
 /* The event of a trouble code, or n where there is none. */
@@ -635,6 +721,7 @@ static void clear_all(const struct table *table, struct state *state)
     for (size_t e = 0; e < table->events; e++) {
         make_fresh(state->records + RECORD * e);
     }
+    state->rise[GRELPICADO_COUNT_CLEARED] = state->memory[0];
     memset(state->debounce, 0, table->events * sizeof *state->debounce);
     memset(state->memory, 0, GRELPICADO_MEMORY_BYTES(table->places, table->frame));
     state->board.overflow = 0;
@@ -653,22 +740,31 @@ static bool clear_code(const struct table *table, struct state *state, uint32_t 
     }
     make_fresh(state->records + RECORD * event);
     state->debounce[event] = 0;
-    leave(table, state->memory, event);
+    leave(table, state, event, GRELPICADO_COUNT_CLEARED);
     return true;
 }
 
-grelpicado_answer plain_clear(LENT(), uint32_t code)
+/* The same with the counts: done, 4 or 12. */
+static uint8_t clear_counted(const struct table *table, struct state *state, uint32_t code, uint32_t *counts)
+{
+    struct kept kept;
+    keep_if_near(table, state, counts, &kept);
+    if (!clear_code(table, state, code)) {
+        return GRELPICADO_NO_SUCH;
+    }
+    return add_or_undo(table, state, counts, &kept);
+}
+
+grelpicado_answer plain_clear(LENT(), uint32_t code, COUNTS)
 {
     struct table table;
-    uint8_t number = judge(&table, LENGTHS, BLOCKS, &board);
+    uint8_t number = with_counts(judge(&table, LENGTHS, BLOCKS, &board), counts_length);
     if (number != GRELPICADO_DONE) {
         return (grelpicado_answer){number, board};
     }
-    struct state state = {BLOCKS, tidy(board)};
-    if (!clear_code(&table, &state, code)) {
-        return (grelpicado_answer){GRELPICADO_NO_SUCH, board};
-    }
-    return (grelpicado_answer){GRELPICADO_DONE, state.board};
+    struct state state = STATE;
+    number = clear_counted(&table, &state, code, counts);
+    return (grelpicado_answer){number, number == GRELPICADO_DONE ? state.board : board};
 }
 
 grelpicado_status_answer plain_read_status(LENT(const), size_t event)
@@ -913,10 +1009,10 @@ static void take_entries(const struct table *table, uint8_t edition, const uint8
     }
 }
 
-grelpicado_answer plain_restore(LENT(), const uint8_t *image, size_t image_length)
+grelpicado_answer plain_restore(LENT(), const uint8_t *image, size_t image_length, COUNTS)
 {
     struct table table;
-    uint8_t number = judge_lengths(&table, LENGTHS);
+    uint8_t number = with_counts(judge_lengths(&table, LENGTHS), counts_length);
     if (number == GRELPICADO_DONE && !image_fits(&table, image, image_length)) {
         number = GRELPICADO_BAD_IMAGE;
     }
@@ -929,6 +1025,8 @@ grelpicado_answer plain_restore(LENT(), const uint8_t *image, size_t image_lengt
     memset(debounce, 0, debounce_length * sizeof *debounce);
     take_entries(&table, image[1], saved, memory);
     memset(memory + used, 0, memory_length - used);
+    memset(counts, 0, counts_length * sizeof *counts);
+    counts[GRELPICADO_COUNT_ADMITTED] = saved[0];
     return (grelpicado_answer){GRELPICADO_DONE, {{0, 0, 0, 0}, image[image_length - 1]}};
 }
 
@@ -1114,48 +1212,54 @@ static uint8_t read_information(
     return GOOD;
 }
 
-/* Service 14, likewise. */
+/* Service 14, likewise; the number is 12 where the counts refuse the clear. */
 static uint8_t clear_information(
-    const struct table *table, struct state *state, const uint8_t *request, size_t request_length,
-    uint8_t *room, size_t *length)
+    const struct table *table, struct state *state, uint32_t *counts, const uint8_t *request, size_t request_length,
+    uint8_t *room, size_t *length, uint8_t *number)
 {
     if (request_length != 4) {
         return WRONG_LENGTH;
     }
     uint32_t code = (uint32_t)request[1] << 16 | (uint32_t)request[2] << 8 | request[3];
-    if (!clear_code(table, state, code)) {
+    uint8_t cleared = clear_counted(table, state, code, counts);
+    if (cleared == GRELPICADO_NO_SUCH) {
         return OUT_OF_RANGE;
     }
-    room[0] = CLEAR_INFORMATION + POSITIVE;
-    *length = 1;
+    *number = cleared;
+    if (cleared == GRELPICADO_DONE) {
+        room[0] = CLEAR_INFORMATION + POSITIVE;
+        *length = 1;
+    }
     return GOOD;
 }
 
-static size_t reply(
-    const struct table *table, struct state *state, const uint8_t *request, size_t request_length,
-    uint8_t *room, size_t room_length)
+/* Answers the number, which is 12 or 0, and the reply's length. */
+static uint8_t reply(
+    const struct table *table, struct state *state, uint32_t *counts, const uint8_t *request, size_t request_length,
+    uint8_t *room, size_t room_length, size_t *length)
 {
     uint8_t code = NO_SERVICE;
-    size_t length = 0;
+    uint8_t number = GRELPICADO_DONE;
     if (request[0] == READ_INFORMATION) {
-        code = read_information(table, state, request, request_length, room, room_length, &length);
+        code = read_information(table, state, request, request_length, room, room_length, length);
     } else if (request[0] == CLEAR_INFORMATION) {
-        code = clear_information(table, state, request, request_length, room, &length);
+        code = clear_information(table, state, counts, request, request_length, room, length, &number);
     }
     if (code == GOOD) {
-        return length;
+        return number;
     }
     room[0] = NEGATIVE;
     room[1] = request[0];
     room[2] = code;
-    return 3;
+    *length = 3;
+    return GRELPICADO_DONE;
 }
 
 grelpicado_request_answer plain_request(
-    LENT(), const uint8_t *request, size_t request_length, uint8_t *room, size_t room_length)
+    LENT(), const uint8_t *request, size_t request_length, uint8_t *room, size_t room_length, COUNTS)
 {
     struct table table;
-    uint8_t number = judge(&table, LENGTHS, BLOCKS, &board);
+    uint8_t number = with_counts(judge(&table, LENGTHS, BLOCKS, &board), counts_length);
     if (number == GRELPICADO_DONE && room_length < 3) {
         number = GRELPICADO_ROOM_TOO_SMALL;
     }
@@ -1165,7 +1269,8 @@ grelpicado_request_answer plain_request(
     if (number != GRELPICADO_DONE) {
         return (grelpicado_request_answer){number, 0, board};
     }
-    struct state state = {BLOCKS, tidy(board)};
-    size_t length = reply(&table, &state, request, request_length, room, room_length);
-    return (grelpicado_request_answer){GRELPICADO_DONE, length, state.board};
+    struct state state = STATE;
+    size_t length = 0;
+    number = reply(&table, &state, counts, request, request_length, room, room_length, &length);
+    return (grelpicado_request_answer){number, length, number == GRELPICADO_DONE ? state.board : board};
 }

@@ -30,6 +30,7 @@ pub fn refusal_number(r: Refusal) -> u8
         Refusal::WrongFrame => 9,
         Refusal::NoEntry => 10,
         Refusal::MissingCondition => 11,
+        Refusal::CountsFull => 12,
     }
 }
 

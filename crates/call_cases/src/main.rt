@@ -4,9 +4,9 @@
 // A line of a case file begins with
 //   config  a new story: the fresh state under this configuration
 //   ~       the configuration that is lent to the next call only
-//   %       the state that is lent to the next call
+//   %       the state and the counts that are lent to the next call
 //   >       a call, and in the next line, which begins with <, what it answers
-//   =       the state after the call; where there is none, the state is as before
+//   =       those after the call; where there is none, they are as before
 //   #       a remark
 use manual::Board;
 use manual::EventNumber;
@@ -25,6 +25,7 @@ struct Lent {
     records: usize,
     debounce: usize,
     memory: usize,
+    counts: usize,
     board: Board,
 }
 
@@ -153,11 +154,19 @@ fn same_board(a: Board, b: Board) -> bool {
 }
 
 // Whether the state is the one of a line that begins with = or %.
-fn same_state(line: &[u8], records: &[u8], debounce: &[i32], memory: &[u8], board: Board) -> bool {
+fn same_state(
+    line: &[u8],
+    records: &[u8],
+    debounce: &[i32],
+    memory: &[u8],
+    board: Board,
+    counts: &[u32],
+) -> bool {
     text::same_bytes(line, text::word(line, 1), records)
         & text::same_numbers(line, text::word(line, 2), debounce)
         & text::same_bytes(line, text::word(line, 3), memory)
         & same_board(board, read_board(line))
+        & text::same_wide(line, text::word(line, 6), counts)
 }
 
 // ---- answers, each against the line that begins with <
@@ -261,11 +270,13 @@ fn run_report(
     debounce: &mut [i32],
     memory: &mut [u8],
     board: Board,
-    frame: &[u8],
+    counts: &mut [u32],
 ) -> Given {
     let event = event_of(line);
     let code = number_of(line, 3);
     let present = present_of(line, 5);
+    let mut frame = [0u8; 8192];
+    let size = text::read_bytes(line, text::word(line, 4), &mut frame);
     let returned = reporting::report(
         cfg,
         records,
@@ -274,8 +285,9 @@ fn run_report(
         board,
         event,
         code,
-        frame,
+        &frame[..size],
         present,
+        counts,
     );
     let answer = returned.answer;
     let after = returned.board;
@@ -523,8 +535,18 @@ fn diagnose_into(
     board: Board,
     request: &[u8],
     room: &mut [u8],
+    counts: &mut [u32],
 ) -> Given {
-    let returned = diagnostics::request(cfg, records, debounce, memory, board, request, room);
+    let returned = diagnostics::request(
+        cfg,
+        records,
+        debounce,
+        memory,
+        board,
+        request,
+        room,
+        counts,
+    );
     let answer = returned.answer;
     let after = returned.board;
     Given {
@@ -541,8 +563,10 @@ fn run_diagnose(
     debounce: &mut [i32],
     memory: &mut [u8],
     board: Board,
-    request: &[u8],
+    counts: &mut [u32],
 ) -> Given {
+    let mut request = [0u8; 8192];
+    let length = text::read_bytes(line, text::word(line, 2), &mut request);
     let mut room = [0xA5u8; 8192];
     let size = text::most_bytes(room_of(line, 3), &room);
     diagnose_into(
@@ -552,9 +576,19 @@ fn run_diagnose(
         debounce,
         memory,
         board,
-        request,
+        &request[..length],
         &mut room[..size],
+        counts,
     )
+}
+
+// The word that has such a call's frame or image; word 0, which has none, for a call that takes neither.
+fn plain_word(call: Plain) -> usize {
+    match call {
+        Plain::Tick => 3,
+        Plain::Restore => 2,
+        _ => 0,
+    }
 }
 
 fn run_plain(
@@ -565,21 +599,34 @@ fn run_plain(
     debounce: &mut [i32],
     memory: &mut [u8],
     board: Board,
-    bytes: &[u8],
+    counts: &mut [u32],
 ) -> Returned {
     let k = number_of(line, 2);
     let present = present_of(line, 4);
+    let mut bytes = [0u8; 8192];
+    let size = text::read_bytes(line, text::word(line, plain_word(call)), &mut bytes);
+    let bytes = &bytes[..size];
     match call {
-        Plain::Fresh => fresh_state::fresh(cfg, records, debounce, memory, board),
-        Plain::Tick => reporting::tick(cfg, records, debounce, memory, board, k, bytes, present),
+        Plain::Fresh => fresh_state::fresh(cfg, records, debounce, memory, board, counts),
+        Plain::Tick => reporting::tick(
+            cfg,
+            records,
+            debounce,
+            memory,
+            board,
+            k,
+            bytes,
+            present,
+            counts,
+        ),
         Plain::Start => cycles::start(cfg, records, debounce, memory, board, k),
-        Plain::Stop => cycles::stop(cfg, records, debounce, memory, board, k),
-        Plain::Clear => clearing::clear(cfg, records, debounce, memory, board, k),
-        Plain::Restore => image::restore(cfg, records, debounce, memory, board, bytes),
+        Plain::Stop => cycles::stop(cfg, records, debounce, memory, board, k, counts),
+        Plain::Clear => clearing::clear(cfg, records, debounce, memory, board, k, counts),
+        Plain::Restore => image::restore(cfg, records, debounce, memory, board, bytes, counts),
     }
 }
 
-// Runs a call; the bytes are its frame, image or request.
+// Runs a call.
 fn run_call(
     call: Call,
     line: &[u8],
@@ -589,17 +636,17 @@ fn run_call(
     debounce: &mut [i32],
     memory: &mut [u8],
     board: Board,
-    bytes: &[u8],
+    counts: &mut [u32],
 ) -> Given {
     match call {
-        Call::Report => run_report(line, says, cfg, records, debounce, memory, board, bytes),
-        Call::Diagnose => run_diagnose(line, says, cfg, records, debounce, memory, board, bytes),
+        Call::Report => run_report(line, says, cfg, records, debounce, memory, board, counts),
+        Call::Diagnose => run_diagnose(line, says, cfg, records, debounce, memory, board, counts),
         Call::Reads(reading) => {
             run_reading(reading, line, says, cfg, records, debounce, memory, board)
         }
         Call::Writes(plain) => checked(
             says,
-            run_plain(plain, line, cfg, records, debounce, memory, board, bytes),
+            run_plain(plain, line, cfg, records, debounce, memory, board, counts),
         ),
         Call::Unknown => Given {
             agrees: false,
@@ -669,26 +716,6 @@ fn call_of(line: &[u8]) -> Call {
     reading_call(line)
 }
 
-// The word that has such a call's frame or image; word 0, which has none, for a call that takes neither.
-fn plain_word(call: Plain) -> usize {
-    match call {
-        Plain::Tick => 3,
-        Plain::Restore => 2,
-        _ => 0,
-    }
-}
-
-// The word that has a call's bytes.
-fn bytes_word(call: Call) -> usize {
-    match call {
-        Call::Report => 4,
-        Call::Diagnose => 2,
-        Call::Reads(_) => 0,
-        Call::Writes(plain) => plain_word(plain),
-        Call::Unknown => 0,
-    }
-}
-
 // ---- lines
 
 fn stopped() -> Board {
@@ -704,6 +731,7 @@ fn nothing_lent() -> Lent {
         records: 0,
         debounce: 0,
         memory: 0,
+        counts: 0,
         board: stopped(),
     }
 }
@@ -734,12 +762,27 @@ fn begin() -> Story {
 }
 
 // Whether the blocks, as far as they are lent, are the awaited state.
-fn as_awaited(lent: Lent, want: &[u8], records: &[u8], debounce: &[i32], memory: &[u8]) -> bool {
+fn as_awaited(
+    lent: Lent,
+    want: &[u8],
+    records: &[u8],
+    debounce: &[i32],
+    memory: &[u8],
+    counts: &[u32],
+) -> bool {
     let r = text::most_bytes(lent.records, records);
     let d = text::most_numbers(lent.debounce, debounce);
     let m = text::most_bytes(lent.memory, memory);
+    let k = text::most_wide(lent.counts, counts);
     let board = lent.board;
-    same_state(want, &records[..r], &debounce[..d], &memory[..m], board)
+    same_state(
+        want,
+        &records[..r],
+        &debounce[..d],
+        &memory[..m],
+        board,
+        &counts[..k],
+    )
 }
 
 fn counted(tally: Tally, case: Case, same: bool) -> Tally {
@@ -752,13 +795,20 @@ fn counted(tally: Tally, case: Case, same: bool) -> Tally {
 }
 
 // Compares the blocks with the awaited state, where that is still to be done, and counts.
-fn close(now: Story, want: &[u8], records: &[u8], debounce: &[i32], memory: &[u8]) -> Story {
+fn close(
+    now: Story,
+    want: &[u8],
+    records: &[u8],
+    debounce: &[i32],
+    memory: &[u8],
+    counts: &[u32],
+) -> Story {
     let case = now.case;
     if !case.open {
         return now;
     }
     let lent = now.lent;
-    let same = as_awaited(lent, want, records, debounce, memory);
+    let same = as_awaited(lent, want, records, debounce, memory, counts);
     let tally = now.tally;
     let mut after = now;
     after.tally = counted(tally, case, same);
@@ -783,13 +833,13 @@ fn run_on(
     records: &mut [u8],
     debounce: &mut [i32],
     memory: &mut [u8],
+    counts: &mut [u32],
 ) -> Given {
     let call = call_of(line);
-    let mut bytes = [0u8; 8192];
-    let size = text::read_bytes(line, text::word(line, bytes_word(call)), &mut bytes);
     let r = text::most_bytes(lent.records, records);
     let d = text::most_numbers(lent.debounce, debounce);
     let m = text::most_bytes(lent.memory, memory);
+    let k = text::most_wide(lent.counts, counts);
     let board = lent.board;
     run_call(
         call,
@@ -800,7 +850,7 @@ fn run_on(
         &mut debounce[..d],
         &mut memory[..m],
         board,
-        &bytes[..size],
+        &mut counts[..k],
     )
 }
 
@@ -815,6 +865,7 @@ fn lengths(line: &[u8], config: usize) -> Lent {
         records: manual::RECORD_WIDTH * events,
         debounce: events,
         memory: whole,
+        counts: manual::COUNTS,
         board: stopped(),
     }
 }
@@ -845,6 +896,7 @@ fn open_story(
     records: &mut [u8],
     debounce: &mut [i32],
     memory: &mut [u8],
+    counts: &mut [u32],
 ) -> Story {
     let n = text::read_numbers(line, 7, b' ', cfg);
     let lent = lengths(line, n);
@@ -856,6 +908,7 @@ fn open_story(
         records,
         debounce,
         memory,
+        counts,
     );
     after_case(now, lent, false, given)
 }
@@ -867,16 +920,19 @@ fn lend_state(
     records: &mut [u8],
     debounce: &mut [i32],
     memory: &mut [u8],
+    counts: &mut [u32],
 ) -> Story {
     let r = text::read_bytes(line, text::word(line, 1), records);
     let d = text::read_numbers(line, text::word(line, 2), b',', debounce);
     let m = text::read_bytes(line, text::word(line, 3), memory);
+    let k = text::read_wide(line, text::word(line, 6), b',', counts);
     let before = now.lent;
     let lent = Lent {
         config: before.config,
         records: r,
         debounce: d,
         memory: m,
+        counts: k,
         board: read_board(line),
     };
     let mut after = now;
@@ -913,10 +969,11 @@ fn run_case<'a>(
     records: &mut [u8],
     debounce: &mut [i32],
     memory: &mut [u8],
+    counts: &mut [u32],
 ) -> Story {
     let lent = now.lent;
     let config = lent_config(now, cfg, other);
-    let given = run_on(lent, line, says, config, records, debounce, memory);
+    let given = run_on(lent, line, says, config, records, debounce, memory, counts);
     let mut after = after_case(now, lent, true, given);
     after.line = one_more(now.line);
     after
@@ -932,12 +989,23 @@ fn take_other(
     records: &mut [u8],
     debounce: &mut [i32],
     memory: &mut [u8],
+    counts: &mut [u32],
 ) -> Story {
     match text::byte_at(line, 0) {
-        b'c' => open_story(now, line, cfg, records, debounce, memory),
+        b'c' => open_story(now, line, cfg, records, debounce, memory, counts),
         b'~' => lend_config(now, line, other),
-        b'%' => lend_state(now, line, records, debounce, memory),
-        b'>' => run_case(now, line, says, cfg, other, records, debounce, memory),
+        b'%' => lend_state(now, line, records, debounce, memory, counts),
+        b'>' => run_case(
+            now,
+            line,
+            says,
+            cfg,
+            other,
+            records,
+            debounce,
+            memory,
+            counts,
+        ),
         _ => now,
     }
 }
@@ -951,6 +1019,7 @@ fn settle(
     records: &[u8],
     debounce: &[i32],
     memory: &[u8],
+    counts: &[u32],
 ) -> Story {
     let mut next = now;
     next.line = one_more(now.line);
@@ -959,7 +1028,7 @@ fn settle(
         copy(line, want);
         return next;
     }
-    let closed = close(next, want, records, debounce, memory);
+    let closed = close(next, want, records, debounce, memory, counts);
     if text::byte_at(line, 0) == b'%' {
         copy(line, want);
     }
@@ -979,11 +1048,12 @@ fn take_line(
     records: &mut [u8],
     debounce: &mut [i32],
     memory: &mut [u8],
+    counts: &mut [u32],
 ) -> Story {
     let n = text::most_bytes(n, line);
     let k = text::most_bytes(k, says);
     let line = &line[..n];
-    let next = settle(now, line, want, records, debounce, memory);
+    let next = settle(now, line, want, records, debounce, memory, counts);
     take_other(
         next,
         line,
@@ -993,6 +1063,7 @@ fn take_line(
         records,
         debounce,
         memory,
+        counts,
     )
 }
 
@@ -1016,6 +1087,7 @@ fn next_line(
     records: &mut [u8; 2112],
     debounce: &mut [i32; 528],
     memory: &mut [u8; 4352],
+    counts: &mut [u32; 16],
 ) -> Story {
     let n = text::read_line(fd, line);
     let k = read_answer(fd, line, says);
@@ -1031,6 +1103,7 @@ fn next_line(
         records,
         debounce,
         memory,
+        counts,
     )
 }
 
@@ -1060,6 +1133,7 @@ fn run_lines(name: &[u8], fd: i32) -> Tally {
     let mut records = [0u8; 2112];
     let mut debounce = [0i32; 528];
     let mut memory = [0u8; 4352];
+    let mut counts = [0u32; 16];
     let mut now = begin();
     for _ in 0..1_000_000_000usize {
         now = next_line(
@@ -1073,6 +1147,7 @@ fn run_lines(name: &[u8], fd: i32) -> Tally {
             &mut records,
             &mut debounce,
             &mut memory,
+            &mut counts,
         );
         let tally = now.tally;
         now.tally = tell(name, tally);
@@ -1102,6 +1177,7 @@ fn run_file(name: &[u8]) {
 
 fn main() {
     run_file(b"calls.txt");
+    run_file(b"counts.txt");
     run_file(b"document.txt");
     run_file(b"states.txt");
     run_file(b"stories.txt");

@@ -1,22 +1,17 @@
--- Laws of a clear: what each event of its loop may count on, what the loop leaves, and what the call may count on.
+-- Laws of a clear: what each event of its loop may count on, and what the loop leaves.
 use mathlib.Core.Path.{_≡_, refl, ap, _∙_}
 use mathlib.Core.Bool.{true}
 use Prim.Native.Nat.{ℕ, _<_}
-use borrow.Author.Tests.{not-false}
 use Rattle.manual.specs.Words.{forBelow}
 use Rattle.manual.specs.Configuration.{Configuration, events, configOk}
 use Rattle.manual.specs.State.{State}
 use Rattle.manual.specs.WellFormed.{wellFormed}
 use Rattle.manual.specs.OneEvent.{clears}
-use Rattle.manual.specs.Answers.{firstThatApplies}
-use Rattle.manual.specs.Calls.{covers, overflowCleared, cleared, clearRules}
-use Rattle.manual.proofs.AnswersLaws.{none-applies}
+use Rattle.manual.specs.Calls.{covers, overflowCleared, cleared}
 use Rattle.manual.proofs.ConfigurationLaws.{config-tells}
 use Rattle.manual.proofs.StaysWellFormed.{clears-keep}
 use Rattle.one_event.specs.Ready.{EventFits}
 use Rattle.one_event.proofs.TurnsLaws.{turn, last-turn, ready-at-turn}
-
--- ---- the loop
 
 module _ (cfg : Configuration) (code : ℕ) where
   -- after the events below i
@@ -35,11 +30,3 @@ module _ (cfg : Configuration) (code : ℕ) where
     fits-at ok formed i h p =
         ready-at-turn (covers cfg code) (clears cfg) cfg s (clears-keep cfg (config-tells cfg ok) code s) ok formed i h
         p .event
-
--- ---- the call
-
-module _ (cfg : Configuration) (code : ℕ) (s : State) where
-  -- what a clear that nothing refuses may count on
-  pub may-clear : firstThatApplies (clearRules cfg code s) ≡ 0 → (configOk cfg ≡ true) × (wellFormed cfg s ≡ true)
-  unfolding clearRules
-  may-clear z = (not-false _ (none-applies _ z refl 0), not-false _ (none-applies _ z refl 1))

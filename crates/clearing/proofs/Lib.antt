@@ -1,3 +1,4 @@
 pub mod ClearingLaws
 pub mod ClearAllLaws
+pub mod ClearRiseLaws
 pub mod OneOutcomeOnly

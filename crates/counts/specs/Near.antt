@@ -16,7 +16,7 @@ use Rattle.manual.specs.Counts.{numbers, mostCount}
 abbrev pub AreFive : List ℕ → Type 0
 AreFive counts = length counts ≡ 5
 
--- some count lies within 512 of its limit
+-- some count lies less than 512 below its limit
 abbrev pub someNear : List ℕ → Bool
 someNear counts = anyOf (λ k. ltb (mostCount - mostEvents) k) counts
 

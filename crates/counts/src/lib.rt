@@ -138,7 +138,7 @@ fn set_all(counts: &mut [u32], five: Rise)
     counts[4] = five.not_stored;
 }
 
-// Whether some count lies within 512 of its limit. Where none does, no call is refused for a count.
+// Whether some count lies less than 512 below its limit. Where none does, no call is refused for a count.
 pub fn some_near(counts: &[u32]) -> bool
     requires { ⌜ AreFive (now counts) ⌝ }
     ensures { λ r. ⌜ r ≡ someNear (now (counts .entry)) ⌝ }

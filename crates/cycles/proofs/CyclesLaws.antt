@@ -14,7 +14,7 @@ use Rattle.manual.specs.WellFormed.{wellFormed}
 use Rattle.manual.specs.OneEvent.{stops}
 use Rattle.manual.specs.Answers.{firstThatApplies}
 use Rattle.manual.specs.Calls.{begins, ofCycle}
-use Rattle.manual.proofs.AnswersLaws.{none-applies}
+use Rattle.manual.proofs.AnswersLaws.{none-applies, three-passed}
 use Rattle.manual.proofs.ConfigurationLaws.{config-tells}
 use Rattle.manual.proofs.WellFormedLaws.{state-tells}
 use Rattle.manual.proofs.StaysWellFormed.{stops-keep}
@@ -27,14 +27,18 @@ use Rattle.one_event.proofs.TurnsLaws.{turn, ready-at-turn}
 
 -- ---- what a passed judgement gives
 
-module _ (cfg : Configuration) (s : State) (c : ℕ) (wrong : Bool)
-    (z : firstThatApplies (begins cfg s true (fourFive (ltb 3 c) wrong)) ≡ 0) where
+module _ (cfg : Configuration) (s : State) (c : ℕ) (fits wrong : Bool)
+    (z : firstThatApplies (begins cfg s fits (fourFive (ltb 3 c) wrong)) ≡ 0) where
   pub may-stop : MayStop cfg s c
   may-stop = record {
     configured = not-false (configOk cfg) (none-applies _ z refl 0);
-    formed = not-false (wellFormed cfg s) (none-applies _ z refl 1);
+    formed = three-passed fits (wellFormed cfg s) (none-applies _ z refl 1) .1;
     is-cycle = let h = ltb-false 3 c (none-applies _ z refl 2) in omega arith;
   }
+
+  -- what is lent beside the state has its length
+  pub is-fit : fits ≡ true
+  is-fit = three-passed fits (wellFormed cfg s) (none-applies _ z refl 1) .0
 
   pub may-start : RecordsFor cfg (s .records) × (c < 4)
   may-start = (

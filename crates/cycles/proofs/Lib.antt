@@ -1,2 +1,3 @@
 pub mod CyclesLaws
+pub mod StopRiseLaws
 pub mod OneOutcomeOnly

@@ -5,8 +5,10 @@ use manual::Board;
 use manual::EventNumber;
 use manual::Refusal;
 use manual::Returned;
+use manual::Rise;
+use rehearsal::Counted;
 ghost use mathlib.Core.Path.{_≡_};
-ghost use mathlib.Core.Bool.{true, false, cond};
+ghost use mathlib.Core.Bool.{true, cond};
 ghost use mathlib.Core.List.{List, []};
 ghost use Prim.Native.Nat.{ℕ, _+_, _*_, _≤_, _<_};
 ghost use lib.Dec.{ltb};
@@ -16,13 +18,17 @@ ghost use Rattle.history.specs.History.{start};
 ghost use Rattle.manual.specs.declared.Board.{Board};
 ghost use Rattle.manual.specs.State.{recordWidth, lent, withCycle};
 ghost use Rattle.manual.specs.OneEvent.{happens, stops, forThose};
-ghost use Rattle.manual.specs.Answers.{alone, refused, done, firstThatApplies, numberOf, ofAnswer, leaves};
-ghost use Rattle.manual.specs.Calls.{begins, ofCycle, startCycle, stopCycle};
+ghost use Rattle.manual.specs.Answers.{Beside, alone, lentCounts, refused, done, firstThatApplies, numberOf, ofAnswer};
+ghost use Rattle.manual.specs.Answers.{leaves};
+ghost use Rattle.manual.specs.Counts.{riseOf, numbers, carriesPast};
+ghost use Rattle.manual.specs.Calls.{begins, ofCycle, startCycle, stopLog, stopRules, stopCycle};
 ghost use Rattle.config.specs.Rows.{RowWithin};
+ghost use Rattle.counts.specs.Near.{AreFive};
 ghost use Rattle.judgement.specs.Checks.{checkNumber};
 ghost use Rattle.judgement.specs.Fits.{RecordsFor};
 ghost use Rattle.one_event.specs.Ready.{EventFits};
-ghost use Rattle.cycles.specs.Cycles.{fourFive, MayStop};
+ghost use Rattle.rehearsal.specs.Copies.{AsLong};
+ghost use Rattle.cycles.specs.Cycles.{fourFive, MayStop, stopped};
 
 // "4 | no such … cycle (above 3)"
 const LAST_CYCLE: u32 = manual::CYCLES as u32 - 1;
@@ -42,22 +48,24 @@ fn four_five(no_such: bool, wrong: bool) -> Check
     Check::Go
 }
 
-// 2, 3, then "4 | no such … cycle (above 3)", then 5 where the cycle is not in the state that the call asks for.
+// 2, 3, then "4 | no such … cycle (above 3)", then 5 where the cycle is not in the state that the call asks for. `fits`
+// says whether what is lent beside the state has the right length.
 fn judge(
     cfg: &[i32],
     records: &[u8],
     debounce: &[i32],
     memory: &[u8],
     board: Board,
+    fits: bool,
     cycle: u32,
     wrong: bool,
 ) -> Check
     ensures { λ r. ⌜ checkNumber r
         ≡ firstThatApplies
         (begins (now (cfg .entry)) (lent (now (records .entry)) (now (debounce .entry)) (now (memory .entry)) board)
-        true (fourFive (ltb 3 cycle) wrong)) ⌝ }
+        fits (fourFive (ltb 3 cycle) wrong)) ⌝ }
 {
-    match judgement::begin(cfg, records, debounce, memory, board, true) {
+    match judgement::begin(cfg, records, debounce, memory, board, fits) {
         Check::Go => four_five(LAST_CYCLE < cycle, wrong),
         Check::Stop(refusal) => Check::Stop(refusal),
     }
@@ -65,9 +73,9 @@ fn judge(
 
 // "A refusal changes nothing lent and hands back the board it was given"
 fn refused(refusal: Refusal, given: Board) -> Returned
-    ensures { λ r. ⌜ ((records : List ℕ) (d : List ℤ) (m : List ℕ)
-        → leaves (ofAnswer (r .answer)) [] alone (lent records d m (r .board))
-        ≡ refused (numberOf refusal) alone (lent records d m given)) ⌝ }
+    ensures { λ r. ⌜ ((b : Beside) (records : List ℕ) (d : List ℤ) (m : List ℕ)
+        → leaves (ofAnswer (r .answer)) [] b (lent records d m (r .board))
+        ≡ refused (numberOf refusal) b (lent records d m given)) ⌝ }
 {
     Returned {
         answer: Answer::Refused(refusal),
@@ -77,9 +85,9 @@ fn refused(refusal: Refusal, given: Board) -> Returned
 
 // "0 | done"
 fn done(board: Board) -> Returned
-    ensures { λ r. ⌜ ((records : List ℕ) (d : List ℤ) (m : List ℕ)
-        → leaves (ofAnswer (r .answer)) [] alone (lent records d m (r .board))
-        ≡ done alone (lent records d m board)) ⌝ }
+    ensures { λ r. ⌜ ((b : Beside) (records : List ℕ) (d : List ℤ) (m : List ℕ)
+        → leaves (ofAnswer (r .answer)) [] b (lent records d m (r .board))
+        ≡ done b (lent records d m board)) ⌝ }
 {
     Returned {
         answer: Answer::Done,
@@ -157,7 +165,7 @@ pub fn start(
         (lent (now (records .entry)) (now (debounce .entry)) (now (memory .entry)) board) ⌝ }
 {
     let wrong = judgement::runs(board, cycle as usize);
-    match judge(cfg, records, debounce, memory, board, cycle, wrong) {
+    match judge(cfg, records, debounce, memory, board, true, cycle, wrong) {
         Check::Go => done(accept_start(cfg, records, board, cycle as usize)),
         Check::Stop(refusal) => refused(refusal, board),
     }
@@ -188,7 +196,7 @@ fn stop_event(
 }
 
 // "Stop, for its events: (a) … (b) … (c) D = 0."
-fn accept_stop(
+fn stop_events(
     cfg: &[i32],
     records: &mut [u8],
     debounce: &mut [i32],
@@ -198,9 +206,8 @@ fn accept_stop(
 ) -> Board
     requires { ⌜ MayStop (now cfg) (lent (now records) (now debounce) (now memory) board) cycle ⌝ }
     ensures { λ r. ⌜ lent (now (records .exit)) (now (debounce .exit)) (now (memory .exit)) r
-        ≡ withCycle cycle false
-        (forThose (now (cfg .entry)) (ofCycle (now (cfg .entry)) cycle) (stops (now (cfg .entry)))
-        (lent (now (records .entry)) (now (debounce .entry)) (now (memory .entry)) board)) ⌝ }
+        ≡ stopped (now (cfg .entry)) cycle
+        (lent (now (records .entry)) (now (debounce .entry)) (now (memory .entry)) board) ⌝ }
 {
     for event in 0..config::events(cfg) {
         stop_event(cfg, records, debounce, memory, cycle, EventNumber(event));
@@ -208,7 +215,157 @@ fn accept_stop(
     turned(board, cycle, false)
 }
 
-// The call that stops a cycle; "5 | … stop, cycle stopped".
+// The work of a stop, on the lent blocks or on copies of them. It stores nothing: the entries that are gone after it
+// have aged.
+fn accept_stop(
+    cfg: &[i32],
+    records: &mut [u8],
+    debounce: &mut [i32],
+    memory: &mut [u8],
+    board: Board,
+    cycle: usize,
+) -> Counted
+    requires { ⌜ MayStop (now cfg) (lent (now records) (now debounce) (now memory) board) cycle ⌝ }
+    ensures { λ r. ⌜ (lent (now (records .exit)) (now (debounce .exit)) (now (memory .exit)) (r .board)
+        ≡ stopped (now (cfg .entry)) cycle
+        (lent (now (records .entry)) (now (debounce .entry)) (now (memory .entry)) board)) ×
+        (numbers (r .rise)
+        ≡ riseOf (stopLog (now (cfg .entry)) cycle
+        (lent (now (records .entry)) (now (debounce .entry)) (now (memory .entry)) board))) ⌝ }
+{
+    let before = memory::entry_count(memory);
+    let after = stop_events(cfg, records, debounce, memory, board, cycle);
+    let gone = (before - memory::entry_count(memory)) as u32;
+    Counted {
+        board: after,
+        rise: counts::aged_rise(gone),
+    }
+}
+
+// ---- what a stop would add to the counts
+
+// On copies of the blocks.
+fn rehearse_on(
+    cfg: &[i32],
+    records: &[u8],
+    debounce: &[i32],
+    memory: &[u8],
+    board: Board,
+    cycle: usize,
+    records_copy: &mut [u8],
+    debounce_copy: &mut [i32],
+    memory_copy: &mut [u8],
+) -> Rise
+    requires { ⌜ (MayStop (now cfg) (lent (now records) (now debounce) (now memory) board) cycle) ×
+        ((AsLong (now records) (now «records_copy»)) ×
+        ((AsLong (now debounce) (now «debounce_copy»)) × (AsLong (now memory) (now «memory_copy»)))) ⌝ }
+    ensures { λ r. ⌜ numbers r
+        ≡ riseOf (stopLog (now (cfg .entry)) cycle
+        (lent (now (records .entry)) (now (debounce .entry)) (now (memory .entry)) board)) ⌝ }
+{
+    rehearsal::copy_blocks(
+        records,
+        debounce,
+        memory,
+        records_copy,
+        debounce_copy,
+        memory_copy,
+    );
+    let after = accept_stop(cfg, records_copy, debounce_copy, memory_copy, board, cycle);
+    after.rise
+}
+
+// Nothing lent changes.
+fn rehearse(
+    cfg: &[i32],
+    records: &[u8],
+    debounce: &[i32],
+    memory: &[u8],
+    board: Board,
+    cycle: usize,
+) -> Rise
+    requires { ⌜ MayStop (now cfg) (lent (now records) (now debounce) (now memory) board) cycle ⌝ }
+    ensures { λ r. ⌜ numbers r
+        ≡ riseOf (stopLog (now (cfg .entry)) cycle
+        (lent (now (records .entry)) (now (debounce .entry)) (now (memory .entry)) board)) ⌝ }
+{
+    let mut records_copy = [0; manual::MOST_RECORDS];
+    let mut debounce_copy = [0; manual::MOST_EVENTS];
+    let mut memory_copy = [0; manual::MOST_MEMORY];
+    let r = records.len();
+    let d = debounce.len();
+    let m = memory.len();
+    rehearse_on(
+        cfg,
+        records,
+        debounce,
+        memory,
+        board,
+        cycle,
+        &mut records_copy[..r],
+        &mut debounce_copy[..d],
+        &mut memory_copy[..m],
+    )
+}
+
+// "whose whole rise would carry any count past 4,294,967,295". Only where a count is near that is the stop rehearsed.
+fn carries_past(
+    cfg: &[i32],
+    records: &[u8],
+    debounce: &[i32],
+    memory: &[u8],
+    board: Board,
+    cycle: usize,
+    counts: &[u32],
+) -> bool
+    requires { ⌜ (MayStop (now cfg) (lent (now records) (now debounce) (now memory) board) cycle)
+        × (AreFive (now counts)) ⌝ }
+    ensures { λ r. ⌜ r
+        ≡ carriesPast (stopLog (now (cfg .entry)) cycle
+        (lent (now (records .entry)) (now (debounce .entry)) (now (memory .entry)) board)) (now (counts .entry)) ⌝ }
+{
+    if !counts::some_near(counts) {
+        return false;
+    }
+    counts::some_past(
+        counts,
+        rehearse(cfg, records, debounce, memory, board, cycle),
+    )
+}
+
+// "start and stop 4, 5", and of a stop document 02's W7: "refused with new number 12, checked last".
+fn judge_stop(
+    cfg: &[i32],
+    records: &[u8],
+    debounce: &[i32],
+    memory: &[u8],
+    board: Board,
+    cycle: u32,
+    counts: &[u32],
+) -> Check
+    ensures { λ r. ⌜ checkNumber r
+        ≡ firstThatApplies
+        (stopRules (now (cfg .entry)) cycle (lentCounts (now (counts .entry)))
+        (lent (now (records .entry)) (now (debounce .entry)) (now (memory .entry)) board)) ⌝ }
+{
+    let c = cycle as usize;
+    let wrong = !judgement::runs(board, c);
+    let fits = counts::fit(counts);
+    match judge(cfg, records, debounce, memory, board, fits, cycle, wrong) {
+        Check::Go => rehearsal::limit_test(carries_past(
+            cfg,
+            records,
+            debounce,
+            memory,
+            board,
+            c,
+            counts,
+        )),
+        Check::Stop(refusal) => Check::Stop(refusal),
+    }
+}
+
+// The call that stops a cycle; "5 | … stop, cycle stopped". The counts rise by the entries that age.
 pub fn stop(
     cfg: &[i32],
     records: &mut [u8],
@@ -216,15 +373,19 @@ pub fn stop(
     memory: &mut [u8],
     board: Board,
     cycle: u32,
+    counts: &mut [u32],
 ) -> Returned
-    ensures { λ r. ⌜ leaves (ofAnswer (r .answer)) [] alone
+    ensures { λ r. ⌜ leaves (ofAnswer (r .answer)) [] (lentCounts (now (counts .exit)))
         (lent (now (records .exit)) (now (debounce .exit)) (now (memory .exit)) (r .board))
-        ≡ stopCycle (now (cfg .entry)) cycle alone
+        ≡ stopCycle (now (cfg .entry)) cycle (lentCounts (now (counts .entry)))
         (lent (now (records .entry)) (now (debounce .entry)) (now (memory .entry)) board) ⌝ }
 {
-    let wrong = !judgement::runs(board, cycle as usize);
-    match judge(cfg, records, debounce, memory, board, cycle, wrong) {
-        Check::Go => done(accept_stop(cfg, records, debounce, memory, board, cycle as usize)),
+    match judge_stop(cfg, records, debounce, memory, board, cycle, counts) {
+        Check::Go => {
+            let after = accept_stop(cfg, records, debounce, memory, board, cycle as usize);
+            counts::raise(counts, after.rise);
+            done(after.board)
+        }
         Check::Stop(refusal) => refused(refusal, board),
     }
 }

@@ -1,24 +1,26 @@
--- The statement of a diagnostic request allows one outcome only: one result, and of each block and of the room one
--- content, to the last byte.
-use mathlib.Core.Path.{_≡_, ap}
+-- The statement of a diagnostic request allows one outcome only: one result, and of each block, of the room and of the
+-- counts one content, to the last byte.
+use mathlib.Core.Path.{_≡_}
 use mathlib.Core.List.{List, []}
 use Prim.Native.Nat.{ℕ}
 use lib.IntN.{ℤ}
 use Rattle.manual.specs.Configuration.{Configuration}
 use Rattle.manual.specs.State.{State, lent}
-use Rattle.manual.specs.Answers.{Beside, lentRoom, ofLength, leaves}
+use Rattle.manual.specs.Answers.{Beside, lentBoth, ofLength, leaves}
 use Rattle.manual.specs.Diagnostics.{requestReply}
-use Rattle.manual.proofs.OneOutcomeOnly.{same-length, same-board, same-blocks, same-beside}
+use Rattle.manual.proofs.OneOutcomeOnly.{same-length, same-board, same-blocks, same-room, same-counts}
 use Rattle.diagnostics.specs.declared.RequestReturned.{RequestReturned}
 
-pub one-request : (cfg : Configuration) (request before : List ℕ) (s : State) (r r′ : RequestReturned)
-    (records records′ : List ℕ) (debounce debounce′ : List ℤ) (memory memory′ room room′ : List ℕ)
-    → leaves (ofLength (r .answer)) [] (lentRoom room) (lent records debounce memory (r .board))
-    ≡ requestReply cfg request (lentRoom before) s
-    → leaves (ofLength (r′ .answer)) [] (lentRoom room′) (lent records′ debounce′ memory′ (r′ .board))
-    ≡ requestReply cfg request (lentRoom before) s
-    → (r ≡ r′) × (((records ≡ records′) × ((debounce ≡ debounce′) × (memory ≡ memory′))) × (room ≡ room′))
-one-request cfg request before s r r′ records records′ debounce debounce′ memory memory′ room room′ p q = (
-  λ i. record { answer = same-length (r .answer) (r′ .answer) p q i; board = same-board p q i },
-  (same-blocks p q, ap (λ (b : Beside). b .room) (same-beside p q)),
-)
+module _ (cfg : Configuration) (request : List ℕ) (before : Beside) (s : State) where
+  pub one-request : (r r′ : RequestReturned) (records records′ : List ℕ) (debounce debounce′ : List ℤ)
+      (memory memory′ room room′ counts counts′ : List ℕ)
+      → leaves (ofLength (r .answer)) [] (lentBoth room counts) (lent records debounce memory (r .board))
+      ≡ requestReply cfg request before s
+      → leaves (ofLength (r′ .answer)) [] (lentBoth room′ counts′) (lent records′ debounce′ memory′ (r′ .board))
+      ≡ requestReply cfg request before s
+      → (r ≡ r′) ×
+      (((records ≡ records′) × ((debounce ≡ debounce′) × (memory ≡ memory′))) × ((room ≡ room′) × (counts ≡ counts′)))
+  one-request r r′ records records′ debounce debounce′ memory memory′ room room′ counts counts′ p q = (
+    λ i. record { answer = same-length (r .answer) (r′ .answer) p q i; board = same-board p q i },
+    (same-blocks p q, (same-room p q, same-counts p q)),
+  )

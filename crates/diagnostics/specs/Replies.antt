@@ -1,21 +1,26 @@
 -- What the functions of this crate ask and answer, in the words of the manual's specs/Diagnostics.antt. Assumes
 -- nothing.
 use mathlib.Core.Path.{_≡_}
-use mathlib.Core.Bool.{Bool, true, false, not, cond}
+use mathlib.Core.Bool.{Bool, true, false, not, _&&_, cond}
 use mathlib.Core.List.{List, [], _∷_, _++_}
-use mathlib.Core.Option.{some}
+use mathlib.Core.Option.{Option, none, some}
 use Prim.Native.Nat.{ℕ, _+_, _<_, _≤_}
 use lib.IntN.{ℤ}
 use lib.Dec.{eqb, ltb}
 use lib.ListN.{length, getD}
 use Rattle.manual.specs.declared.Board.{Board}
 use Rattle.manual.specs.declared.Verdict.the-variants.{None}
+use Rattle.manual.specs.Words.{threeAt}
 use Rattle.manual.specs.Configuration.{Configuration, events, configOk}
 use Rattle.manual.specs.State.{State, lent, allStopped, statusByte}
-use Rattle.manual.specs.Answers.{lentRoom, Outcome}
-use Rattle.manual.specs.Calls.{cleared}
+use Rattle.manual.specs.WellFormed.{wellFormed}
+use Rattle.manual.specs.Answers.{lentRoom, lentBoth, Outcome}
+use Rattle.manual.specs.Counts.{carriesPast}
+use Rattle.manual.specs.Calls.{unknownCode, cleared, clearLog}
 use Rattle.manual.specs.Diagnostics.{Reply, positive, negative, Served, served, SubFunction, subFunction}
 use Rattle.manual.specs.Diagnostics.{matches, line, lines, isNear, counterByte, suppresses, subFunctionReply, replied}
+use Rattle.manual.specs.Diagnostics.{servedBy, asksClear, countsAfter}
+use Rattle.counts.specs.Near.{AreFive}
 use Rattle.diagnostics.specs.declared.Asked.{Asked}
 use Rattle.diagnostics.specs.declared.Asked.the-variants.{All, Matching, Near}
 use Rattle.diagnostics.specs.declared.LineByte.{LineByte}
@@ -119,6 +124,42 @@ module _ (cfg : Configuration) where
   abbrev pub serviceIs : Service → List ℕ → State → Outcome
   serviceIs (Replied size) room s = sentIs size room s
   serviceIs (Service.Clear code) room s = sentIs 1 room (cleared cfg code s)
+
+  -- ---- the clear that a request asks for
+
+  -- "14: length must be 4 (else 13); the three bytes are a trouble code; unknown: code 31; else clear"
+  abbrev pub clears14 : List ℕ → Bool
+  clears14 request = eqb (length request) 4 && not (unknownCode cfg (threeAt 1 request))
+
+  -- the trouble code of it, where one is asked for
+  abbrev pub codeWhere : Bool → List ℕ → Option ℕ
+  codeWhere asked request = cond asked (some (threeAt 1 request)) none
+
+  -- the one that service 14 clears, and the one that is left to do
+  abbrev pub codeOf14 : ClearRequest → Option ℕ
+  codeOf14 (Clear code) = some code
+  codeOf14 (Negative code) = none
+
+  abbrev pub leftToClear : Service → Option ℕ
+  leftToClear (Replied size) = none
+  leftToClear (Service.Clear code) = some code
+
+  -- document 02, W7: a "clearing diagnostic request whose whole rise would carry any count past 4,294,967,295"
+  abbrev pub clearsPast : List ℕ → List ℕ → State → Bool
+  clearsPast request counts s = asksClear cfg request && carriesPast (clearLog cfg (threeAt 1 request) s) counts
+
+  -- what a request that nothing refuses may count on
+  pub record MayAnswer (request room counts : List ℕ) (s : State) : Type 0 where
+    pub accepted : Accepted room
+    pub formed : wellFormed cfg s ≡ true
+    pub five : AreFive counts
+    pub not-past : clearsPast request counts s ≡ false
+
+  -- and what it leaves
+  abbrev pub answered : List ℕ → List ℕ → List ℕ → State → Outcome
+  answered request room counts s =
+      replied cfg (getD request 0 0) (lentBoth room (countsAfter cfg request (lentBoth room counts) s))
+      (servedBy cfg request (length room) s)
 
 -- the reply in this turn, where these are the bytes of the positive one
 abbrev pub turnIs : Turn → List ℕ → Reply

@@ -18,14 +18,16 @@ ghost use Rattle.manual.specs.Words.{countBelow, threeAt, between, twosCompleme
 ghost use Rattle.manual.specs.Configuration.{Configuration, mostEvents, events, entryFrames, configOk};
 ghost use Rattle.manual.specs.State.{State, lent, statusByte};
 ghost use Rattle.manual.specs.WellFormed.{wellFormed};
-ghost use Rattle.manual.specs.Answers.{lentRoom, _if_, firstThatApplies, ofLength, leaves};
+ghost use Rattle.manual.specs.Answers.{lentRoom, lentBoth, _if_, firstThatApplies, ofLength, leaves};
+ghost use Rattle.manual.specs.Calls.{begins};
 ghost use Rattle.manual.specs.Diagnostics.{negative, replyBytes, served, subFunction, line, maskOf, suppresses};
 ghost use Rattle.manual.specs.Diagnostics.{matches, isNear, counterByte, numberByMask, listByMask, listAll, listNear};
 ghost use Rattle.manual.specs.Diagnostics.{isRecord, eventAsked, detailsTold, behindStatus, shownBytes};
 ghost use Rattle.manual.specs.Diagnostics.{service19, service14, servedBy, sent};
-ghost use Rattle.manual.specs.Diagnostics.{replied, requestRules, requestReply};
+ghost use Rattle.manual.specs.Diagnostics.{replied, asksClear, requestRules, requestReply};
 ghost use Rattle.manual.specs.Memory.{entriesOf, entryFor};
 ghost use Rattle.config.specs.Search.{searchIs};
+ghost use Rattle.counts.specs.Near.{AreFive};
 ghost use Rattle.judgement.specs.Checks.{checkNumber};
 ghost use Rattle.memory.specs.Places.{atPlace};
 ghost use Rattle.writing.specs.Writing.{written, append};
@@ -35,7 +37,8 @@ ghost use Rattle.diagnostics.specs.Replies.{EventFits, BytesFit, Accepte
 ghost use Rattle.diagnostics.specs.Replies.{TurnBy};
 ghost use Rattle.diagnostics.specs.Showing.{remembering, numberOf, tells, toldLength, shownLength, showsOne};
 ghost use Rattle.diagnostics.specs.Showing.{MayTell, MayShow, MayRead, shownReply};
-ghost use Rattle.diagnostics.specs.Replies.{clearRequestIs, serviceIs};
+ghost use Rattle.diagnostics.specs.Replies.{clearRequestIs, serviceIs, clears14, codeWhere, codeOf14};
+ghost use Rattle.diagnostics.specs.Replies.{leftToClear, clearsPast, MayAnswer, answered};
 
 // Three things are called 14: the service that clears,
 const SERVICE_14: u8 = 0x14;
@@ -793,7 +796,10 @@ fn reply_19(
 fn clear_request(cfg: &[i32], request: &[u8]) -> ClearRequest
     requires { ⌜ configOk (now cfg) ≡ true ⌝ }
     ensures { λ r. ⌜ ((s : State)
-        → clearRequestIs (now (cfg .entry)) r s ≡ service14 (now (cfg .entry)) (now (request .entry)) s) ⌝ }
+        → clearRequestIs (now (cfg .entry)) r s ≡ service14 (now (cfg .entry)) (now (request .entry)) s) ×
+        (codeOf14 (now (cfg .entry)) r
+        ≡ codeWhere (now (cfg .entry)) (clears14 (now (cfg .entry)) (now (request .entry)))
+        (now (request .entry))) ⌝ }
 {
     if request.len() != 4 {
         return ClearRequest::Negative(0x13);
@@ -813,7 +819,10 @@ fn reply_14(cfg: &[i32], request: &[u8], room: &mut [u8]) -> Service
         ((s : State)
         → serviceIs (now (cfg .entry)) r (now (room .exit)) s
         ≡ replied (now (cfg .entry)) 0x14 (lentRoom (now (room .entry)))
-        (service14 (now (cfg .entry)) (now (request .entry)) s))
+        (service14 (now (cfg .entry)) (now (request .entry)) s)) ×
+        (leftToClear (now (cfg .entry)) r
+        ≡ codeWhere (now (cfg .entry)) (clears14 (now (cfg .entry)) (now (request .entry)))
+        (now (request .entry)))
         ⌝ }
 {
     match clear_request(cfg, request) {
@@ -839,10 +848,13 @@ fn serve(
     requires { ⌜ MayRead (now cfg) (now records) (now memory) (now room) ⌝ }
     ensures { λ r.
         ⌜
-        InStatesWith (now (records .entry)) (now (debounce .entry)) (now (memory .entry))
+        (InStatesWith (now (records .entry)) (now (debounce .entry)) (now (memory .entry))
         (λ s. serviceIs (now (cfg .entry)) r (now (room .exit)) s
         ≡ replied (now (cfg .entry)) (getD (now (request .entry)) 0 0) (lentRoom (now (room .entry)))
-        (servedBy (now (cfg .entry)) (now (request .entry)) (length (now (room .entry))) s))
+        (servedBy (now (cfg .entry)) (now (request .entry)) (length (now (room .entry))) s))) ×
+        (leftToClear (now (cfg .entry)) r
+        ≡ codeWhere (now (cfg .entry)) (asksClear (now (cfg .entry)) (now (request .entry)))
+        (now (request .entry)))
         ⌝ }
 {
     let service = byte_of(request, 0);
@@ -853,7 +865,8 @@ fn serve(
     }
 }
 
-// A request that nothing refuses: its reply, then the clear where it asks for one.
+// A request that nothing refuses: its reply, then the clear where it asks for one. The counts rise by the entries that
+// the clear takes out.
 fn accept(
     cfg: &[i32],
     records: &mut [u8],
@@ -862,17 +875,14 @@ fn accept(
     board: Board,
     request: &[u8],
     room: &mut [u8],
+    counts: &mut [u32],
 ) -> RequestReturned
-    requires { ⌜ Accepted (now cfg) (now room) ×
-        (wellFormed (now cfg) (lent (now records) (now debounce) (now memory) board) ≡ true) ⌝ }
-    ensures { λ r.
-        ⌜
-        leaves (ofLength (r .answer)) [] (lentRoom (now (room .exit)))
+    requires { ⌜ MayAnswer (now cfg) (now request) (now room) (now counts)
+        (lent (now records) (now debounce) (now memory) board) ⌝ }
+    ensures { λ r. ⌜ leaves (ofLength (r .answer)) [] (lentBoth (now (room .exit)) (now (counts .exit)))
         (lent (now (records .exit)) (now (debounce .exit)) (now (memory .exit)) (r .board))
-        ≡ replied (now (cfg .entry)) (getD (now (request .entry)) 0 0) (lentRoom (now (room .entry)))
-        (servedBy (now (cfg .entry)) (now (request .entry)) (length (now (room .entry)))
-        (lent (now (records .entry)) (now (debounce .entry)) (now (memory .entry)) board))
-        ⌝ }
+        ≡ answered (now (cfg .entry)) (now (request .entry)) (now (room .entry)) (now (counts .entry))
+        (lent (now (records .entry)) (now (debounce .entry)) (now (memory .entry)) board) ⌝ }
 {
     match serve(cfg, records, debounce, memory, request, room) {
         Service::Replied(size) => {
@@ -881,15 +891,17 @@ fn accept(
         }
         Service::Clear(code) => {
             let after = clearing::clear_covered(cfg, records, debounce, memory, board, code);
+            counts::raise(counts, after.rise);
+            let board_after = after.board;
             RequestReturned {
                 answer: LengthAnswer::Written(1),
-                board: after,
+                board: board_after,
             }
         }
     }
 }
 
-// The call's own refusals: "diagnostic request 7, 1".
+// "diagnostic request 7, 1"
 fn judge_sizes(request: &[u8], room: &[u8]) -> Check
     ensures { λ r. ⌜ checkNumber r
         ≡ firstThatApplies
@@ -904,7 +916,69 @@ fn judge_sizes(request: &[u8], room: &[u8]) -> Check
     Check::Go
 }
 
-// "Every call begins 2, 3. Then: … diagnostic request 7, 1."
+// "Every call begins 2, 3. Then: … diagnostic request 7, 1." `fits` says whether the counts have the right length.
+fn judge_begin(
+    cfg: &[i32],
+    records: &[u8],
+    debounce: &[i32],
+    memory: &[u8],
+    board: Board,
+    fits: bool,
+    request: &[u8],
+    room: &[u8],
+) -> Check
+    ensures { λ r. ⌜ checkNumber r
+        ≡ firstThatApplies
+        (begins (now (cfg .entry)) (lent (now (records .entry)) (now (debounce .entry)) (now (memory .entry)) board)
+        fits ((7 if ltb (length (now (room .entry))) 3) ∷ (1 if eqb (length (now (request .entry))) 0) ∷ [])) ⌝ }
+{
+    match judgement::begin(cfg, records, debounce, memory, board, fits) {
+        Check::Go => judge_sizes(request, room),
+        Check::Stop(refusal) => Check::Stop(refusal),
+    }
+}
+
+// Document 02, W7, of a "clearing diagnostic request": "refused with new number 12, checked last". Any other request
+// adds nothing to the counts.
+fn judge_limit(
+    cfg: &[i32],
+    records: &[u8],
+    debounce: &[i32],
+    memory: &[u8],
+    board: Board,
+    request: &[u8],
+    counts: &[u32],
+) -> Check
+    requires { ⌜ ((configOk (now cfg) ≡ true) ×
+        (wellFormed (now cfg) (lent (now records) (now debounce) (now memory) board) ≡ true)) ×
+        (AreFive (now counts)) ⌝ }
+    ensures { λ r. ⌜ checkNumber r
+        ≡ firstThatApplies
+        ((12 if clearsPast (now (cfg .entry)) (now (request .entry)) (now (counts .entry))
+        (lent (now (records .entry)) (now (debounce .entry)) (now (memory .entry)) board)) ∷ []) ⌝ }
+{
+    if byte_of(request, 0) == SERVICE_14 {
+        match clear_request(cfg, request) {
+            ClearRequest::Clear(code) => {
+                let past = clearing::carries_past(
+                    cfg,
+                    records,
+                    debounce,
+                    memory,
+                    board,
+                    code,
+                    counts,
+                );
+                rehearsal::limit_test(past)
+            }
+            ClearRequest::Negative(_) => Check::Go,
+        }
+    } else {
+        Check::Go
+    }
+}
+
+// "The first that applies, in the call's order, is given."
 fn judge(
     cfg: &[i32],
     records: &[u8],
@@ -913,14 +987,16 @@ fn judge(
     board: Board,
     request: &[u8],
     room: &[u8],
+    counts: &[u32],
 ) -> Check
     ensures { λ r. ⌜ checkNumber r
         ≡ firstThatApplies
-        (requestRules (now (cfg .entry)) (now (request .entry)) (lentRoom (now (room .entry)))
+        (requestRules (now (cfg .entry)) (now (request .entry)) (lentBoth (now (room .entry)) (now (counts .entry)))
         (lent (now (records .entry)) (now (debounce .entry)) (now (memory .entry)) board)) ⌝ }
 {
-    match judgement::begin(cfg, records, debounce, memory, board, true) {
-        Check::Go => judge_sizes(request, room),
+    let fits = counts::fit(counts);
+    match judge_begin(cfg, records, debounce, memory, board, fits, request, room) {
+        Check::Go => judge_limit(cfg, records, debounce, memory, board, request, counts),
         Check::Stop(refusal) => Check::Stop(refusal),
     }
 }
@@ -934,14 +1010,16 @@ pub fn request(
     board: Board,
     request: &[u8],
     room: &mut [u8],
+    counts: &mut [u32],
 ) -> RequestReturned
-    ensures { λ r. ⌜ leaves (ofLength (r .answer)) [] (lentRoom (now (room .exit)))
+    ensures { λ r. ⌜ leaves (ofLength (r .answer)) [] (lentBoth (now (room .exit)) (now (counts .exit)))
         (lent (now (records .exit)) (now (debounce .exit)) (now (memory .exit)) (r .board))
-        ≡ requestReply (now (cfg .entry)) (now (request .entry)) (lentRoom (now (room .entry)))
+        ≡ requestReply (now (cfg .entry)) (now (request .entry))
+        (lentBoth (now (room .entry)) (now (counts .entry)))
         (lent (now (records .entry)) (now (debounce .entry)) (now (memory .entry)) board) ⌝ }
 {
-    match judge(cfg, records, debounce, memory, board, request, room) {
-        Check::Go => accept(cfg, records, debounce, memory, board, request, room),
+    match judge(cfg, records, debounce, memory, board, request, room, counts) {
+        Check::Go => accept(cfg, records, debounce, memory, board, request, room, counts),
         Check::Stop(refusal) => RequestReturned {
             answer: LengthAnswer::Refused(refusal),
             board,

@@ -15,7 +15,7 @@ ghost use Rattle.manual.specs.declared.Board.{Board};
 ghost use Rattle.manual.specs.Configuration.{events};
 ghost use Rattle.manual.specs.State.{recordWidth, stored, withStored, allStopped, lent};
 ghost use Rattle.manual.specs.WellFormed.{lengthsFit};
-ghost use Rattle.manual.specs.Answers.{alone, ofAnswer, leaves};
+ghost use Rattle.manual.specs.Answers.{lentCounts, ofAnswer, leaves};
 ghost use Rattle.manual.specs.Calls.{freshRecords, freshState, fresh};
 
 // ---- the blocks
@@ -73,22 +73,26 @@ fn make_fresh(cfg: &[i32], records: &mut [u8], debounce: &mut [i32], memory: &mu
     stopped_board(false)
 }
 
-// "Every call begins 2, 3. … For restore and for making a fresh state, 3 judges lengths only."
+// "Every call begins 2, 3. … For restore and for making a fresh state, 3 judges lengths only." Document 02, W7: "A
+// slice of another length is 3. A fresh state zeroes all five."
 pub fn fresh(
     cfg: &[i32],
     records: &mut [u8],
     debounce: &mut [i32],
     memory: &mut [u8],
     board: Board,
+    counts: &mut [u32],
 ) -> Returned
-    ensures { λ r. ⌜ leaves (ofAnswer (r .answer)) [] alone
+    ensures { λ r. ⌜ leaves (ofAnswer (r .answer)) [] (lentCounts (now (counts .exit)))
         (lent (now (records .exit)) (now (debounce .exit)) (now (memory .exit)) (r .board))
-        ≡ fresh (now (cfg .entry)) alone
+        ≡ fresh (now (cfg .entry)) (lentCounts (now (counts .entry)))
         (lent (now (records .entry)) (now (debounce .entry)) (now (memory .entry)) board) ⌝ }
 {
-    match judgement::begin_with_lengths(cfg, records, debounce, memory, true) {
+    let fits = counts::fit(counts);
+    match judgement::begin_with_lengths(cfg, records, debounce, memory, fits) {
         Check::Go => {
             let after = make_fresh(cfg, records, debounce, memory);
+            counts::reset(counts);
             Returned {
                 answer: Answer::Done,
                 board: after,

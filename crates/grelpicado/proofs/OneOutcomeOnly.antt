@@ -1,12 +1,12 @@
--- The statement of each of the sixteen calls allows one outcome only: one result, and of every block that the call may
--- write one content, to the last byte.
-use mathlib.Core.Path.{_≡_, refl}
+-- The statement of each of the sixteen calls allows one outcome only: one result, and of every block, the room and the
+-- counts, where the call may write them, one content, to the last byte.
+use mathlib.Core.Path.{_≡_, refl, ap}
 use mathlib.Core.List.{List}
 use Prim.Native.Nat.{ℕ}
 use lib.IntN.{ℤ}
 use Rattle.manual.specs.Configuration.{Configuration}
 use Rattle.manual.specs.State.{State, lent}
-use Rattle.manual.specs.Answers.{lentRoom, alone}
+use Rattle.manual.specs.Answers.{Beside, lentRoom, lentCounts, lentBoth, alone}
 use Rattle.manual.specs.Calls.{fresh, report, tick, startCycle, stopCycle, clearCode, readStatus}
 use Rattle.manual.specs.Counter.{counterRead}
 use Rattle.manual.specs.Missing.{missingRead}
@@ -40,8 +40,17 @@ same-blocks p q = (
   (one-outcome (λ (y : Crossing). y .debounce) refl refl p q, one-outcome (λ (y : Crossing). y .memory) refl refl p q),
 )
 
-same-room : {o y y′ : Crossing} → y ≡ o → y′ ≡ o → y .room ≡ y′ .room
-same-room p q = one-outcome (λ (y : Crossing). y .room) refl refl p q
+same-beside : {o y y′ : Crossing} → y ≡ o → y′ ≡ o → y .beside ≡ y′ .beside
+same-beside p q = one-outcome (λ (y : Crossing). y .beside) refl refl p q
+
+same-room : {o y y′ : Crossing} → y ≡ o → y′ ≡ o → y .beside .room ≡ y′ .beside .room
+same-room p q = ap (λ (b : Beside). b .room) (same-beside p q)
+
+-- the blocks and the counts
+same-lent : {o y y′ : Crossing} → y ≡ o → y′ ≡ o
+    → ((y .records ≡ y′ .records) × ((y .debounce ≡ y′ .debounce) × (y .memory ≡ y′ .memory)))
+    × (y .beside .counts ≡ y′ .beside .counts)
+same-lent p q = (same-blocks p q, ap (λ (b : Beside). b .counts) (same-beside p q))
 
 abbrev answerIn : Crossing → PanelAnswer
 answerIn x = record { number = x .number; board = x .board }
@@ -78,60 +87,76 @@ module _ (cfg : Configuration) (records₀ : List ℕ) (debounce₀ : List ℤ) 
   abbrev given : State
   given = lent records₀ debounce₀ memory₀ (boardOf board)
 
-  -- ---- calls that may write every block of the state, and hand back the board
+  -- ---- calls that may write every block of the state and the counts, and hand back the board
 
-  module _ (records records′ : List ℕ) (debounce debounce′ : List ℤ) (memory memory′ : List ℕ) where
+  module _ (counts₀ : List ℕ) (records records′ : List ℕ) (debounce debounce′ : List ℤ) (memory memory′ : List ℕ)
+      (counts counts′ : List ℕ) where
     module _ (r r′ : PanelAnswer) where
       pub one-fresh :
-          withAnswer records debounce memory r ≡ crosses (fresh cfg alone given) board
-          → withAnswer records′ debounce′ memory′ r′ ≡ crosses (fresh cfg alone given) board
-          → (r ≡ r′) × ((records ≡ records′) × ((debounce ≡ debounce′) × (memory ≡ memory′)))
-      one-fresh p q = (one-outcome answerIn refl refl p q, same-blocks p q)
+          withAnswer records debounce memory (lentCounts counts) r
+          ≡ crosses (fresh cfg (lentCounts counts₀) given) board
+          → withAnswer records′ debounce′ memory′ (lentCounts counts′) r′
+          ≡ crosses (fresh cfg (lentCounts counts₀) given) board
+          → (r ≡ r′) × (((records ≡ records′) × ((debounce ≡ debounce′) × (memory ≡ memory′))) × (counts ≡ counts′))
+      one-fresh p q = (one-outcome answerIn refl refl p q, same-lent p q)
 
       pub one-tick : (ms : ℕ) (frame : List ℕ) (present : ℕ)
-          → withAnswer records debounce memory r ≡ crosses (tick cfg ms frame present alone given) board
-          → withAnswer records′ debounce′ memory′ r′ ≡ crosses (tick cfg ms frame present alone given) board
-          → (r ≡ r′) × ((records ≡ records′) × ((debounce ≡ debounce′) × (memory ≡ memory′)))
-      one-tick ms frame present p q = (one-outcome answerIn refl refl p q, same-blocks p q)
+          → withAnswer records debounce memory (lentCounts counts) r
+          ≡ crosses (tick cfg ms frame present (lentCounts counts₀) given) board
+          → withAnswer records′ debounce′ memory′ (lentCounts counts′) r′
+          ≡ crosses (tick cfg ms frame present (lentCounts counts₀) given) board
+          → (r ≡ r′) × (((records ≡ records′) × ((debounce ≡ debounce′) × (memory ≡ memory′))) × (counts ≡ counts′))
+      one-tick ms frame present p q = (one-outcome answerIn refl refl p q, same-lent p q)
 
       pub one-stop : (cycle : ℕ)
-          → withAnswer records debounce memory r ≡ crosses (stopCycle cfg cycle alone given) board
-          → withAnswer records′ debounce′ memory′ r′ ≡ crosses (stopCycle cfg cycle alone given) board
-          → (r ≡ r′) × ((records ≡ records′) × ((debounce ≡ debounce′) × (memory ≡ memory′)))
-      one-stop cycle p q = (one-outcome answerIn refl refl p q, same-blocks p q)
+          → withAnswer records debounce memory (lentCounts counts) r
+          ≡ crosses (stopCycle cfg cycle (lentCounts counts₀) given) board
+          → withAnswer records′ debounce′ memory′ (lentCounts counts′) r′
+          ≡ crosses (stopCycle cfg cycle (lentCounts counts₀) given) board
+          → (r ≡ r′) × (((records ≡ records′) × ((debounce ≡ debounce′) × (memory ≡ memory′))) × (counts ≡ counts′))
+      one-stop cycle p q = (one-outcome answerIn refl refl p q, same-lent p q)
 
       pub one-clear : (code : ℕ)
-          → withAnswer records debounce memory r ≡ crosses (clearCode cfg code alone given) board
-          → withAnswer records′ debounce′ memory′ r′ ≡ crosses (clearCode cfg code alone given) board
-          → (r ≡ r′) × ((records ≡ records′) × ((debounce ≡ debounce′) × (memory ≡ memory′)))
-      one-clear code p q = (one-outcome answerIn refl refl p q, same-blocks p q)
+          → withAnswer records debounce memory (lentCounts counts) r
+          ≡ crosses (clearCode cfg code (lentCounts counts₀) given) board
+          → withAnswer records′ debounce′ memory′ (lentCounts counts′) r′
+          ≡ crosses (clearCode cfg code (lentCounts counts₀) given) board
+          → (r ≡ r′) × (((records ≡ records′) × ((debounce ≡ debounce′) × (memory ≡ memory′))) × (counts ≡ counts′))
+      one-clear code p q = (one-outcome answerIn refl refl p q, same-lent p q)
 
       pub one-restore : (image : List ℕ)
-          → withAnswer records debounce memory r ≡ crosses (restore cfg image alone given) board
-          → withAnswer records′ debounce′ memory′ r′ ≡ crosses (restore cfg image alone given) board
-          → (r ≡ r′) × ((records ≡ records′) × ((debounce ≡ debounce′) × (memory ≡ memory′)))
-      one-restore image p q = (one-outcome answerIn refl refl p q, same-blocks p q)
+          → withAnswer records debounce memory (lentCounts counts) r
+          ≡ crosses (restore cfg image (lentCounts counts₀) given) board
+          → withAnswer records′ debounce′ memory′ (lentCounts counts′) r′
+          ≡ crosses (restore cfg image (lentCounts counts₀) given) board
+          → (r ≡ r′) × (((records ≡ records′) × ((debounce ≡ debounce′) × (memory ≡ memory′))) × (counts ≡ counts′))
+      one-restore image p q = (one-outcome answerIn refl refl p q, same-lent p q)
 
     pub one-report : (event code : ℕ) (frame : List ℕ) (present : ℕ) (r r′ : PanelReport)
-        → withReport records debounce memory r ≡ crosses (report cfg event code frame present alone given) board
-        → withReport records′ debounce′ memory′ r′ ≡ crosses (report cfg event code frame present alone given) board
-        → (r ≡ r′) × ((records ≡ records′) × ((debounce ≡ debounce′) × (memory ≡ memory′)))
-    one-report event code frame present r r′ p q = (one-outcome reportIn refl refl p q, same-blocks p q)
+        → withReport records debounce memory (lentCounts counts) r
+        ≡ crosses (report cfg event code frame present (lentCounts counts₀) given) board
+        → withReport records′ debounce′ memory′ (lentCounts counts′) r′
+        ≡ crosses (report cfg event code frame present (lentCounts counts₀) given) board
+        → (r ≡ r′) × (((records ≡ records′) × ((debounce ≡ debounce′) × (memory ≡ memory′))) × (counts ≡ counts′))
+    one-report event code frame present r r′ p q = (one-outcome reportIn refl refl p q, same-lent p q)
 
     -- the room too
     pub one-request : (request before room room′ : List ℕ) (r r′ : PanelRequest)
-        → withRequest records debounce memory room r ≡ crosses (requestReply cfg request (lentRoom before) given) board
-        → withRequest records′ debounce′ memory′ room′ r′
-        ≡ crosses (requestReply cfg request (lentRoom before) given) board
-        → (r ≡ r′) × (((records ≡ records′) × ((debounce ≡ debounce′) × (memory ≡ memory′))) × (room ≡ room′))
+        → withRequest records debounce memory (lentBoth room counts) r
+        ≡ crosses (requestReply cfg request (lentBoth before counts₀) given) board
+        → withRequest records′ debounce′ memory′ (lentBoth room′ counts′) r′
+        ≡ crosses (requestReply cfg request (lentBoth before counts₀) given) board
+        → (r ≡ r′)
+        × ((((records ≡ records′) × ((debounce ≡ debounce′) × (memory ≡ memory′))) × (counts ≡ counts′))
+        × (room ≡ room′))
     one-request request before room room′ r r′ p q =
-        (one-outcome requestIn refl refl p q, (same-blocks p q, same-room p q))
+        (one-outcome requestIn refl refl p q, (same-lent p q, same-room p q))
 
   -- ---- start may write the records alone
 
   pub one-start : (cycle : ℕ) (records records′ : List ℕ) (r r′ : PanelAnswer)
-      → withAnswer records debounce₀ memory₀ r ≡ crosses (startCycle cfg cycle alone given) board
-      → withAnswer records′ debounce₀ memory₀ r′ ≡ crosses (startCycle cfg cycle alone given) board
+      → withAnswer records debounce₀ memory₀ alone r ≡ crosses (startCycle cfg cycle alone given) board
+      → withAnswer records′ debounce₀ memory₀ alone r′ ≡ crosses (startCycle cfg cycle alone given) board
       → (r ≡ r′) × (records ≡ records′)
   one-start cycle records records′ r r′ p q = (one-outcome answerIn refl refl p q, same-blocks p q .0)
 

@@ -24,7 +24,7 @@ use Rattle.manual.specs.declared.StatusAnswer.{StatusAnswer}
 use Rattle.manual.specs.declared.StatusAnswer.the-variants.{Status}
 use Rattle.manual.specs.declared.TableReturned.{TableReturned}
 use Rattle.manual.specs.State.{State}
-use Rattle.manual.specs.Answers.{lentRoom, Answered, ofAnswer, ofReport, ofStatus, ofCounter, counterAnswered}
+use Rattle.manual.specs.Answers.{Beside, alone, Answered, ofAnswer, ofReport, ofStatus, ofCounter, counterAnswered}
 use Rattle.manual.specs.Answers.{ofMissing, lowestAnswered, ofPaint, paintAnswered, ofFrame, ofLength, leaves}
 use Rattle.queries.specs.Reading.{tells, tellsMissing, startIn, lengthIn, says}
 use Rattle.untested.specs.Page.{tableTold, paintTold}
@@ -73,69 +73,69 @@ length-verdict (LengthAnswer.Refused r) = refl
 
 -- ---- an answer, as it crosses
 
-module _ (x : Answered) (room : List ℕ) (s : State) (found : PanelBoard) {n v k : ℕ} where
+module _ (x : Answered) (b : Beside) (s : State) (found : PanelBoard) {n v k : ℕ} where
   -- with the board that is handed back
   pub crossed : {back : PanelBoard} → n ≡ x .number → v ≡ verdictNumber (x .verdict) → k ≡ x .value
       → back ≡ cond (eqb n 0) (bytesOf (s .board)) found
-      → made n v k 0 (s .records) (s .debounce) (s .memory) room back ≡ crosses (leaves x [] (lentRoom room) s) found
+      → made n v k 0 (s .records) (s .debounce) (s .memory) b back ≡ crosses (leaves x [] b s) found
   unfolding crosses
   crossed number verdict value back =
       let board = back ∙ ap (λ (m : ℕ). cond (eqb m 0) (bytesOf (s .board)) found) number in
-      λ i. made (number i) (verdict i) (value i) 0 (s .records) (s .debounce) (s .memory) room (board i)
+      λ i. made (number i) (verdict i) (value i) 0 (s .records) (s .debounce) (s .memory) b (board i)
 
   -- with none
   pub crossed-without-board : n ≡ x .number → v ≡ verdictNumber (x .verdict) → k ≡ x .value
-      → made n v k 0 (s .records) (s .debounce) (s .memory) room found
-      ≡ crossesWithoutBoard (leaves x [] (lentRoom room) s) found
+      → made n v k 0 (s .records) (s .debounce) (s .memory) b found
+      ≡ crossesWithoutBoard (leaves x [] b s) found
   unfolding crossesWithoutBoard
   crossed-without-board number verdict value =
-      λ i. made (number i) (verdict i) (value i) 0 (s .records) (s .debounce) (s .memory) room found
+      λ i. made (number i) (verdict i) (value i) 0 (s .records) (s .debounce) (s .memory) b found
 
 pub crossed-with-counter : (a : CounterAnswer) (s : State) (found : PanelBoard) {n : ℕ} {z : ℤ}
     → n ≡ ofCounter a .number → z ≡ counterAnswered a
-    → record { rest = made n 0 0 0 (s .records) (s .debounce) (s .memory) [] found; counter = z }
+    → record { rest = made n 0 0 0 (s .records) (s .debounce) (s .memory) alone found; counter = z }
     ≡ crossesWithCounter (tells a s) found
 unfolding crossesWithCounter
 crossed-with-counter a s found number counter =
     λ i. record {
-      rest = made (number i) (counter-verdict a i) 0 0 (s .records) (s .debounce) (s .memory) [] found;
+      rest = made (number i) (counter-verdict a i) 0 0 (s .records) (s .debounce) (s .memory) alone found;
       counter = counter i;
     }
 
 pub crossed-with-missing : (a : MissingAnswer) (s : State) (found : PanelBoard) {n k l : ℕ}
     → n ≡ ofMissing a .number → k ≡ ofMissing a .value → l ≡ lowestAnswered a
-    → record { rest = made n 0 k 0 (s .records) (s .debounce) (s .memory) [] found; lowest = l }
+    → record { rest = made n 0 k 0 (s .records) (s .debounce) (s .memory) alone found; lowest = l }
     ≡ crossesWithMissing (tellsMissing a s) found
 unfolding crossesWithMissing
 crossed-with-missing a s found number count lowest =
     λ i. record {
-      rest = made (number i) (missing-verdict a i) (count i) 0 (s .records) (s .debounce) (s .memory) [] found;
+      rest = made (number i) (missing-verdict a i) (count i) 0 (s .records) (s .debounce) (s .memory) alone found;
       lowest = lowest i;
     }
 
 pub crossed-with-table : (t : TableReturned) (s : State) (found : PanelBoard) {n : ℕ} → n ≡ ofAnswer (t .answer) .number
-    → record { rest = made n 0 0 0 (s .records) (s .debounce) (s .memory) [] found; counts = t .counts }
+    → record { rest = made n 0 0 0 (s .records) (s .debounce) (s .memory) alone found; counts = t .counts }
     ≡ crossesWithTable (tableTold t s) found
 unfolding crossesWithTable
 crossed-with-table t s found number =
     λ i. record {
-      rest = made (number i) (answer-verdict (t .answer) i) 0 0 (s .records) (s .debounce) (s .memory) [] found;
+      rest = made (number i) (answer-verdict (t .answer) i) 0 0 (s .records) (s .debounce) (s .memory) alone found;
       counts = t .counts;
     }
 
 pub crossed-with-paint : (a : PaintAnswer) (s : State) (found : PanelBoard) {n p : ℕ} → n ≡ ofPaint a .number
     → p ≡ paintNumber (paintAnswered a)
-    → made n 0 p 0 (s .records) (s .debounce) (s .memory) [] found ≡ crossesWithPaint (paintTold a s) found
+    → made n 0 p 0 (s .records) (s .debounce) (s .memory) alone found ≡ crossesWithPaint (paintTold a s) found
 unfolding crossesWithPaint
 crossed-with-paint a s found number paint =
-    λ i. made (number i) (paint-verdict a i) (paint i) 0 (s .records) (s .debounce) (s .memory) [] found
+    λ i. made (number i) (paint-verdict a i) (paint i) 0 (s .records) (s .debounce) (s .memory) alone found
 
 pub crossed-with-frame : (a : FrameAnswer) (s : State) (found : PanelBoard) {n start size : ℕ} → n ≡ ofFrame a .number
     → start ≡ startIn a → size ≡ lengthIn a
-    → made n 0 size start (s .records) (s .debounce) (s .memory) [] found ≡ crossesWithFrame (says a s) found
+    → made n 0 size start (s .records) (s .debounce) (s .memory) alone found ≡ crossesWithFrame (says a s) found
 unfolding crossesWithFrame
 crossed-with-frame a s found number start size =
-    λ i. made (number i) (frame-verdict a i) (size i) (start i) (s .records) (s .debounce) (s .memory) [] found
+    λ i. made (number i) (frame-verdict a i) (size i) (start i) (s .records) (s .debounce) (s .memory) alone found
 
 -- ---- a call made on the board that the bytes stand for
 

@@ -14,7 +14,7 @@ use Rattle.manual.specs.declared.Which.the-variants.{First, Latest}
 use Rattle.manual.specs.declared.Verdict.{Verdict}
 use Rattle.manual.specs.declared.Verdict.the-variants.{None, Passed, Failed}
 use Rattle.manual.specs.State.{runs}
-use Rattle.manual.specs.Answers.{Outcome}
+use Rattle.manual.specs.Answers.{Beside, lentRoom, alone, Outcome}
 use Rattle.manual.specs.Counter.{CounterRead}
 use Rattle.manual.specs.Missing.{MissingRead}
 use Rattle.manual.specs.Untested.{TableRead, PaintRead}
@@ -76,7 +76,8 @@ paintNumber Red = 1
 paintNumber Live = 2
 
 -- All that crosses, back to the caller: the answer's number; a report's verdict; the status, paint or length; where the
--- frame part starts; every lent block as the call leaves it; the output room; the board.
+-- frame part starts; every lent block as the call leaves it; what was lent beside them, the output room and document
+-- 02's counts; the board.
 pub record Crossing : Type 0 where
   pub number : ℕ
   pub verdict : ℕ
@@ -85,7 +86,7 @@ pub record Crossing : Type 0 where
   pub records : List ℕ
   pub debounce : List ℤ
   pub memory : List ℕ
-  pub room : List ℕ
+  pub beside : Beside
   pub board : PanelBoard
 
 -- "A refusal changes nothing lent and hands back the board it was given": its very bytes; a call that is done, the new
@@ -94,8 +95,8 @@ abbrev pub handedBack : Outcome → PanelBoard → PanelBoard
 handedBack o found = cond (eqb (o .answer) 0) (bytesOf (o .state .board)) found
 
 -- all that crosses, part by part
-abbrev pub made : ℕ → ℕ → ℕ → ℕ → List ℕ → List ℤ → List ℕ → List ℕ → PanelBoard → Crossing
-made number verdict value start records debounce memory room board = record {
+abbrev pub made : ℕ → ℕ → ℕ → ℕ → List ℕ → List ℤ → List ℕ → Beside → PanelBoard → Crossing
+made number verdict value start records debounce memory beside board = record {
   number = number;
   verdict = verdict;
   value = value;
@@ -103,7 +104,7 @@ made number verdict value start records debounce memory room board = record {
   records = records;
   debounce = debounce;
   memory = memory;
-  room = room;
+  beside = beside;
   board = board;
 }
 
@@ -111,7 +112,7 @@ made number verdict value start records debounce memory room board = record {
 abbrev pub crossing : Outcome → ℕ → ℕ → PanelBoard → Crossing
 crossing o value start board =
     made (o .answer) (verdictNumber (o .verdict)) value start (o .state .records) (o .state .debounce)
-    (o .state .memory) (o .beside .room) board
+    (o .state .memory) (o .beside) board
 
 -- the outcome of a call that hands back a board, where these bytes were given
 unfoldable pub crosses : Outcome → PanelBoard → Crossing
@@ -158,43 +159,43 @@ crossesWithTable t found = record { rest = crossing (t .outcome) 0 0 found; coun
 
 module _ (records : List ℕ) (debounce : List ℤ) (memory : List ℕ) where
   -- fresh, tick, start, stop, clear and restore
-  abbrev pub withAnswer : PanelAnswer → Crossing
-  withAnswer r = made (r .number) 0 0 0 records debounce memory [] (r .board)
+  abbrev pub withAnswer : Beside → PanelAnswer → Crossing
+  withAnswer b r = made (r .number) 0 0 0 records debounce memory b (r .board)
 
   -- report, with its verdict
-  abbrev pub withReport : PanelReport → Crossing
-  withReport r = made (r .number) (r .verdict) 0 0 records debounce memory [] (r .board)
+  abbrev pub withReport : Beside → PanelReport → Crossing
+  withReport b r = made (r .number) (r .verdict) 0 0 records debounce memory b (r .board)
 
   -- read status: the value is the status, the board the caller's
   abbrev pub withStatus : PanelBoard → PanelStatus → Crossing
-  withStatus board r = made (r .number) 0 (r .status) 0 records debounce memory [] board
+  withStatus board r = made (r .number) 0 (r .status) 0 records debounce memory alone board
 
   -- read counter: the board is the caller's
   abbrev pub withCounter : PanelBoard → PanelCounter → CounterCrossing
   withCounter board r =
-      record { rest = made (r .number) 0 0 0 records debounce memory [] board; counter = r .counter }
+      record { rest = made (r .number) 0 0 0 records debounce memory alone board; counter = r .counter }
 
   -- read missing: the value is how many are missing, the board the caller's
   abbrev pub withMissing : PanelBoard → PanelMissing → MissingCrossing
   withMissing board r =
-      record { rest = made (r .number) 0 (r .count) 0 records debounce memory [] board; lowest = r .lowest }
+      record { rest = made (r .number) 0 (r .count) 0 records debounce memory alone board; lowest = r .lowest }
 
   -- read table: the board is the caller's
   abbrev pub withTable : PanelBoard → PanelTable → TableCrossing
-  withTable board r = record { rest = made (r .number) 0 0 0 records debounce memory [] board; counts = r .counts }
+  withTable board r = record { rest = made (r .number) 0 0 0 records debounce memory alone board; counts = r .counts }
 
   -- read paint: the value is the paint, the board the caller's
   abbrev pub withPaint : PanelBoard → PanelPaint → Crossing
-  withPaint board r = made (r .number) 0 (r .paint) 0 records debounce memory [] board
+  withPaint board r = made (r .number) 0 (r .paint) 0 records debounce memory alone board
 
   -- read frame: the value is the length, the board the caller's
   abbrev pub withFrame : PanelBoard → PanelFrame → Crossing
-  withFrame board r = made (r .number) 0 (r .length) (r .start) records debounce memory [] board
+  withFrame board r = made (r .number) 0 (r .length) (r .start) records debounce memory alone board
 
   -- save and list grey: the value is the length, the board the caller's
   abbrev pub withLength : List ℕ → PanelBoard → PanelLength → Crossing
-  withLength room board r = made (r .number) 0 (r .length) 0 records debounce memory room board
+  withLength room board r = made (r .number) 0 (r .length) 0 records debounce memory (lentRoom room) board
 
   -- a diagnostic request: the value is the length
-  abbrev pub withRequest : List ℕ → PanelRequest → Crossing
-  withRequest room r = made (r .number) 0 (r .length) 0 records debounce memory room (r .board)
+  abbrev pub withRequest : Beside → PanelRequest → Crossing
+  withRequest b r = made (r .number) 0 (r .length) 0 records debounce memory b (r .board)

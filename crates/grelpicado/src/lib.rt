@@ -22,7 +22,8 @@ ghost use Prim.Native.Nat.{ℕ};
 ghost use lib.Dec.{eqb};
 ghost use lib.IntN.{ℤ};
 ghost use Rattle.manual.specs.State.{State, lent};
-ghost use Rattle.manual.specs.Answers.{alone, lentRoom, ofAnswer, ofReport, ofStatus, ofLength, leaves};
+ghost use Rattle.manual.specs.Answers.{Beside, lentCounts, lentBoth, alone, lentRoom};
+ghost use Rattle.manual.specs.Answers.{ofAnswer, ofReport, ofStatus, ofLength, leaves};
 ghost use Rattle.manual.specs.Calls.{fresh, report, tick, startCycle, stopCycle, clearCode, readStatus};
 ghost use Rattle.manual.specs.Counter.{counterRead};
 ghost use Rattle.manual.specs.Missing.{missingRead};
@@ -239,9 +240,9 @@ fn frame_length(answer: FrameAnswer) -> usize
 
 // Fresh, tick, start, stop, clear and restore.
 pub(crate) fn answer_of(returned: Returned, found: PanelBoard) -> PanelAnswer
-    ensures { λ r. ⌜ ((records : List ℕ) (debounce : List ℤ) (memory : List ℕ)
-        → withAnswer records debounce memory r
-        ≡ crosses (leaves (ofAnswer (returned .answer)) [] alone (lent records debounce memory (returned .board)))
+    ensures { λ r. ⌜ ((records : List ℕ) (debounce : List ℤ) (memory : List ℕ) (b : Beside)
+        → withAnswer records debounce memory b r
+        ≡ crosses (leaves (ofAnswer (returned .answer)) [] b (lent records debounce memory (returned .board)))
         found) ⌝ }
 {
     let answer = returned.answer;
@@ -255,9 +256,9 @@ pub(crate) fn answer_of(returned: Returned, found: PanelBoard) -> PanelAnswer
 
 // A report.
 pub(crate) fn report_of(returned: ReportReturned, found: PanelBoard) -> PanelReport
-    ensures { λ r. ⌜ ((records : List ℕ) (debounce : List ℤ) (memory : List ℕ)
-        → withReport records debounce memory r
-        ≡ crosses (leaves (ofReport (returned .answer)) [] alone (lent records debounce memory (returned .board)))
+    ensures { λ r. ⌜ ((records : List ℕ) (debounce : List ℤ) (memory : List ℕ) (b : Beside)
+        → withReport records debounce memory b r
+        ≡ crosses (leaves (ofReport (returned .answer)) [] b (lent records debounce memory (returned .board)))
         found) ⌝ }
 {
     let answer = returned.answer;
@@ -272,10 +273,10 @@ pub(crate) fn report_of(returned: ReportReturned, found: PanelBoard) -> PanelRep
 
 // A diagnostic request.
 pub(crate) fn request_of(returned: RequestReturned, found: PanelBoard) -> PanelRequest
-    ensures { λ r. ⌜ ((records : List ℕ) (debounce : List ℤ) (memory room : List ℕ)
-        → withRequest records debounce memory room r
+    ensures { λ r. ⌜ ((records : List ℕ) (debounce : List ℤ) (memory : List ℕ) (b : Beside)
+        → withRequest records debounce memory b r
         ≡ crosses
-        (leaves (ofLength (returned .answer)) [] (lentRoom room) (lent records debounce memory (returned .board)))
+        (leaves (ofLength (returned .answer)) [] b (lent records debounce memory (returned .board)))
         found) ⌝ }
 {
     let answer = returned.answer;
@@ -382,15 +383,17 @@ pub extern "C" fn grelpicado_fresh(
     debounce: &mut [i32],
     memory: &mut [u8],
     board: PanelBoard,
+    counts: &mut [u32],
 ) -> PanelAnswer
-    ensures { λ r. ⌜ withAnswer (now (records .exit)) (now (debounce .exit)) (now (memory .exit)) r
+    ensures { λ r. ⌜ withAnswer (now (records .exit)) (now (debounce .exit)) (now (memory .exit))
+        (lentCounts (now (counts .exit))) r
         ≡ crosses
-        (fresh (now (cfg .entry)) alone
+        (fresh (now (cfg .entry)) (lentCounts (now (counts .entry)))
         (lent (now (records .entry)) (now (debounce .entry)) (now (memory .entry)) (boardOf board)))
         board ⌝ }
 {
     let given = board_of(board);
-    let returned = fresh_state::fresh(cfg, records, debounce, memory, given);
+    let returned = fresh_state::fresh(cfg, records, debounce, memory, given, counts);
     answer_of(returned, board)
 }
 
@@ -406,10 +409,12 @@ pub extern "C" fn grelpicado_report(
     code: u32,
     frame: &[u8],
     present: u32,
+    counts: &mut [u32],
 ) -> PanelReport
-    ensures { λ r. ⌜ withReport (now (records .exit)) (now (debounce .exit)) (now (memory .exit)) r
+    ensures { λ r. ⌜ withReport (now (records .exit)) (now (debounce .exit)) (now (memory .exit))
+        (lentCounts (now (counts .exit))) r
         ≡ crosses
-        (report (now (cfg .entry)) event code (now (frame .entry)) present alone
+        (report (now (cfg .entry)) event code (now (frame .entry)) present (lentCounts (now (counts .entry)))
         (lent (now (records .entry)) (now (debounce .entry)) (now (memory .entry)) (boardOf board)))
         board ⌝ }
 {
@@ -424,6 +429,7 @@ pub extern "C" fn grelpicado_report(
         code,
         frame,
         present,
+        counts,
     );
     report_of(returned, board)
 }
@@ -439,15 +445,27 @@ pub extern "C" fn grelpicado_tick(
     ms: u32,
     frame: &[u8],
     present: u32,
+    counts: &mut [u32],
 ) -> PanelAnswer
-    ensures { λ r. ⌜ withAnswer (now (records .exit)) (now (debounce .exit)) (now (memory .exit)) r
+    ensures { λ r. ⌜ withAnswer (now (records .exit)) (now (debounce .exit)) (now (memory .exit))
+        (lentCounts (now (counts .exit))) r
         ≡ crosses
-        (tick (now (cfg .entry)) ms (now (frame .entry)) present alone
+        (tick (now (cfg .entry)) ms (now (frame .entry)) present (lentCounts (now (counts .entry)))
         (lent (now (records .entry)) (now (debounce .entry)) (now (memory .entry)) (boardOf board)))
         board ⌝ }
 {
     let given = board_of(board);
-    let returned = reporting::tick(cfg, records, debounce, memory, given, ms, frame, present);
+    let returned = reporting::tick(
+        cfg,
+        records,
+        debounce,
+        memory,
+        given,
+        ms,
+        frame,
+        present,
+        counts,
+    );
     answer_of(returned, board)
 }
 
@@ -461,7 +479,7 @@ pub extern "C" fn grelpicado_start(
     board: PanelBoard,
     cycle: u32,
 ) -> PanelAnswer
-    ensures { λ r. ⌜ withAnswer (now (records .exit)) (now (debounce .entry)) (now (memory .entry)) r
+    ensures { λ r. ⌜ withAnswer (now (records .exit)) (now (debounce .entry)) (now (memory .entry)) alone r
         ≡ crosses
         (startCycle (now (cfg .entry)) cycle alone
         (lent (now (records .entry)) (now (debounce .entry)) (now (memory .entry)) (boardOf board)))
@@ -481,15 +499,17 @@ pub extern "C" fn grelpicado_stop(
     memory: &mut [u8],
     board: PanelBoard,
     cycle: u32,
+    counts: &mut [u32],
 ) -> PanelAnswer
-    ensures { λ r. ⌜ withAnswer (now (records .exit)) (now (debounce .exit)) (now (memory .exit)) r
+    ensures { λ r. ⌜ withAnswer (now (records .exit)) (now (debounce .exit)) (now (memory .exit))
+        (lentCounts (now (counts .exit))) r
         ≡ crosses
-        (stopCycle (now (cfg .entry)) cycle alone
+        (stopCycle (now (cfg .entry)) cycle (lentCounts (now (counts .entry)))
         (lent (now (records .entry)) (now (debounce .entry)) (now (memory .entry)) (boardOf board)))
         board ⌝ }
 {
     let given = board_of(board);
-    let returned = cycles::stop(cfg, records, debounce, memory, given, cycle);
+    let returned = cycles::stop(cfg, records, debounce, memory, given, cycle, counts);
     answer_of(returned, board)
 }
 
@@ -502,15 +522,17 @@ pub extern "C" fn grelpicado_clear(
     memory: &mut [u8],
     board: PanelBoard,
     code: u32,
+    counts: &mut [u32],
 ) -> PanelAnswer
-    ensures { λ r. ⌜ withAnswer (now (records .exit)) (now (debounce .exit)) (now (memory .exit)) r
+    ensures { λ r. ⌜ withAnswer (now (records .exit)) (now (debounce .exit)) (now (memory .exit))
+        (lentCounts (now (counts .exit))) r
         ≡ crosses
-        (clearCode (now (cfg .entry)) code alone
+        (clearCode (now (cfg .entry)) code (lentCounts (now (counts .entry)))
         (lent (now (records .entry)) (now (debounce .entry)) (now (memory .entry)) (boardOf board)))
         board ⌝ }
 {
     let given = board_of(board);
-    let returned = clearing::clear(cfg, records, debounce, memory, given, code);
+    let returned = clearing::clear(cfg, records, debounce, memory, given, code, counts);
     answer_of(returned, board)
 }
 
@@ -705,15 +727,17 @@ pub extern "C" fn grelpicado_restore(
     memory: &mut [u8],
     board: PanelBoard,
     image: &[u8],
+    counts: &mut [u32],
 ) -> PanelAnswer
-    ensures { λ r. ⌜ withAnswer (now (records .exit)) (now (debounce .exit)) (now (memory .exit)) r
+    ensures { λ r. ⌜ withAnswer (now (records .exit)) (now (debounce .exit)) (now (memory .exit))
+        (lentCounts (now (counts .exit))) r
         ≡ crosses
-        (restore (now (cfg .entry)) (now (image .entry)) alone
+        (restore (now (cfg .entry)) (now (image .entry)) (lentCounts (now (counts .entry)))
         (lent (now (records .entry)) (now (debounce .entry)) (now (memory .entry)) (boardOf board)))
         board ⌝ }
 {
     let given = board_of(board);
-    let returned = image::restore(cfg, records, debounce, memory, given, image);
+    let returned = image::restore(cfg, records, debounce, memory, given, image, counts);
     answer_of(returned, board)
 }
 
@@ -727,14 +751,25 @@ pub extern "C" fn grelpicado_request(
     board: PanelBoard,
     request: &[u8],
     room: &mut [u8],
+    counts: &mut [u32],
 ) -> PanelRequest
-    ensures { λ r. ⌜ withRequest (now (records .exit)) (now (debounce .exit)) (now (memory .exit)) (now (room .exit)) r
+    ensures { λ r. ⌜ withRequest (now (records .exit)) (now (debounce .exit)) (now (memory .exit))
+        (lentBoth (now (room .exit)) (now (counts .exit))) r
         ≡ crosses
-        (requestReply (now (cfg .entry)) (now (request .entry)) (lentRoom (now (room .entry)))
+        (requestReply (now (cfg .entry)) (now (request .entry)) (lentBoth (now (room .entry)) (now (counts .entry)))
         (lent (now (records .entry)) (now (debounce .entry)) (now (memory .entry)) (boardOf board)))
         board ⌝ }
 {
     let given = board_of(board);
-    let returned = diagnostics::request(cfg, records, debounce, memory, given, request, room);
+    let returned = diagnostics::request(
+        cfg,
+        records,
+        debounce,
+        memory,
+        given,
+        request,
+        room,
+        counts,
+    );
     request_of(returned, board)
 }

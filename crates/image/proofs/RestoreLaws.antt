@@ -14,66 +14,84 @@ use borrow.Author.Tests.{not-false}
 use Rattle.manual.specs.declared.Board.{Board}
 use Rattle.manual.specs.declared.Refusal.{Refusal}
 use Rattle.manual.specs.declared.Refusal.the-variants.{BadImage}
-use Rattle.manual.specs.Configuration.{Configuration, events, places, frameBytes, entryFrames, configOk}
+use Rattle.manual.specs.Configuration.{Configuration, mostPlaces, events, places, frameBytes, entryFrames, configOk}
 use Rattle.manual.specs.State.{State, lent, allStopped, recordWidth, withMemory}
-use Rattle.manual.specs.WellFormed.{lengthsFit}
+use Rattle.manual.specs.WellFormed.{lengthsFit, entries}
 use Rattle.manual.specs.Memory.{Entry, entryWidth, entryCount, bytesInUse, entriesOf}
 use Rattle.manual.specs.OneEvent.{withEntries}
-use Rattle.manual.specs.Answers.{_if_, firstThatApplies, numberOf}
+use Rattle.manual.specs.Answers.{lentCounts, done, Rule, _if_, firstThatApplies, numberOf}
+use Rattle.manual.specs.Counts.{countsFit, presentCounts}
 use Rattle.manual.specs.Calls.{beginsWithLengths}
 use Rattle.manual.specs.Image.{headerLength, Edition, edition1, edition2, withBoth, recordsOf, stateIn, acceptableIn}
-use Rattle.manual.specs.Image.{widened, stateOf, acceptable, restoreRules}
-use Rattle.manual.proofs.AnswersLaws.{none-applies}
+use Rattle.manual.specs.Image.{Still, widened, stateOf, acceptable, restoreRules, restoredTo, restore}
+use Rattle.manual.proofs.AnswersLaws.{none-applies, three-passed, goes-through}
 use Rattle.manual.proofs.ConfigurationLaws.{config-tells}
-use Rattle.manual.proofs.AcceptedImages.{in-one, state-1, state-2}
-use Rattle.manual.proofs.WellFormedLaws.{lengths-tell}
+use Rattle.manual.proofs.AcceptedImages.{in-one, state-1, state-2, accepted-state}
+use Rattle.manual.proofs.WellFormedLaws.{lengths-tell, state-tells}
+use Rattle.counts.specs.Near.{AreFive}
+use Rattle.counts.proofs.NearLaws.{are-five}
 use Rattle.judgement.proofs.BeginLaws.{begun-with-lengths, after-lengths-go, after-lengths-stop}
 use Rattle.writing.specs.Writing as writing
 use Rattle.writing.specs.Writing.{written, append, filled}
 use Rattle.writing.proofs.WritingLaws.{append-filled}
 use Rattle.image.specs.Layout.{memoryAt, lengthOk}
 use Rattle.image.specs.Widened.{widenedBytes, madeOf}
-use Rattle.image.specs.Ready.{Fillable, Restorable}
+use Rattle.image.specs.Ready.{Counted, Fillable, Restorable}
 use Rattle.image.proofs.LayoutLaws.{Fitting, usedPart, flagByte, headerPart}
 use Rattle.image.proofs.LayoutLaws.{parts-fit, parts-joined, length-least}
 use Rattle.image.proofs.JudgementLaws.{accepted-length, byte-1-is, records-cut, used-cut, told, state-in}
 use Rattle.image.proofs.WidenedLaws.{made-of-1, made-of-other, widened-long, widened-memory}
+use Rattle.memory.proofs.PlacesLaws.{entries-are-count}
 use Rattle.memory.proofs.JudgementLaws.{entries-in-front}
 use Rattle.writing.specs.Filled.{filledFrom}
 
 -- ---- the judge
 
-module _ (cfg : Configuration) (image records : List ℕ) (debounce : List ℤ) (memory : List ℕ) (b : Board) where
+module _ (cfg : Configuration) (image counts records : List ℕ) (debounce : List ℤ) (memory : List ℕ) (b : Board) where
   abbrev s : State
   s = lent records debounce memory b
 
-  module _ (go : firstThatApplies (beginsWithLengths cfg s true []) ≡ 0) where
-    pub begun-accepted : configOk cfg ≡ true
-    begun-accepted = begun-with-lengths cfg s true go .0
+  abbrev rules : List Rule
+  rules = restoreRules cfg image (lentCounts counts) s
 
-    pub judged-go : {ok : Bool} → ok ≡ acceptable cfg image → ok ≡ true
-        → 0 ≡ firstThatApplies (restoreRules cfg image s)
-    unfolding restoreRules firstThatApplies
-    judged-go p q = sym (after-lengths-go cfg s true ((8 if not (acceptable cfg image)) ∷ []) go ∙ rw (← p, q))
+  -- the rule of its own
+  abbrev eight : List Rule
+  eight = (8 if not (acceptable cfg image)) ∷ []
 
-    pub judged-bad : {ok : Bool} → ok ≡ acceptable cfg image → ok ≡ false
-        → numberOf BadImage ≡ firstThatApplies (restoreRules cfg image s)
-    unfolding restoreRules firstThatApplies
-    judged-bad p q = sym (after-lengths-go cfg s true ((8 if not (acceptable cfg image)) ∷ []) go ∙ rw (← p, q))
+  module _ {fits : Bool} (f : fits ≡ countsFit counts) where
+    rules-are : firstThatApplies (beginsWithLengths cfg s fits eight) ≡ firstThatApplies rules
+    unfolding restoreRules
+    rules-are = ap (λ (x : Bool). firstThatApplies (beginsWithLengths cfg s x eight)) f
 
-  pub judged-stop : (r : Refusal) → numberOf r ≡ firstThatApplies (beginsWithLengths cfg s true [])
-      → numberOf r ≡ firstThatApplies (restoreRules cfg image s)
-  unfolding restoreRules
-  judged-stop r e = sym (after-lengths-stop cfg s true _ r e)
+    module _ (go : firstThatApplies (beginsWithLengths cfg s fits []) ≡ 0) where
+      pub begun-accepted : configOk cfg ≡ true
+      begun-accepted = begun-with-lengths cfg s fits go .0
+
+      pub judged-go : {ok : Bool} → ok ≡ acceptable cfg image → ok ≡ true → 0 ≡ firstThatApplies rules
+      unfolding firstThatApplies
+      judged-go p q = sym (after-lengths-go cfg s fits eight go ∙ rw (← p, q)) ∙ rules-are
+
+      pub judged-bad : {ok : Bool} → ok ≡ acceptable cfg image → ok ≡ false → numberOf BadImage ≡ firstThatApplies rules
+      unfolding firstThatApplies
+      judged-bad p q = sym (after-lengths-go cfg s fits eight go ∙ rw (← p, q)) ∙ rules-are
+
+    pub judged-stop : (r : Refusal) → numberOf r ≡ firstThatApplies (beginsWithLengths cfg s fits [])
+        → numberOf r ≡ firstThatApplies rules
+    judged-stop r e = sym (after-lengths-stop cfg s fits eight r e) ∙ rules-are
 
   -- ---- the call
 
-  module _ (z : firstThatApplies (restoreRules cfg image s) ≡ 0) where
+  module _ (z : firstThatApplies rules ≡ 0) where
+    -- what is lent has its length
+    lengths-right : (countsFit counts ≡ true) × (lengthsFit cfg s ≡ true)
+    unfolding restoreRules
+    lengths-right = three-passed (countsFit counts) (lengthsFit cfg s) (none-applies _ z refl 1)
+
     pub restore-ready : Restorable cfg records debounce memory image
     unfolding restoreRules
     restore-ready =
         let none = none-applies _ z refl in
-        let t = lengths-tell cfg s (not-false (lengthsFit cfg s) (none 1)) in
+        let t = lengths-tell cfg s (lengths-right .1) in
         record {
           accepted = not-false (configOk cfg) (none 0);
           records-fit = t .records;
@@ -81,6 +99,35 @@ module _ (cfg : Configuration) (image records : List ℕ) (debounce : List ℤ) 
           memory-fits = t .memory;
           image-accepted = not-false (acceptable cfg image) (none 2);
         }
+
+    pub restore-five : AreFive counts
+    restore-five = are-five counts (lengths-right .0)
+
+    module _ {s′ : State} (p : s′ ≡ stateOf cfg image) where
+      -- memory of the state that it makes
+      pub restored-counted : Counted cfg (s′ .memory)
+      restored-counted =
+          let t =
+          state-tells cfg s′
+          (subst (Still cfg) (sym p) (accepted-state cfg image (restore-ready .image-accepted)) .formed) in
+          record {
+            accepted = restore-ready .accepted;
+            some = omega (arith, t .lengths .memory);
+            few = t .few;
+          }
+
+      pub few-enough : entryCount (s′ .memory) ≤ mostPlaces
+      few-enough = omega (arith, restored-counted .few, config-tells cfg (restore-ready .accepted) .M-most)
+
+      -- W7: "A restore sets admitted to the entries present and the rest to 0"
+      pub restore-done : {present : ℕ} {counts′ : List ℕ} → present ≡ entryCount (s′ .memory)
+          → ((xs : List Entry) → length xs ≡ present → counts′ ≡ presentCounts xs)
+          → done (lentCounts counts′) s′ ≡ restore cfg image (lentCounts counts) s
+      unfolding restore
+      restore-done n q =
+          ap (λ (l : List ℕ). done (lentCounts l) s′) (q (entries cfg s′) (entries-are-count _ (s′ .memory) ∙ sym n))
+          ∙ ap (λ (t : State). restoredTo cfg t (lentCounts counts)) p
+          ∙ sym (goes-through _ (lentCounts counts) s (restoredTo cfg (stateOf cfg image) (lentCounts counts)) z)
 
 -- ---- what is written
 

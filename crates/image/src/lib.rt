@@ -16,7 +16,7 @@ ghost use Rattle.manual.specs.Words.{equal};
 ghost use Rattle.manual.specs.Configuration.{mostPayload, entryFrames, configOk};
 ghost use Rattle.manual.specs.State.{lent};
 ghost use Rattle.manual.specs.Memory.{entryCount, bytesInUse};
-ghost use Rattle.manual.specs.Answers.{alone, lentRoom, _if_, firstThatApplies, ofAnswer, ofLength, leaves};
+ghost use Rattle.manual.specs.Answers.{lentRoom, lentCounts, _if_, firstThatApplies, ofAnswer, ofLength, leaves};
 ghost use Rattle.manual.specs.Image.{headerLength, header, imageFrom, edition, acceptableIn, imageOf, stateOf};
 ghost use Rattle.manual.specs.Image.{acceptable, anyRuns, saveRules, save, restoreRules, restore};
 ghost use Rattle.judgement.specs.Checks.{checkNumber};
@@ -308,13 +308,15 @@ fn judge_restore(
     debounce: &[i32],
     memory: &[u8],
     image: &[u8],
+    counts: &[u32],
 ) -> Check
     ensures { λ r. ⌜ ((b : Board) → checkNumber r
         ≡ firstThatApplies
-        (restoreRules (now (cfg .entry)) (now (image .entry))
+        (restoreRules (now (cfg .entry)) (now (image .entry)) (lentCounts (now (counts .entry)))
         (lent (now (records .entry)) (now (debounce .entry)) (now (memory .entry)) b))) ⌝ }
 {
-    match judgement::begin_with_lengths(cfg, records, debounce, memory, true) {
+    let fits = counts::fit(counts);
+    match judgement::begin_with_lengths(cfg, records, debounce, memory, fits) {
         Check::Go => {
             if image_ok(cfg, image) {
                 return Check::Go;
@@ -402,8 +404,9 @@ fn accept_restore(
 }
 
 // Restore: 2, 3 (lengths only), 8. "Restore accepts exactly the images of well-formed states with all cycles stopped,
-// and makes that state."; "an edition 1 image is accepted too, its one frame becoming both". The image is judged whole before anything is written; a refusal changes nothing and hands back
-// the board it was given.
+// and makes that state."; "an edition 1 image is accepted too, its one frame becoming both". Document 02, W7: "A slice
+// of another length is 3.", "A restore sets admitted to the entries present and the rest to 0". The image is judged
+// whole before anything is written; a refusal changes nothing and hands back the board it was given.
 pub fn restore(
     cfg: &[i32],
     records: &mut [u8],
@@ -411,15 +414,18 @@ pub fn restore(
     memory: &mut [u8],
     board: Board,
     image: &[u8],
+    counts: &mut [u32],
 ) -> Returned
-    ensures { λ r. ⌜ leaves (ofAnswer (r .answer)) [] alone
+    ensures { λ r. ⌜ leaves (ofAnswer (r .answer)) [] (lentCounts (now (counts .exit)))
         (lent (now (records .exit)) (now (debounce .exit)) (now (memory .exit)) (r .board))
-        ≡ restore (now (cfg .entry)) (now (image .entry)) alone
+        ≡ restore (now (cfg .entry)) (now (image .entry)) (lentCounts (now (counts .entry)))
         (lent (now (records .entry)) (now (debounce .entry)) (now (memory .entry)) board) ⌝ }
 {
-    match judge_restore(cfg, records, debounce, memory, image) {
+    match judge_restore(cfg, records, debounce, memory, image, counts) {
         Check::Go => {
             let restored = accept_restore(cfg, records, debounce, memory, image);
+            let present = memory::entry_count(memory) as u32;
+            counts::set_present(counts, present);
             Returned {
                 answer: Answer::Done,
                 board: restored,

@@ -31,15 +31,17 @@ use Rattle.manual.specs.Calls.{ticks, ticksDid, tickRules, tickLog, ofCy
 use Rattle.manual.specs.Calls.{clearRules, clearLog}
 use Rattle.manual.specs.Counts.{Happening, hasAged, wasCleared, ofStore, logBelow, logThose, leavesLog, stopsLog}
 use Rattle.manual.specs.Counts.{clearsLog, presentOf, admissionsOf, leavingsOf, isAdmission, isLeaving, eventIn}
-use Rattle.manual.specs.Counts.{Accounts}
+use Rattle.manual.specs.Counts.{presentLog, Accounts}
 use Rattle.manual.specs.Sequences.{Call, Fresh, Report, Tick, Start, Stop, Clear, Read, Restore, Request}
-use Rattle.manual.specs.Sequences.{asksClear, outcome, logOf, logAt, goesOn}
+use Rattle.manual.specs.Sequences.{outcome, logOf, logAt, goesOn}
+use Rattle.manual.specs.Diagnostics.{asksClear}
 use Rattle.manual.proofs.WordsLaws.{clash, First, first-is, first-none, first-some, those-all, count-append}
 use Rattle.manual.proofs.WordsLaws.{count-taken, count-swapped}
 use Rattle.manual.proofs.AnswersLaws.{none-applies}
 use Rattle.manual.proofs.ConfigurationLaws.{config-tells}
 use Rattle.manual.proofs.MemoryLaws.{event-is, without-is, store-cases}
 use Rattle.manual.proofs.MemoryStaysGood.{MemoryGood, good-D}
+use Rattle.manual.proofs.WellFormedLaws.{judged-formed}
 use Rattle.manual.proofs.SoundStates.{Sound, sound}
 use Rattle.manual.proofs.StaysWellFormed.{Keeps, below-going, ticks-keep, stops-keep, clears-keep}
 use Rattle.manual.proofs.EntriesInACallLaws.{told-entries, stops-entries, clears-entries}
@@ -69,6 +71,12 @@ module _ (p : ℕ → Bool) where
         count-append (λ h. isAdmission h && p (eventIn h)) b a,
         count-append (λ h. isLeaving h && p (eventIn h)) b a,
       )
+
+  -- the entries present, each admitted
+  pub present-accounts : (xs : List Entry) → Accounts p (presentLog xs) [] xs
+  unfolding countThose
+  present-accounts [] = refl
+  present-accounts (x ∷ xs) = omega (arith, present-accounts xs)
 
   -- ---- an entry leaves
 
@@ -261,33 +269,34 @@ module _ (p : ℕ → Bool) where
     reading-accounts (Restore image) s r = clash true refl (sym r)
     reading-accounts (Request bytes) s r = rw (not-true (asksClear cfg bytes) r) (accounts-none (entries cfg s))
 
-    does-accounts : (c : Call) (s t : State) → Does cfg s c t → Told (logOf cfg c s) s t
+    does-accounts : (c : Call) (b : Beside) (s t : State) → Does cfg b s c t → Told (logOf cfg c s) s t
     unfolding reportRules tickRules stopRules clearRules
-    does-accounts _ s _ (a-report k code frame present z) =
-        report-accounts (not-false _ (none-applies _ z refl 0)) s (not-false _ (none-applies _ z refl 1)) k code frame
-        (eqb-true _ _ (not-false _ (none-applies _ z refl 5))) (leb-false _ _ (none-applies _ z refl 2))
-    does-accounts _ s _ (a-tick ms frame present z) =
-        tick-accounts (not-false _ (none-applies _ z refl 0)) s (not-false _ (none-applies _ z refl 1)) ms frame present
-        (eqb-true _ _ (not-false _ (none-applies _ z refl 3)))
-    does-accounts _ s _ (a-start c z) =
+    does-accounts _ b s _ (a-report k code frame present z) =
+        report-accounts (not-false _ (none-applies _ z refl 0)) s (judged-formed cfg b s (none-applies _ z refl 1))
+        k code frame (eqb-true _ _ (not-false _ (none-applies _ z refl 5))) (leb-false _ _ (none-applies _ z refl 2))
+    does-accounts _ b s _ (a-tick ms frame present z) =
+        tick-accounts (not-false _ (none-applies _ z refl 0)) s (judged-formed cfg b s (none-applies _ z refl 1))
+        ms frame present (eqb-true _ _ (not-false _ (none-applies _ z refl 3)))
+    does-accounts _ b s _ (a-start c z) =
         subst (Accounts p [] (entries cfg s)) (sym (start-entries cfg c s)) (accounts-none (entries cfg s))
-    does-accounts _ s _ (a-stop c z) =
-        stop-accounts (not-false _ (none-applies _ z refl 0)) s (not-false _ (none-applies _ z refl 1)) c
-    does-accounts _ s _ (a-clear code z) =
-        clear-accounts (not-false _ (none-applies _ z refl 0)) s (not-false _ (none-applies _ z refl 1)) code
-    does-accounts _ s _ (a-request bytes a z) =
+    does-accounts _ b s _ (a-stop c z) =
+        stop-accounts (not-false _ (none-applies _ z refl 0)) s (judged-formed cfg b s (none-applies _ z refl 1)) c
+    does-accounts _ b s _ (a-clear code z) =
+        clear-accounts (not-false _ (none-applies _ z refl 0)) s (judged-formed cfg b s (none-applies _ z refl 1)) code
+    does-accounts _ b s _ (a-request bytes a z) =
         rw a
-        (clear-accounts (not-false _ (none-applies _ z refl 0)) s (not-false _ (none-applies _ z refl 1))
+        (clear-accounts (not-false _ (none-applies _ z refl 0)) s (judged-formed cfg b s (none-applies _ z refl 1))
         (threeAt 1 bytes))
-    does-accounts _ s _ (a-reading c r) = reading-accounts c s r
+    does-accounts _ b s _ (a-reading c r) = reading-accounts c s r
 
     -- every call, but for an accepted fresh or restore: a refused one has an empty log
     pub call-accounts : (c : Call) (b : Beside) (s : State) → goesOn cfg c b s ≡ true
         → Told (logAt cfg c b s) s (outcome cfg c b s .state)
     call-accounts c b s g = go (outcome cfg c b s) (call-does cfg c b s g)
       where
-        go : (o : Outcome) → Either (Does cfg s c) s o → Told (cond (eqb (o .answer) 0) (logOf cfg c s) []) s (o .state)
+        go : (o : Outcome) → Either (Does cfg b s c) s o
+            → Told (cond (eqb (o .answer) 0) (logOf cfg c s) []) s (o .state)
         go o (inl (n, q)) =
             rw (ne-eqb (o .answer) 0 n)
             (subst (λ (t : State). Told [] s t) (sym q) (accounts-none (entries cfg s)))
-        go o (inr (z, d)) = rw z (does-accounts c s (o .state) d)
+        go o (inr (z, d)) = rw z (does-accounts c b s (o .state) d)

@@ -1,5 +1,6 @@
 -- Every call answers k exactly when k's test is the first of the call's list that holds, and 0 exactly when none does;
--- and a refused call leaves every block, the board and the room as found, and answers no verdict, value or part.
+-- and a refused call leaves every block, the board, the room and the counts as found, and answers no verdict, value or
+-- part.
 use mathlib.Core.Path.{_≡_, refl, sym, ap, subst, _∙_}
 use mathlib.Core.Logic.{_≢_, _↔_}
 use mathlib.Core.Bool.{Bool, true, false, _||_, cond}

@@ -6,13 +6,13 @@ use mathlib.Core.List.{List, [], _∷_, _++_}
 use Prim.Native.Nat.{ℕ, zero, suc}
 use native.Mathlib.Omega.{arith}
 use lib.Dec.{eqb, ltb}
-use borrow.Author.Tests.{eqb-true, eqb-false, ne-eqb, ltb-true, not-true}
+use borrow.Author.Tests.{eqb-true, eqb-false, ne-eqb, ltb-true, not-true, not-false}
 use Rattle.history.specs.Words.{allOf}
 use Rattle.history.proofs.WordsLaws.{and-left, and-right}
 use Rattle.manual.specs.declared.Refusal.{Refusal}
 use Rattle.manual.specs.declared.Refusal.the-variants.{BadArgument, BadConfiguration, BadState, NoSuch}
 use Rattle.manual.specs.declared.Refusal.the-variants.{WrongCycleState, NoPreResult, RoomTooSmall, BadImage}
-use Rattle.manual.specs.declared.Refusal.the-variants.{WrongFrame, NoEntry, MissingCondition}
+use Rattle.manual.specs.declared.Refusal.the-variants.{WrongFrame, NoEntry, MissingCondition, CountsFull}
 use Rattle.manual.specs.State.{State}
 use Rattle.manual.specs.Answers.{Beside, Outcome, refused, Rule, firstThatApplies, judged, numberOf}
 
@@ -29,6 +29,7 @@ never-done BadImage e = omega arith
 never-done WrongFrame e = omega arith
 never-done NoEntry e = omega arith
 never-done MissingCondition e = omega arith
+never-done CountsFull e = omega arith
 
 -- the test of rule i
 abbrev pub appliesAt : List Rule → ℕ → Bool
@@ -56,6 +57,11 @@ none-applies (r ∷ rs) z n i =
         (let h = ltb-true 0 (r .number) (and-left (ltb 0 (r .number)) (numbered rs) n) in let w : ⊥ = omega arith in w)
     go false q t zero ih = q
     go false q t (suc i) ih = ih t i
+
+-- refusal 3 does not apply: what is lent beside the state has its length, and the state is in order
+pub three-passed : (fits formed : Bool) → not (fits && formed) ≡ false → (fits ≡ true) × (formed ≡ true)
+three-passed fits formed e =
+    let h = not-false (fits && formed) e in (and-left fits formed h, and-right fits formed h)
 
 -- a number that no rule of the list has is not answered
 abbrev pub lacks : ℕ → List Rule → Bool

@@ -1,13 +1,14 @@
 -- Laws of specs/Counts.antt, in its order.
 use mathlib.Core.Path.{_≡_, refl, sym, subst}
+use mathlib.Core.Logic.{_↔_}
 use mathlib.Core.Bool.{Bool, true, false, _||_}
 use mathlib.Core.List.{List, [], _∷_, _++_}
 use Prim.Native.Nat.{ℕ, zero, suc, _+_, _≤_}
 use native.Mathlib.Numerals.{one-add}
 use native.Mathlib.Omega.{arith}
-use lib.Dec.{eqb}
+use lib.Dec.{eqb, ltb}
 use lib.ListN.{length}
-use borrow.Author.Tests.{le-ltb}
+use borrow.Author.Tests.{ltb-false, le-ltb}
 use Rattle.history.specs.StatusByte.{agesAtStop}
 use Rattle.manual.specs.declared.StoreAnswer.{StoreAnswer}
 use Rattle.manual.specs.declared.StoreAnswer.the-variants.{Untold, Renewed, Added, Displaced, NotStored}
@@ -22,7 +23,7 @@ use Rattle.manual.specs.Counts.{Happening, wasAdmitted, wasPushedOut, ha
 use Rattle.manual.specs.Counts.{placeOf, ofStore, logBelow, presentLog, logThose}
 use Rattle.manual.specs.Counts.{leavesLog, stopsLog, clearsLog, countOf, riseOf, raised, mostCount, past}
 use Rattle.manual.specs.Counts.{presentCounts, presentOf, admissionsOf, leavingsOf, Accounts}
-use Rattle.manual.proofs.WordsLaws.{by, count-append, count-all}
+use Rattle.manual.proofs.WordsLaws.{by, neither, count-append, count-all}
 
 -- ---- the counts of two logs, one after the other
 
@@ -128,7 +129,17 @@ module _ (cfg : Configuration) where
   clear-most code s =
       those-most (covers cfg code) (clears cfg) (clearsLog cfg) (leaves-once wasCleared cleared-once) s
 
--- ---- far from the limit nothing is past it
+-- ---- "past 4,294,967,295": a count of that much is not, one more is
+
+pub past-exactly : (counts : List ℕ) → (past counts ≡ false) ↔ All (λ k. k ≤ 4294967295) counts
+unfolding past
+past-exactly [] = (λ e. tt, λ a. refl)
+past-exactly (k ∷ counts) = (
+  λ e. let n = neither (ltb mostCount k) (past counts) e in (ltb-false _ _ (n .0), past-exactly counts .0 (n .1)),
+  λ a. λ i. le-ltb mostCount k (a .0) i || past-exactly counts .1 (a .1) i,
+)
+
+-- far from the limit nothing is past it
 
 pub not-past : (n : ℕ) (rise counts : List ℕ) → AtMost n rise → All (λ k. k + n ≤ mostCount) counts
     → past (raised rise counts) ≡ false

@@ -5,7 +5,8 @@ use Prim.Native.Nat.{ℕ}
 use lib.IntN.{ℤ, pos}
 use Rattle.history.specs.Words.{holds}
 use Rattle.history.specs.WellFormed.{wellFormedRecord}
-use Rattle.manual.specs.Words.{allBelow, forBelow, firstOf, those, equal, between, smaller, larger}
+use Rattle.manual.specs.Words.{allBelow, forBelow, firstOf, those, countThose, equal, between, smaller}
+use Rattle.manual.specs.Words.{larger}
 use Rattle.manual.specs.Configuration.{Configuration, events, places, frameBytes, column, rowOk, configOk}
 use Rattle.manual.specs.State.{storedAt, withStored}
 use Rattle.manual.specs.WellFormed.{DFits, lengthsFitWith, memoryOkWith, wellFormedWith}
@@ -14,15 +15,18 @@ use Rattle.manual.specs.Answers.{firstThatApplies}
 use Rattle.manual.specs.Debouncing.{top, bottom, verdictAt, leavesAt, internalReport, counterUp}
 use Rattle.manual.specs.Debouncing.{counterDown, counterReport, timeReport, reported, ticked}
 use Rattle.manual.specs.Conditions.{inSet, noneMissing}
-use Rattle.manual.specs.OneEvent.{happens, entryLeaves, keeps, memoryTold, fails, stops, clears, forThose}
+use Rattle.manual.specs.OneEvent.{happens, entryLeaves, keeps, memoryTold, fails, failsDid, stops, clears}
+use Rattle.manual.specs.OneEvent.{forThose}
 use Rattle.manual.specs.Memory.{payloadOf, renewedPayload, entriesFrom, entriesOf, entriesBytes, memoryOf}
 use Rattle.manual.specs.Memory.{without}
 use Rattle.manual.specs.Memory.{noTwice, victim, pushedOut, admitted, renewed, store}
 use Rattle.manual.specs.Calls.{freshRecords, freshState, freshRules, fresh, reportRules, applied, report}
 use Rattle.manual.specs.Calls.{tickRules, tick, startRules, startCycle, stopRules, stopCycle}
+use Rattle.manual.specs.Calls.{reportLog, tickLog, stopLog, appliedDid}
+use Rattle.manual.specs.Counts.{logBelow, raised, past}
 use Rattle.manual.specs.Image.{imageFrom, imageIn, imageOf, stateIn, widened, acceptableIn, acceptable, stateOf}
 use Rattle.manual.specs.Image.{restoreRules, restore}
-use Rattle.manual.specs.MarkedExamples.{blank, replayed, e1ToE10, e11, e12, table}
+use Rattle.manual.specs.MarkedExamples.{zeroed, blank, replayed, e1ToE10, e11, e12, table}
 
 -- the table is what its calls make
 pub e1-to-e12 : replayed table ≡ table
@@ -33,6 +37,7 @@ unfolding table e1ToE10 e11 e12 holds wellFormedRecord allBelow forBelow firstOf
     payloadOf renewedPayload entriesBytes memoryOf without noTwice victim pushedOut admitted renewed store
     freshRecords freshState freshRules
     fresh reportRules applied report tickRules tick startRules startCycle stopRules stopCycle inSet noneMissing
+    reportLog tickLog stopLog logBelow appliedDid failsDid countThose raised past
 e1-to-e12 = refl
 
 -- ---- "Fresh with n = 2", which document 01 gives as part of "Saved image", not among the examples that are "run only"
@@ -59,7 +64,7 @@ image-of-fresh = refl
 
 abbrev RestoresFresh : ℕ → Type 0
 RestoresFresh edition =
-    restore pair (freshImage edition) Answers.alone (blank pair) ≡ Answers.done Answers.alone (freshState pair)
+    restore pair (freshImage edition) zeroed (blank pair) ≡ Answers.done zeroed (freshState pair)
 
 pub restored-fresh : RestoresFresh 0x02
 unfolding restore restoreRules acceptable acceptableIn stateOf stateIn widened equal imageFrom imageIn freshState

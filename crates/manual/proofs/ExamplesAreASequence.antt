@@ -13,24 +13,28 @@ use Rattle.history.specs.StatusByte.{byteOf}
 use Rattle.history.specs.WellFormed.{wellFormedRecord}
 use Rattle.history.specs.History.{passed, failed, start, stop, History, reading}
 use Rattle.history.proofs.WordsLaws.{and-left, and-right, part}
-use Rattle.manual.specs.Words.{allBelow, forBelow, firstOf, those, equal, between, smaller, larger}
+use Rattle.manual.specs.Words.{allBelow, forBelow, firstOf, those, countThose, equal, between, smaller}
+use Rattle.manual.specs.Words.{larger}
 use Rattle.manual.specs.Configuration.{Configuration, events, places, frameBytes}
 use Rattle.manual.specs.Configuration.{column, limitsOf, rowOk, configOk}
 use Rattle.manual.specs.State.{State, storedAt, withStored, statusByte}
 use Rattle.manual.specs.WellFormed.{DFits, lengthsFitWith, memoryOkWith, wellFormedWith}
 use Rattle.manual.specs.Answers as Answers
-use Rattle.manual.specs.Answers.{alone, firstThatApplies}
+use Rattle.manual.specs.Answers.{firstThatApplies}
 use Rattle.manual.specs.Debouncing.{top, bottom, verdictAt, leavesAt, internalReport, counterUp}
 use Rattle.manual.specs.Debouncing.{counterDown, counterReport, timeReport, reported, ticked}
 use Rattle.manual.specs.Conditions.{inSet, noneMissing}
-use Rattle.manual.specs.OneEvent.{happens, entryLeaves, keeps, memoryTold, fails, stops, clears, forThose}
+use Rattle.manual.specs.OneEvent.{happens, entryLeaves, keeps, memoryTold, fails, failsDid, stops, clears}
+use Rattle.manual.specs.OneEvent.{forThose}
 use Rattle.manual.specs.Memory.{payloadOf, renewedPayload, entriesFrom, entriesOf, entriesBytes, memoryOf}
 use Rattle.manual.specs.Memory.{without}
 use Rattle.manual.specs.Memory.{noTwice, victim, pushedOut, admitted, renewed, store}
 use Rattle.manual.specs.Calls.{freshRecords, freshState, freshRules, fresh, reportRules, applied, report}
 use Rattle.manual.specs.Calls.{tickRules, tick, startRules, startCycle, stopRules, stopCycle}
+use Rattle.manual.specs.Calls.{reportLog, tickLog, stopLog, appliedDid}
+use Rattle.manual.specs.Counts.{logBelow, raised, past}
 use Rattle.manual.specs.Sequences.{Call, outcome, tokens, tokensAt, goesOn, Reached, begun, called}
-use Rattle.manual.specs.MarkedExamples.{Row, Story, After, afterCall, afterCalls, replayedRows, blank}
+use Rattle.manual.specs.MarkedExamples.{zeroed, Row, Story, After, afterCall, afterCalls, replayedRows, blank}
 use Rattle.manual.specs.MarkedExamples.{afterFresh, replayed, marked, e1ToE10, e11, e12, table}
 use Rattle.manual.proofs.SequencesLaws.{Histories}
 use Rattle.manual.proofs.ByteIsReadingInEverySequence.{byte-is-reading-in-sequence}
@@ -40,20 +44,21 @@ module _ (cfg : Configuration) where
   -- calls one after the other, the oldest first: the histories after them, and that each of them goes on
   unfoldable pub historiesAfter : List Call → State → Histories → Histories
   historiesAfter [] s H = H
-  historiesAfter (c ∷ cs) s H = historiesAfter cs (outcome cfg c alone s .state) (λ e. tokensAt cfg c alone s e ++ H e)
+  historiesAfter (c ∷ cs) s H =
+      historiesAfter cs (outcome cfg c zeroed s .state) (λ e. tokensAt cfg c zeroed s e ++ H e)
 
   allGoOn : List Call → State → Bool
   allGoOn [] s = true
-  allGoOn (c ∷ cs) s = goesOn cfg c alone s && allGoOn cs (outcome cfg c alone s .state)
+  allGoOn (c ∷ cs) s = goesOn cfg c zeroed s && allGoOn cs (outcome cfg c zeroed s .state)
 
   follow : (cs : List Call) (a : After) {H : Histories} → Reached cfg (a .state) H → allGoOn cs (a .state) ≡ true
       → Reached cfg (afterCalls cfg cs a .state) (historiesAfter cs (a .state) H)
   unfolding historiesAfter allGoOn
   follow [] a r g = r
   follow (c ∷ cs) a r g =
-      let rest = allGoOn cs (outcome cfg c alone (a .state) .state) in
-      follow cs (afterCall cfg c (a .state)) (called r c alone (and-left (goesOn cfg c alone (a .state)) rest g))
-      (and-right (goesOn cfg c alone (a .state)) rest g)
+      let rest = allGoOn cs (outcome cfg c zeroed (a .state) .state) in
+      follow cs (afterCall cfg c (a .state)) (called r c zeroed (and-left (goesOn cfg c zeroed (a .state)) rest g))
+      (and-right (goesOn cfg c zeroed (a .state)) rest g)
 
   -- the status that is seen is event 0's byte
   SeesIt : After → Type 0
@@ -102,7 +107,7 @@ module _ (cfg : Configuration) where
 isASequence : Story → Bool
 isASequence t =
     holds
-    (eqb (fresh (t .config) alone (blank (t .config)) .answer) 0
+    (eqb (fresh (t .config) zeroed (blank (t .config)) .answer) 0
     ∷ rowsGoOn (t .config) (t .rows) (afterFresh (t .config))
     ∷ ltb 0 (events (t .config))
     ∷ [])
@@ -119,7 +124,7 @@ story-read : (t : Story) → isASequence t ≡ true → replayedRows (t .config)
 unfolding isASequence SeesIt
 story-read t is e =
     rows-read (t .config) (ltb-true 0 (events (t .config)) (part _ is 2)) (t .rows) (afterFresh (t .config))
-    (begun alone (blank (t .config)) (eqb-true _ 0 (part _ is 0))) refl (part _ is 1) e
+    (begun zeroed (blank (t .config)) (eqb-true _ 0 (part _ is 0))) refl (part _ is 1) e
 
 stories-read : (ts : List Story) → allOf isASequence ts ≡ true → replayed ts ≡ ts → map readIn ts ≡ map saidIn ts
 stories-read [] are e = refl
@@ -150,7 +155,7 @@ e1-to-e10 = callsOf e1ToE10
 abbrev pub begins : After
 begins = afterFresh marked
 
-fresh-accepted : fresh marked alone (blank marked) .answer ≡ 0
+fresh-accepted : fresh marked zeroed (blank marked) .answer ≡ 0
 unfolding table isASequence
 fresh-accepted = eqb-true _ 0 (part _ (and-left _ _ are-sequences) 0)
 
@@ -161,7 +166,7 @@ go-on = refl
 -- they are one sequence, with these histories
 pub is-reached : Reached marked (afterCalls marked e1-to-e10 begins .state)
     (historiesAfter marked e1-to-e10 (begins .state) (λ e. []))
-is-reached = follow marked e1-to-e10 begins (begun alone (blank marked) fresh-accepted) go-on
+is-reached = follow marked e1-to-e10 begins (begun zeroed (blank marked) fresh-accepted) go-on
 
 -- the pre-failed report of E2 gives no token
 abbrev pub history : History
@@ -177,4 +182,5 @@ unfolding e1ToE10 historiesAfter tokens holds wellFormedRecord allBelow forBelow
     payloadOf renewedPayload entriesBytes memoryOf without noTwice victim pushedOut admitted renewed store
     freshRecords freshState freshRules
     fresh reportRules applied report tickRules tick startRules startCycle stopRules stopCycle inSet noneMissing
+    reportLog tickLog stopLog logBelow appliedDid failsDid countThose raised past
 its-history = refl

@@ -76,11 +76,11 @@ module _ (cfg : Configuration) where
     runs-at : (e : ℕ) → e < events cfg → (r : Bool) → cycleRuns cfg (s .board) e ≡ r → Lawful (H e) r
     runs-at e h r q = subst (Lawful (H e)) q (o .each e h)
 
-    report-orderly : (k code : ℕ) (frame : List ℕ) (present : ℕ)
-        → firstThatApplies (reportRules cfg k code frame present s) ≡ 0 → (e : ℕ) → e < events cfg
+    report-orderly : (k code : ℕ) (frame : List ℕ) (present : ℕ) (b : Beside)
+        → firstThatApplies (reportRules cfg k code frame present b s) ≡ 0 → (e : ℕ) → e < events cfg
         → Lawful (given cfg (Report k code frame present) s H e) (cycleRuns cfg (s .board) e)
     unfolding reportRules
-    report-orderly k code frame present z e h =
+    report-orderly k code frame present b z e h =
         only-those (eqb e k) _ (H e) _
         (λ q. let on = running-now q in subst (Lawful _) (sym on)
         (lawful-result (reported cfg e code (D s e) .verdict) (H e) (runs-at e h true on)))
@@ -126,12 +126,12 @@ module _ (cfg : Configuration) where
     of-cycle c r q e h k =
         runs-at e h r (subst (λ (j : ℕ). runs (s .board) j ≡ r) (sym (eqb-true (cycleOf cfg e) c k)) q)
 
-    orderly-accepted : KeptWhenAccepted cfg Orderly s H
+    orderly-accepted : (b : Beside) → KeptWhenAccepted cfg Orderly b s H
     unfolding startRules stopRules cleared
-    orderly-accepted = record {
+    orderly-accepted b = record {
       report =
           λ k code frame present z. same-cycles _ (applied-running cfg frame k _ s) _
-          (report-orderly k code frame present z);
+          (report-orderly k code frame present b z);
       tick =
           λ ms frame present z. same-cycles _ (ticks-running cfg ms frame (tickMoves cfg present (s .board)) s) _
           (tick-orderly ms frame present);
@@ -139,14 +139,14 @@ module _ (cfg : Configuration) where
         four = simp length-set (ap length (those-running (acts-happens cfg start) (ofCycle cfg c) s) ∙ o .four);
         each =
             turned c true start _ (those-running (acts-happens cfg start) (ofCycle cfg c) s)
-            (let b = ltb-false 3 c (none-applies _ z refl 2) in omega arith)
+            (let four = ltb-false 3 c (none-applies _ z refl 2) in omega arith)
             (λ e h q. lawful-start (H e) (of-cycle c false (none-applies _ z refl 3) e h q));
       };
       stop = λ c z. record {
         four = simp length-set (ap length (those-running (acts-stops cfg) (ofCycle cfg c) s) ∙ o .four);
         each =
             turned c false stop _ (those-running (acts-stops cfg) (ofCycle cfg c) s)
-            (let b = ltb-false 3 c (none-applies _ z refl 2) in omega arith)
+            (let four = ltb-false 3 c (none-applies _ z refl 2) in omega arith)
             (λ e h q. lawful-stop (H e)
             (of-cycle c true (not-false (runs (s .board) c) (none-applies _ z refl 3)) e h q));
       };
@@ -171,7 +171,7 @@ module _ (cfg : Configuration) where
 
   orderly : {s : State} {H : Histories} → Reached cfg s H → Orderly s H
   orderly (begun b s z) = orderly-begun b s z
-  orderly (called {s} {H} r c b g) = call-keeps cfg Orderly s H (orderly r) (orderly-accepted s H (orderly r)) c b g
+  orderly (called {s} {H} r c b g) = call-keeps cfg Orderly b s H (orderly r) (orderly-accepted s H (orderly r) b) c g
   orderly (restored {s} {H} r b z b′ s′ a) =
       subst (λ (o : Outcome). Orderly (o .state) H) (sym (restored-is-saved cfg s s′ (orderly r .four) b b′ z a))
       (orderly r)

@@ -42,6 +42,14 @@ pub mod RoomForEveryReply
 pub mod RepliesAgree
 pub mod MatchingIsASharedBit
 pub mod Service14IsClear
+pub mod CallsWithoutCounts
+pub mod AdmittedIsPresentAndLeft
+pub mod EachCountIs32Bits
+pub mod SequencesAreTallied
+pub mod TwelveIsCheckedLast
+pub mod NotStoredSetsOverflow
+pub mod NothingAgesInAReportOrTick
+pub mod StoresAreNamed
 pub mod AcceptedImages
 pub mod RestoreAfterSave
 pub mod SaveAfterRestore

@@ -14,6 +14,7 @@ use Rattle.manual.specs.Configuration.{Configuration, events, codeOf, co
 use Rattle.manual.specs.State.{State, statusByte}
 use Rattle.manual.specs.WellFormed.{wellFormed}
 use Rattle.manual.specs.Answers.{Beside, Outcome}
+use Rattle.manual.specs.Counts.{countsFit}
 use Rattle.manual.specs.Diagnostics.{requestReply}
 use Rattle.manual.specs.Replies.{rising, sharesBit, numberBy, listBy, listAll, fours, linesIn, Tells, secondByte}
 use Rattle.manual.specs.Replies.{Due, sends, refusedWith, length-of-01, length-of-02, length-of-0A}
@@ -38,13 +39,16 @@ module _ (cfg : Configuration) (s : State) (configured : configOk cfg ≡ true) 
     due : Due cfg request s bytes
     plain : secondByte cfg request s < 128
 
-  module _ {request bytes : List ℕ} (w : Wants request bytes) (b : Beside) (least : 3 ≤ length (b .room)) where
+  module _ {request bytes : List ℕ} (w : Wants request bytes) (b : Beside)
+      (five : countsFit (b .counts) ≡ true) (least : 3 ≤ length (b .room)) where
     answered : ask request b .answer ≡ 0
     answered = accepted-told cfg request b s (record {
       configuration = configured;
+      five-counts = five;
       formed = formed;
       room-least = least;
       not-empty = w .asked;
+      not-past = λ c. let is19 = w .due .sized .service-19 in let is14 = c .0 in let z : ⊥ = omega arith in absurd z;
     })
 
     sent-all : length bytes ≤ length (b .room) → ask request b ≡ sends cfg request s b bytes s
@@ -75,19 +79,19 @@ module _ (cfg : Configuration) (s : State) (configured : configOk cfg ≡ true) 
   cut e l = refl
 
   module _ (request : List ℕ) (x y z : ℕ) (es : List ℕ) (w : Wants request (x ∷ y ∷ z ∷ flatMap line es))
-      (b : Beside) where
+      (b : Beside) (five : countsFit (b .counts) ≡ true) where
     its-length : length (x ∷ y ∷ z ∷ flatMap line es) ≡ 3 + 4 * length es
     its-length = let h = flat-length line 4 (λ e. refl) es in omega arith
 
     list-value : 3 + 4 * length es ≤ length (b .room) → ask request b .value ≡ 3 + 4 * length es
-    list-value h = ap (λ (o : Outcome). o .value) (sent-all w b (omega arith) (rw its-length h)) ∙ its-length
+    list-value h = ap (λ (o : Outcome). o .value) (sent-all w b five (omega arith) (rw its-length h)) ∙ its-length
 
     list-14 : 3 ≤ length (b .room) → length (b .room) < 3 + 4 * length es → TooLong request b
-    list-14 h l = sent-14 w b h (rw its-length l)
+    list-14 h l = sent-14 w b five h (rw its-length l)
 
     list-lines : 3 ≤ length (b .room) → ¬ TooLong request b → linesIn (ask request b) ≡ map line es
     list-lines h n =
-        ap linesIn (sent-if w b h n)
+        ap linesIn (sent-if w b five h n)
         ∙ ap (λ (l : List ℕ). fours (drop 3 l)) (take-at (x ∷ y ∷ z ∷ flatMap line es) _ _ refl)
         ∙ fours-flat line cut es
 
@@ -117,11 +121,12 @@ module _ (cfg : Configuration) (s : State) (configured : configOk cfg ≡ true) 
       plain = omega arith;
     }
 
-    pub number-sent : (b : Beside) → 6 ≤ length (b .room)
+    pub number-sent : (b : Beside) → countsFit (b .counts) ≡ true → 6 ≤ length (b .room)
         → ask (numberBy mask) b ≡ sends cfg (numberBy mask) s b numberBytes s
-    number-sent b h = sent-all number-wants b (omega arith) h
+    number-sent b five h = sent-all number-wants b five (omega arith) h
 
-    pub number-14 : (b : Beside) → 3 ≤ length (b .room) → length (b .room) < 6 → TooLong (numberBy mask) b
+    pub number-14 : (b : Beside) → countsFit (b .counts) ≡ true → 3 ≤ length (b .room) → length (b .room) < 6
+        → TooLong (numberBy mask) b
     number-14 = sent-14 number-wants
 
     -- ---- `19 02 mask`
@@ -136,15 +141,15 @@ module _ (cfg : Configuration) (s : State) (configured : configOk cfg ≡ true) 
       plain = omega arith;
     }
 
-    pub by-mask-value : (b : Beside) → 3 + 4 * length matched ≤ length (b .room)
+    pub by-mask-value : (b : Beside) → countsFit (b .counts) ≡ true → 3 + 4 * length matched ≤ length (b .room)
         → ask (listBy mask) b .value ≡ 3 + 4 * length matched
     by-mask-value = list-value (listBy mask) 0x59 0x02 0xFF matched by-mask-wants
 
-    pub by-mask-14 : (b : Beside) → 3 ≤ length (b .room) → length (b .room) < 3 + 4 * length matched
-        → TooLong (listBy mask) b
+    pub by-mask-14 : (b : Beside) → countsFit (b .counts) ≡ true → 3 ≤ length (b .room)
+        → length (b .room) < 3 + 4 * length matched → TooLong (listBy mask) b
     by-mask-14 = list-14 (listBy mask) 0x59 0x02 0xFF matched by-mask-wants
 
-    pub by-mask-lines : (b : Beside) → 3 ≤ length (b .room) → ¬ TooLong (listBy mask) b
+    pub by-mask-lines : (b : Beside) → countsFit (b .counts) ≡ true → 3 ≤ length (b .room) → ¬ TooLong (listBy mask) b
         → linesIn (ask (listBy mask) b) ≡ map line matched
     by-mask-lines = list-lines (listBy mask) 0x59 0x02 0xFF matched by-mask-wants
 
@@ -163,13 +168,14 @@ module _ (cfg : Configuration) (s : State) (configured : configOk cfg ≡ true) 
     plain = omega arith;
   }
 
-  pub all-value : (b : Beside) → 3 + 4 * length every ≤ length (b .room)
+  pub all-value : (b : Beside) → countsFit (b .counts) ≡ true → 3 + 4 * length every ≤ length (b .room)
       → ask listAll b .value ≡ 3 + 4 * length every
   all-value = list-value listAll 0x59 0x0A 0xFF every all-wants
 
-  pub all-14 : (b : Beside) → 3 ≤ length (b .room) → length (b .room) < 3 + 4 * length every → TooLong listAll b
+  pub all-14 : (b : Beside) → countsFit (b .counts) ≡ true → 3 ≤ length (b .room)
+      → length (b .room) < 3 + 4 * length every → TooLong listAll b
   all-14 = list-14 listAll 0x59 0x0A 0xFF every all-wants
 
-  pub all-lines : (b : Beside) → 3 ≤ length (b .room) → ¬ TooLong listAll b
+  pub all-lines : (b : Beside) → countsFit (b .counts) ≡ true → 3 ≤ length (b .room) → ¬ TooLong listAll b
       → linesIn (ask listAll b) ≡ map line every
   all-lines = list-lines listAll 0x59 0x0A 0xFF every all-wants

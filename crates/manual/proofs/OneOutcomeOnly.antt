@@ -10,7 +10,7 @@ use borrow.Author.Tests.{ne-eqb}
 use Rattle.manual.specs.declared.Refusal.{Refusal}
 use Rattle.manual.specs.declared.Refusal.the-variants.{BadArgument, BadConfiguration, BadState, NoSuch}
 use Rattle.manual.specs.declared.Refusal.the-variants.{WrongCycleState, NoPreResult, RoomTooSmall, BadImage}
-use Rattle.manual.specs.declared.Refusal.the-variants.{WrongFrame, NoEntry, MissingCondition}
+use Rattle.manual.specs.declared.Refusal.the-variants.{WrongFrame, NoEntry, MissingCondition, CountsFull}
 use Rattle.manual.specs.declared.Answer.{Answer}
 use Rattle.manual.specs.declared.Answer.the-variants.{Done}
 use Rattle.manual.specs.declared.Returned.{Returned}
@@ -21,7 +21,7 @@ use Rattle.manual.specs.declared.StatusAnswer.the-variants.{Status}
 use Rattle.manual.specs.declared.LengthAnswer.{LengthAnswer}
 use Rattle.manual.specs.declared.LengthAnswer.the-variants.{Written}
 use Rattle.manual.specs.State.{State, lent}
-use Rattle.manual.specs.Answers.{Beside, alone, Outcome, numberOf, Answered, answered}
+use Rattle.manual.specs.Answers.{Beside, Outcome, numberOf, Answered, answered}
 use Rattle.manual.specs.Answers.{ofAnswer, ofReport, ofStatus, ofLength, leaves}
 use Rattle.manual.proofs.AnswersLaws.{never-done}
 
@@ -33,7 +33,7 @@ refusalAt n =
     (cond (eqb n 2) BadConfiguration (cond (eqb n 3) BadState (cond (eqb n 4) NoSuch (cond (eqb n 5) WrongCycleState
     (cond (eqb n 6) NoPreResult
     (cond (eqb n 7) RoomTooSmall (cond (eqb n 8) BadImage (cond (eqb n 9) WrongFrame
-    (cond (eqb n 10) NoEntry MissingCondition)))))))))
+    (cond (eqb n 10) NoEntry (cond (eqb n 11) MissingCondition CountsFull))))))))))
 
 pub refusal-back : (r : Refusal) → refusalAt (numberOf r) ≡ r
 refusal-back BadArgument = refl
@@ -47,6 +47,7 @@ refusal-back BadImage = refl
 refusal-back WrongFrame = refl
 refusal-back NoEntry = refl
 refusal-back MissingCondition = refl
+refusal-back CountsFull = refl
 
 pub not-done : (r : Refusal) → eqb (numberOf r) 0 ≡ false
 not-done r = ne-eqb _ _ (never-done r)
@@ -115,6 +116,12 @@ same-board p q = one-outcome (λ (y : Outcome). y .state .board) refl refl p q
 pub same-beside : {o y y′ : Outcome} → y ≡ o → y′ ≡ o → y .beside ≡ y′ .beside
 same-beside p q = one-outcome (λ (y : Outcome). y .beside) refl refl p q
 
+pub same-room : {o y y′ : Outcome} → y ≡ o → y′ ≡ o → y .beside .room ≡ y′ .beside .room
+same-room p q = ap (λ (b : Beside). b .room) (same-beside p q)
+
+pub same-counts : {o y y′ : Outcome} → y ≡ o → y′ ≡ o → y .beside .counts ≡ y′ .beside .counts
+same-counts p q = ap (λ (b : Beside). b .counts) (same-beside p q)
+
 -- the answer, which its numbers give back
 module _ {A : Type 0} (of : A → Answered) (from : Answered → A) (back : (a : A) → from (of a) ≡ a) where
   same-numbers : {o : Outcome} {part part′ : List ℕ} {b b′ : Beside} {s s′ : State} (a a′ : A)
@@ -142,9 +149,9 @@ module _ {o : Outcome} {part part′ : List ℕ} {b b′ : Beside} {s s′ : Sta
   same-length = same-numbers ofLength lengthOf length-back
 
 -- fresh, tick, start, stop, clear and restore: the answer with the board
-pub same-returned : {o : Outcome} {records records′ : List ℕ} {debounce debounce′ : List ℤ} {memory memory′ : List ℕ}
-    (r r′ : Returned)
-    → leaves (ofAnswer (r .answer)) [] alone (lent records debounce memory (r .board)) ≡ o
-    → leaves (ofAnswer (r′ .answer)) [] alone (lent records′ debounce′ memory′ (r′ .board)) ≡ o
+pub same-returned : {o : Outcome} {b b′ : Beside} {records records′ : List ℕ} {debounce debounce′ : List ℤ}
+    {memory memory′ : List ℕ} (r r′ : Returned)
+    → leaves (ofAnswer (r .answer)) [] b (lent records debounce memory (r .board)) ≡ o
+    → leaves (ofAnswer (r′ .answer)) [] b′ (lent records′ debounce′ memory′ (r′ .board)) ≡ o
     → r ≡ r′
 same-returned r r′ p q = λ i. record { answer = same-answer (r .answer) (r′ .answer) p q i; board = same-board p q i }

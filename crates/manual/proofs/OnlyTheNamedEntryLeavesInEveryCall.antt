@@ -37,6 +37,7 @@ use Rattle.manual.proofs.OneEventLaws.{acts-stops, acts-clears}
 use Rattle.manual.proofs.MemoryStaysGood.{MemoryGood}
 use Rattle.manual.proofs.SequencesLaws.{Does, a-report, a-tick, a-start, a-stop, a-clear}
 use Rattle.manual.proofs.SequencesLaws.{a-request, a-reading, Either, call-does}
+use Rattle.manual.proofs.WellFormedLaws.{judged-formed}
 use Rattle.manual.proofs.SoundStates.{Sound, sound}
 use Rattle.manual.proofs.StaysWellFormed.{below-going, ticks-keep, stops-keep, clears-keep}
 use Rattle.manual.proofs.EntriesInACallLaws.{StoreFate, StoreOrigin, toldEntries, store-fate, store-origin}
@@ -162,23 +163,23 @@ module _ (cfg : Configuration) where
     leaving-origin y m = was-there (those-mem (λ x. not (out (eventOf x))) (entries cfg s) y (rw q at m))
 
   -- "at A the event ages: …, its entry leaves memory": after a stop the entries are those whose event did not age
-  pub stop-entries : (c : ℕ) (s : State) → firstThatApplies (stopRules cfg c s) ≡ 0
+  pub stop-entries : (c : ℕ) (b : Beside) (s : State) → firstThatApplies (stopRules cfg c b s) ≡ 0
       → entries cfg (forThose cfg (ofCycle cfg c) (stops cfg) s)
       ≡ those (λ x. not (agesIn cfg c s (eventOf x))) (entries cfg s)
   unfolding stopRules
-  stop-entries c s z =
+  stop-entries c b s z =
       those-stay cfg (acts-stops cfg) (agesBy cfg) (stops-entries cfg) s
       (stops-keep cfg (config-tells cfg (not-false _ (none-applies _ z refl 0))) c s)
-      (sound cfg s (not-false _ (none-applies _ z refl 1)))
+      (sound cfg s (judged-formed cfg b s (none-applies _ z refl 1)))
 
   -- "each covered event …, its entry leaves": after a clear the entries are those whose event is not covered
-  pub clear-entries : (code : ℕ) (s : State) → firstThatApplies (clearRules cfg code s) ≡ 0
+  pub clear-entries : (code : ℕ) (b : Beside) (s : State) → firstThatApplies (clearRules cfg code b s) ≡ 0
       → entries cfg (cleared cfg code s) ≡ those (λ x. not (covers cfg code (eventOf x))) (entries cfg s)
   unfolding clearRules cleared
-  clear-entries code s z =
+  clear-entries code b s z =
       those-stay cfg (acts-clears cfg) (λ e v. true) (clears-entries cfg) s
       (clears-keep cfg (config-tells cfg (not-false _ (none-applies _ z refl 0))) code s)
-      (sound cfg s (not-false _ (none-applies _ z refl 1)))
+      (sound cfg s (judged-formed cfg b s (none-applies _ z refl 1)))
       ∙ simp and-true
 
   -- a start changes no entry
@@ -191,44 +192,44 @@ module _ (cfg : Configuration) where
 
   -- ---- every call
 
-  does-fate : (c : Call) (b : Beside) (s t : State) → Does cfg s c t → outcome cfg c b s .answer ≡ 0 → (x : Entry)
+  does-fate : (c : Call) (b : Beside) (s t : State) → Does cfg b s c t → outcome cfg c b s .answer ≡ 0 → (x : Entry)
       → List·Memᴰ x (entries cfg s) → Fate cfg b s c (entries cfg t) x
   unfolding reportRules tickRules forThose
   does-fate _ b s _ (a-report k code frame present z) a =
       part-fate frame (eqb-true _ _ (not-false _ (none-applies _ z refl 5))) k (leb-false _ _ (none-applies _ z refl 2))
       _ s
-      (sound cfg s (not-false _ (none-applies _ z refl 1)) .memory) (in-report k code frame present a)
+      (sound cfg s (judged-formed cfg b s (none-applies _ z refl 1)) .memory) (in-report k code frame present a)
   does-fate _ b s _ (a-tick ms frame present z) a =
       below-fate ms frame present b s (eqb-true _ _ (not-false _ (none-applies _ z refl 3)))
       (not-false _ (none-applies _ z refl 0))
-      (sound cfg s (not-false _ (none-applies _ z refl 1))) a (events cfg) (le-refl (events cfg))
+      (sound cfg s (judged-formed cfg b s (none-applies _ z refl 1))) a (events cfg) (le-refl (events cfg))
   does-fate _ b s _ (a-start c z) a = λ x m. stays (subst (List·Memᴰ x) (sym (start-entries c s)) m)
   does-fate _ b s _ (a-stop c z) a =
-      leaving-fate (agesIn cfg c s) _ (stop-entries c s z) (λ x q. is-aged (at-stop c (eventOf x) a q))
+      leaving-fate (agesIn cfg c s) _ (stop-entries c b s z) (λ x q. is-aged (at-stop c (eventOf x) a q))
   does-fate _ b s _ (a-clear code z) a =
-      leaving-fate (covers cfg code) _ (clear-entries code s z) (λ x q. is-cleared (by-clear code (eventOf x) a q))
+      leaving-fate (covers cfg code) _ (clear-entries code b s z) (λ x q. is-cleared (by-clear code (eventOf x) a q))
   does-fate _ b s _ (a-request bytes q z) a =
-      leaving-fate (covers cfg (threeAt 1 bytes)) _ (clear-entries (threeAt 1 bytes) s z)
+      leaving-fate (covers cfg (threeAt 1 bytes)) _ (clear-entries (threeAt 1 bytes) b s z)
       (λ x r. is-cleared (by-request bytes (eventOf x) a q r))
   does-fate _ b s _ (a-reading c r) a = λ x m. stays m
 
-  does-origin : (c : Call) (b : Beside) (s t : State) → Does cfg s c t → outcome cfg c b s .answer ≡ 0 → (y : Entry)
+  does-origin : (c : Call) (b : Beside) (s t : State) → Does cfg b s c t → outcome cfg c b s .answer ≡ 0 → (y : Entry)
       → List·Memᴰ y (entries cfg t) → Origin cfg b s c y
   unfolding reportRules tickRules forThose
   does-origin _ b s _ (a-report k code frame present z) a =
       part-origin frame (eqb-true _ _ (not-false _ (none-applies _ z refl 5))) k
       (leb-false _ _ (none-applies _ z refl 2)) _ s
-      (sound cfg s (not-false _ (none-applies _ z refl 1)) .memory) (in-report k code frame present a)
-      (λ x m. was-there m)
+      (sound cfg s (judged-formed cfg b s (none-applies _ z refl 1)) .memory)
+      (in-report k code frame present a) (λ x m. was-there m)
   does-origin _ b s _ (a-tick ms frame present z) a =
       below-origin ms frame present b s (eqb-true _ _ (not-false _ (none-applies _ z refl 3)))
       (not-false _ (none-applies _ z refl 0))
-      (sound cfg s (not-false _ (none-applies _ z refl 1))) a (events cfg) (le-refl (events cfg))
+      (sound cfg s (judged-formed cfg b s (none-applies _ z refl 1))) a (events cfg) (le-refl (events cfg))
   does-origin _ b s _ (a-start c z) a = λ y m. was-there (rw (start-entries c s) at m)
-  does-origin _ b s _ (a-stop c z) a = leaving-origin (agesIn cfg c s) _ (stop-entries c s z)
-  does-origin _ b s _ (a-clear code z) a = leaving-origin (covers cfg code) _ (clear-entries code s z)
+  does-origin _ b s _ (a-stop c z) a = leaving-origin (agesIn cfg c s) _ (stop-entries c b s z)
+  does-origin _ b s _ (a-clear code z) a = leaving-origin (covers cfg code) _ (clear-entries code b s z)
   does-origin _ b s _ (a-request bytes q z) a =
-      leaving-origin (covers cfg (threeAt 1 bytes)) _ (clear-entries (threeAt 1 bytes) s z)
+      leaving-origin (covers cfg (threeAt 1 bytes)) _ (clear-entries (threeAt 1 bytes) b s z)
   does-origin _ b s _ (a-reading c r) a = λ y m. was-there m
 
   module _ (c : Call) (b : Beside) (s : State) (goes-on : goesOn cfg c b s ≡ true) where
@@ -237,7 +238,7 @@ module _ (cfg : Configuration) where
         → Fate cfg b s c (entries cfg (outcome cfg c b s .state)) x
     fate-of-each x m = go (call-does cfg c b s goes-on)
       where
-        go : Either (Does cfg s c) s (outcome cfg c b s) → Fate cfg b s c (entries cfg (outcome cfg c b s .state)) x
+        go : Either (Does cfg b s c) s (outcome cfg c b s) → Fate cfg b s c (entries cfg (outcome cfg c b s .state)) x
         go (inl (n, p)) = stays (subst (λ (t : State). List·Memᴰ x (entries cfg t)) (sym p) m)
         go (inr (a, d)) = does-fate c b s _ d a x m
 
@@ -245,6 +246,6 @@ module _ (cfg : Configuration) where
     pub origin-of-each : (y : Entry) → List·Memᴰ y (entries cfg (outcome cfg c b s .state)) → Origin cfg b s c y
     origin-of-each y m = go (call-does cfg c b s goes-on)
       where
-        go : Either (Does cfg s c) s (outcome cfg c b s) → Origin cfg b s c y
+        go : Either (Does cfg b s c) s (outcome cfg c b s) → Origin cfg b s c y
         go (inl (n, p)) = was-there (rw p at m)
         go (inr (a, d)) = does-origin c b s _ d a y m

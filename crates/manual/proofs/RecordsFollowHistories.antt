@@ -178,8 +178,8 @@ module _ (cfg : Configuration) where
         go (inl q) ih = rw (q, eq-eqb n n refl, none-yet n n (le-refl n), number-waits n n (le-refl n)) (append-nil _)
         go (inr l) ih = rw (ne-eqb e n (λ (p : e ≡ n). omega arith)) (nothing (movesHere n) (partsBelow n e) ∙ ih l)
 
-  module _ (s : State) (H : Histories) (follows : Follows s H) where
-    follows-accepted : KeptWhenAccepted cfg Follows s H
+  module _ (b : Beside) (s : State) (H : Histories) (follows : Follows s H) where
+    follows-accepted : KeptWhenAccepted cfg Follows b s H
     unfolding cleared forThose
     follows-accepted = record {
       report =
@@ -213,7 +213,7 @@ module _ (cfg : Configuration) where
 
   pub call-follows : (c : Call) (b : Beside) (s : State) (H : Histories) → goesOn cfg c b s ≡ true → Follows s H
       → Follows (outcome cfg c b s .state) (λ e. tokensAt cfg c b s e ++ H e)
-  call-follows c b s H g f = call-keeps cfg Follows s H f (follows-accepted s H f) c b g
+  call-follows c b s H g f = call-keeps cfg Follows b s H f (follows-accepted b s H f) c g
 
   pub fresh-follows : Follows (freshState cfg) (λ e. [])
   unfolding recordAfter

@@ -9,7 +9,7 @@ use lib.ListN.{length, drop, length-append, length-drop}
 use lib.Seq.{take-at, drop-at}
 use Rattle.manual.specs.Configuration.{Configuration}
 use Rattle.manual.specs.State.{State}
-use Rattle.manual.specs.Answers.{Beside, Outcome}
+use Rattle.manual.specs.Answers.{Beside, withCounts, Outcome}
 use Rattle.manual.specs.Diagnostics.{requestReply}
 use Rattle.manual.specs.Replies.{SameReply, sends, refusedWith, Negative, Replies, other-service, alone}
 use Rattle.manual.specs.Replies.{no-sub-function, other-length, unknown-in-04, unknown-in-06, too-long, not-four}
@@ -25,15 +25,19 @@ module _ (cfg : Configuration) (request : List ℕ) (s : State) where
 
   record Sent (b : Beside) (o : Outcome) : Type 0 where
     bytes : List ℕ
+    counts : List ℕ
     after : State
-    is : o ≡ sends cfg request s b bytes after
+    is : o ≡ sends cfg request s (withCounts counts b) bytes after
     fits : length bytes ≤ length (b .room)
 
   sent-in : (b : Beside) → 3 ≤ length (b .room) → (o : Outcome) → Replies cfg request s b o → Sent b o
-  sent-in b h _ (negative code n) = record { bytes = 0x7F ∷ _ ∷ code ∷ []; after = s; is = refl; fits = h }
-  sent-in b h _ (suppressed q) = record { bytes = []; after = s; is = refl; fits = omega arith }
-  sent-in b h _ (positive bytes n p l) = record { bytes = bytes; after = s; is = refl; fits = l }
-  sent-in b h _ (clears a l k) = record { bytes = 0x54 ∷ []; after = _; is = refl; fits = omega arith }
+  sent-in b h _ (negative code n) =
+      record { bytes = 0x7F ∷ _ ∷ code ∷ []; counts = b .counts; after = s; is = refl; fits = h }
+  sent-in b h _ (suppressed q) = record { bytes = []; counts = b .counts; after = s; is = refl; fits = omega arith }
+  sent-in b h _ (positive bytes n p l) =
+      record { bytes = bytes; counts = b .counts; after = s; is = refl; fits = l }
+  sent-in b h _ (clears a l k) =
+      record { bytes = 0x54 ∷ []; counts = _; after = _; is = refl; fits = omega arith }
 
   as-long : (bytes room : List ℕ) → length bytes ≤ length room
       → length (bytes ++ drop (length bytes) room) ≡ length room
@@ -71,16 +75,42 @@ module _ (cfg : Configuration) (request : List ℕ) (s : State) where
 
     record Again (o : Outcome) : Type 0 where
       bytes : List ℕ
+      counts : List ℕ
+      counts′ : List ℕ
       after : State
-      is : o ≡ sends cfg request s b bytes after
-      too : Replies cfg request s b′ (sends cfg request s b′ bytes after)
+      is : o ≡ sends cfg request s (withCounts counts b) bytes after
+      too : Replies cfg request s b′ (sends cfg request s (withCounts counts′ b′) bytes after)
 
     again : (o : Outcome) → Replies cfg request s b o → o .value ≤ length (b′ .room) → Again o
     again _ (negative code n) h =
-        record { bytes = 0x7F ∷ _ ∷ code ∷ []; after = s; is = refl; too = negative code (negative-again code n) }
-    again _ (suppressed q) h = record { bytes = []; after = s; is = refl; too = suppressed q }
-    again _ (positive bytes n p l) h = record { bytes = bytes; after = s; is = refl; too = positive bytes n p h }
-    again _ (clears a l k) h = record { bytes = 0x54 ∷ []; after = _; is = refl; too = clears a l k }
+        record {
+          bytes = 0x7F ∷ _ ∷ code ∷ [];
+          counts = b .counts;
+          counts′ = b′ .counts;
+          after = s;
+          is = refl;
+          too = negative code (negative-again code n);
+        }
+    again _ (suppressed q) h =
+        record {
+          bytes = [];
+          counts = b .counts;
+          counts′ = b′ .counts;
+          after = s;
+          is = refl;
+          too = suppressed q;
+        }
+    again _ (positive bytes n p l) h =
+        record {
+          bytes = bytes;
+          counts = b .counts;
+          counts′ = b′ .counts;
+          after = s;
+          is = refl;
+          too = positive bytes n p h;
+        }
+    again _ (clears a l k) h =
+        record { bytes = 0x54 ∷ []; counts = _; counts′ = _; after = _; is = refl; too = clears a l k }
 
   module _ (b b′ : Beside) (answered : outcome b .answer ≡ 0) (answered′ : outcome b′ .answer ≡ 0) where
     is-14 : Negative cfg request s b 0x14 → outcome b ≡ refusedWith cfg request s b 0x14

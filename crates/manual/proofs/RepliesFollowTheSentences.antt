@@ -2,7 +2,7 @@
 -- sent, the answer 0, the rest of the room as found, and the state that it leaves.
 use mathlib.Core.Path.{_≡_, refl, sym, ap, subst, _∙_}
 use mathlib.Core.Logic.{_≢_, _↔_, _⊎_, inl, inr, ⊎-elim}
-use mathlib.Core.Bool.{true, false, not, cond}
+use mathlib.Core.Bool.{Bool, true, false, not, cond}
 use mathlib.Core.List.{List, [], _∷_, _++_, flatMap}
 use mathlib.Core.Option.{Option, none, some, Option·none-ne-some}
 use Prim.Native.Nat.{ℕ}
@@ -15,14 +15,14 @@ use Rattle.manual.specs.Configuration.{Configuration, events}
 use Rattle.manual.specs.State.{State}
 use Rattle.manual.specs.Memory.{Entry, entryFor}
 use Rattle.manual.specs.WellFormed.{entries}
-use Rattle.manual.specs.Answers.{Beside, Outcome}
+use Rattle.manual.specs.Answers.{Beside, withCounts, Outcome}
 use Rattle.manual.specs.Calls.{unknownCode, cleared}
 use Rattle.manual.specs.Diagnostics.{Reply, Served, served, SubFunction, subFunction, fitted, lines, numberByMask}
 use Rattle.manual.specs.Diagnostics.{listByMask, listAll, listNear, isNear, counterByte}
 use Rattle.manual.specs.Diagnostics.{isRecord, shownEvent, eventAsked, frameTold, detailsTold}
 use Rattle.manual.specs.Diagnostics.{behindStatus, shownBytes, showing, showFrame, showDetails}
 use Rattle.manual.specs.Diagnostics.{subFunctionOf, subFunctionReply, service19}
-use Rattle.manual.specs.Diagnostics.{service14, servedBy, sent, replied, requestReply}
+use Rattle.manual.specs.Diagnostics.{asksClear, countsAfter, service14, servedBy, sent, replied, requestReply}
 use Rattle.manual.specs.Replies as Replies
 use Rattle.manual.specs.Replies.{rising, length-of-01, length-of-02, length-of-0A, length-of-14, length-of-04}
 use Rattle.manual.specs.Replies.{length-of-06, number-by-mask, list-by-mask, list-all, list-near, frame-of-entry}
@@ -30,9 +30,10 @@ use Rattle.manual.specs.Replies.{details-of-entry, frame-without-entry, 
 use Rattle.manual.specs.Replies.{unknown-record, other-service, alone, no-sub-function, other-length}
 use Rattle.manual.specs.Replies.{unknown-in-04, unknown-in-06, too-long, not-four, unknown, negative, suppressed}
 use Rattle.manual.specs.Replies.{positive, clears}
-use Rattle.manual.proofs.WordsLaws.{by, neither, either}
+use Rattle.manual.proofs.WordsLaws.{clash, by, neither, either}
 use Rattle.manual.proofs.ConfigurationLaws.{found-tells, found-is, nothing-tells, nothing-is}
-use Rattle.manual.proofs.RepliesLaws.{those-every, count-is, join-is, as-stored, accepted-is}
+use Rattle.manual.proofs.RepliesLaws.{those-every, count-is, join-is, as-stored, asks-clear, clearing}
+use Rattle.manual.proofs.RepliesLaws.{counts-rise, counts-stay, accepted-is}
 
 module _ (cfg : Configuration) (request : List ℕ) (b : Beside) (s : State) where
   abbrev service : ℕ
@@ -88,6 +89,10 @@ module _ (cfg : Configuration) (request : List ℕ) (b : Beside) (s : State) whe
 
   abbrev here : Served
   here = servedBy cfg request (length (b .room)) s
+
+  -- what is lent beside the state, with the counts that the request leaves
+  abbrev left : Beside
+  left = withCounts (countsAfter cfg request b s) b
 
   -- a reply as the request and the room let it go
   abbrev fitting : Reply → Reply
@@ -270,18 +275,21 @@ module _ (cfg : Configuration) (request : List ℕ) (b : Beside) (s : State) whe
       by (eqb (length request) 1) Said19 (λ t. negative 0x13 (alone is19 (eqb-true _ _ t)))
       (λ f. subs-said is19 (eqb-false _ _ f))
 
-  service14-said : service ≡ 0x14 → SaidOf (service14 cfg request s)
+  -- a request that asks for no clear leaves the counts
+
+  service14-said : asksClear cfg request ≡ false → service ≡ 0x14 → SaidOf (service14 cfg request s)
   unfolding service14 sent
-  service14-said is14 =
+  service14-said keeps is14 =
       by (not (eqb (length request) 4)) SaidOf (λ t. negative 0x13 (not-four is14 (eqb-false _ _ (not-true _ t))))
       (λ f. let four : length request ≡ 4 = eqb-true (length request) 4 (not-false _ f) in
-      by (unknownCode cfg troubleCode) SaidOf (λ t. negative 0x31 (unknown is14 four t)) (λ g. clears is14 four g))
+      by (unknownCode cfg troubleCode) SaidOf (λ t. negative 0x31 (unknown is14 four t))
+      (λ g. clash (asksClear cfg request) (asks-clear cfg request b s (is14, four, g)) keeps))
 
-  served-said : SaidOf (here)
+  kept-said : asksClear cfg request ≡ false → SaidOf here
   unfolding servedBy sent
-  served-said =
+  kept-said keeps =
       by (eqb service 0x19) SaidOf (λ t. service19-said (eqb-true _ _ t)) (λ not-19.
-      by (eqb service 0x14) SaidOf (λ t. service14-said (eqb-true _ _ t))
+      by (eqb service 0x14) SaidOf (λ t. service14-said keeps (eqb-true _ _ t))
       (λ not-14. negative 0x11 (other-service (eqb-false _ _ not-19) (eqb-false _ _ not-14))))
 
   -- ---- the sentences give nothing else
@@ -369,18 +377,46 @@ module _ (cfg : Configuration) (request : List ℕ) (b : Beside) (s : State) whe
   negative-served _ (not-four a l) = rw (a, ne-eqb _ _ l)
   negative-served _ (unknown a l u) = rw (a, l, u)
 
+  -- only a clearing request changes the counts
+  negative-keeps : (k : ℕ) → Negative k → asksClear cfg request ≡ false
+  negative-keeps _ (other-service a b) = rw (ne-eqb _ _ b)
+  negative-keeps _ (alone a l) = rw a
+  negative-keeps _ (no-sub-function a m p q r t u v) = rw a
+  negative-keeps _ (other-length size n l) = rw (n .service-19)
+  negative-keeps _ (unknown-in-04 z n u) = rw (z .service-19)
+  negative-keeps _ (unknown-in-06 z n u) = rw (z .service-19)
+  negative-keeps _ (too-long bytes n p l) = rw (n .sized .service-19)
+  negative-keeps _ (not-four a l) = rw (a, ne-eqb _ _ l)
+  negative-keeps _ (unknown a l u) = rw (a, l, u)
+
+  due-keeps : {bytes : List ℕ} → Due bytes → asksClear cfg request ≡ false
+  due-keeps n = rw (n .sized .service-19)
+
   clears-served : service ≡ 0x14 → length request ≡ 4 → unknownCode cfg troubleCode ≡ false
       → here ≡ served (Reply.positive (0x54 ∷ [])) (cleared cfg troubleCode s)
   unfolding servedBy service14
   clears-served a l k = rw (a, l, k)
 
   -- what is served and what is sent
-  said-served : (o : Outcome) → Said o → replied cfg service b (here) ≡ o
+  said-served : (o : Outcome) → Said o → replied cfg service left here ≡ o
   unfolding sent fitted
-  said-served _ (negative k n) = rw (negative-served k n)
-  said-served _ (suppressed q) = rw (due-served (q .1), le-leb _ _ (q .2))
-  said-served _ (positive bytes n p l) = rw (due-served n, lt-leb _ _ p, le-ltb _ _ l)
-  said-served _ (clears a l k) = rw (clears-served a l k)
+  said-served _ (negative k n) = rw (counts-stay cfg request b s (negative-keeps k n), negative-served k n)
+  said-served _ (suppressed q) =
+      rw (counts-stay cfg request b s (due-keeps (q .1)), due-served (q .1), le-leb _ _ (q .2))
+  said-served _ (positive bytes n p l) =
+      rw (counts-stay cfg request b s (due-keeps n), due-served n, lt-leb _ _ p, le-ltb _ _ l)
+  said-served _ (clears a l k) =
+      rw (counts-rise cfg request b s (asks-clear cfg request b s (a, l, k)), clears-served a l k)
+
+  served-said : Said (replied cfg service left here)
+  unfolding sent
+  served-said = go (asksClear cfg request) refl
+    where
+      go : (t : Bool) → asksClear cfg request ≡ t → Said (replied cfg service left here)
+      go true t =
+          let (a, l, k) = clearing cfg request b s t in
+          rw (counts-rise cfg request b s t, clears-served a l k) (clears a l k)
+      go false f = rw (counts-stay cfg request b s f) (kept-said f)
 
   -- ---- the theorem
 

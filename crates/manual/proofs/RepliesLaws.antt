@@ -2,22 +2,27 @@
 -- leaving out; and what an accepted request tells.
 use mathlib.Core.Path.{_≡_, refl, sym, ap, _∙_}
 use mathlib.Core.Logic.{⊎-elim}
-use mathlib.Core.Bool.{Bool, true, false, cond}
+use mathlib.Core.Bool.{Bool, true, false, not, _&&_, cond}
 use mathlib.Core.List.{List, [], _∷_, _++_, map, flatMap, append-assoc, append-nil}
 use Prim.Native.Nat.{ℕ, zero, suc, _+_, _*_, _<_}
 use native.Mathlib.Nat.{eq-or-lt-of-le, le-of-suc-le-suc, not-suc-le-zero}
 use native.Mathlib.Omega.{arith}
 use lib.ListN.{length, getD, length-append, take-append-drop, List·getD-append}
 use lib.Seq.{getD-at}
-use borrow.Author.Tests.{not-false, ltb-false, eqb-false, le-ltb, ne-eqb}
-use Rattle.manual.specs.Words.{countBelow, joinBelow, those}
+use lib.Dec.{eqb}
+use borrow.Author.Tests.{not-true, not-false, ltb-false, eqb-true, eqb-false, le-ltb, ne-eqb}
+use Rattle.history.proofs.WordsLaws.{and-left, and-right}
+use Rattle.manual.specs.Words.{countBelow, joinBelow, those, threeAt}
 use Rattle.manual.specs.Configuration.{Configuration, frameBytes}
 use Rattle.manual.specs.Memory.{Entry, firstFrame, latestFrame}
 use Rattle.manual.specs.State.{State}
-use Rattle.manual.specs.Answers.{Beside, Outcome, firstThatApplies}
-use Rattle.manual.specs.Diagnostics.{servedBy, sent, replied, requestRules, requestReply}
-use Rattle.manual.specs.Replies.{rising, fours, Accepted}
-use Rattle.manual.proofs.AnswersLaws.{none-applies, accepted, goes-through}
+use Rattle.manual.specs.WellFormed.{wellFormed}
+use Rattle.manual.specs.Answers.{Beside, withCounts, Outcome, firstThatApplies}
+use Rattle.manual.specs.Counts.{riseOf, raised, carriesPast, countsFit}
+use Rattle.manual.specs.Calls.{unknownCode, clearLog}
+use Rattle.manual.specs.Diagnostics.{asksClear, countsAfter, servedBy, sent, replied, requestRules, requestReply}
+use Rattle.manual.specs.Replies.{rising, fours, Clearing, Accepted}
+use Rattle.manual.proofs.AnswersLaws.{none-applies, three-passed, accepted, goes-through}
 
 -- ---- the events that pass, and their lists
 
@@ -126,19 +131,53 @@ as-stored cfg x = take-append-drop (frameBytes cfg) (x .payload)
 -- ---- an accepted request
 
 module _ (cfg : Configuration) (request : List ℕ) (b : Beside) (s : State) where
+  pub asks-clear : Clearing cfg request s → asksClear cfg request ≡ true
+  asks-clear (a, l, k) = rw (a, l, k)
+
+  pub clearing : asksClear cfg request ≡ true → Clearing cfg request s
+  clearing t =
+      let front = and-left (is14 && four) known t in (
+        eqb-true _ _ (and-left is14 four front),
+        eqb-true _ _ (and-right is14 four front),
+        not-true _ (and-right (is14 && four) known t),
+      )
+    where
+      is14 : Bool
+      is14 = eqb (getD request 0 0) 0x14
+
+      four : Bool
+      four = eqb (length request) 4
+
+      known : Bool
+      known = not (unknownCode cfg (threeAt 1 request))
+
+  -- the counts that a request leaves
+  pub counts-rise : asksClear cfg request ≡ true
+      → countsAfter cfg request b s ≡ raised (riseOf (clearLog cfg (threeAt 1 request) s)) (b .counts)
+  unfolding countsAfter
+  counts-rise t = rw t
+
+  pub counts-stay : asksClear cfg request ≡ false → countsAfter cfg request b s ≡ b .counts
+  unfolding countsAfter
+  counts-stay f = rw f
+
   pub accepted-tells : requestReply cfg request b s .answer ≡ 0 → Accepted cfg request s b
   unfolding requestReply requestRules
   accepted-tells z =
       let none = none-applies _ (accepted _ b s _ z .0) refl in
       record {
         configuration = not-false _ (none 0);
-        formed = not-false _ (none 1);
+        five-counts = three-passed (countsFit (b .counts)) (wellFormed cfg s) (none 1) .0;
+        formed = three-passed (countsFit (b .counts)) (wellFormed cfg s) (none 1) .1;
         room-least = ltb-false _ _ (none 2);
         not-empty = eqb-false _ _ (none 3);
+        not-past = λ c. rw (asks-clear c) at (none 4);
       }
 
   pub accepted-is : requestReply cfg request b s .answer ≡ 0
-      → requestReply cfg request b s ≡ replied cfg (getD request 0 0) b (servedBy cfg request (length (b .room)) s)
+      → requestReply cfg request b s
+      ≡ replied cfg (getD request 0 0) (withCounts (countsAfter cfg request b s) b)
+      (servedBy cfg request (length (b .room)) s)
   unfolding requestReply
   accepted-is z = accepted _ b s _ z .1
 
@@ -146,5 +185,19 @@ module _ (cfg : Configuration) (request : List ℕ) (b : Beside) (s : State) whe
   unfolding requestReply requestRules sent firstThatApplies
   accepted-told a =
       let none-first : firstThatApplies (requestRules cfg request b s) ≡ 0 =
-      rw (a .configuration, a .formed, le-ltb _ _ (a .room-least), ne-eqb _ _ (a .not-empty)) in
+      rw (
+        a .configuration,
+        a .five-counts,
+        a .formed,
+        le-ltb _ _ (a .room-least),
+        ne-eqb _ _ (a .not-empty),
+        below (asksClear cfg request) refl,
+      ) in
       ap (λ (o : Outcome). o .answer) (goes-through _ b s _ none-first)
+    where
+      past-limit : Bool
+      past-limit = carriesPast (clearLog cfg (threeAt 1 request) s) (b .counts)
+
+      below : (t : Bool) → asksClear cfg request ≡ t → asksClear cfg request && past-limit ≡ false
+      below true q = rw q (a .not-past (clearing q))
+      below false q = rw q

@@ -10,10 +10,11 @@ use lib.ListN.{length}
 use borrow.Author.Tests.{not-false, le-ltb}
 use Rattle.manual.specs.Configuration.{Configuration, configOk}
 use Rattle.manual.specs.State.{State}
-use Rattle.manual.specs.Answers.{Beside, Outcome, done, firstThatApplies, _if_}
+use Rattle.manual.specs.Answers.{Beside, Outcome, firstThatApplies, _if_}
+use Rattle.manual.specs.Counts.{countsFit}
 use Rattle.manual.specs.WellFormed.{lengthsFit, wellFormed}
 use Rattle.manual.specs.Image.{edition1, edition2, Still, imageOf, stateIn, stateOf, widened, acceptableIn}
-use Rattle.manual.specs.Image.{acceptable, anyRuns, saveRules, saved, save, restoreRules, restore}
+use Rattle.manual.specs.Image.{acceptable, anyRuns, saveRules, saved, save, restoreRules, restoredTo, restore}
 use Rattle.manual.specs.Sequences.{savedImage}
 use Rattle.manual.proofs.AnswersLaws.{none-applies, accepted, goes-through}
 use Rattle.manual.proofs.ImageLaws.{accepted-image}
@@ -73,11 +74,12 @@ module _ (cfg : Configuration) (image : List ℕ) (b : Beside) (s : State) (z : 
       → restore cfg image b s .state ≡ widened cfg (stateIn cfg (edition1 cfg) image)
   widened-by-restore first = restored-state ∙ state-1 cfg image first
 
-  -- what was saved after a restore, restored into any blocks of fitting lengths, is the same state again
+  -- what was saved after a restore, restored into any blocks of fitting lengths, is the same state again; the counts
+  -- tell the entries present
   pub saved-again-restored : (b′ : Beside) → save cfg b′ (restore cfg image b s .state) .answer ≡ 0
-      → (b″ : Beside) (s″ : State) → lengthsFit cfg s″ ≡ true
+      → (b″ : Beside) (s″ : State) → lengthsFit cfg s″ ≡ true → countsFit (b″ .counts) ≡ true
       → restore cfg (savedImage (save cfg b′ (restore cfg image b s .state))) b″ s″
-      ≡ done b″ (restore cfg image b s .state)
-  saved-again-restored b′ z′ b″ s″ fits =
+      ≡ restoredTo cfg (restore cfg image b s .state) b″
+  saved-again-restored b′ z′ b″ s″ fits five =
       restore-after-save cfg (restore cfg image b s .state) s″
-      (subst (Still cfg) (sym restored-state) (accepted-state cfg image restored-accepts) .four) fits b′ b″ z′
+      (subst (Still cfg) (sym restored-state) (accepted-state cfg image restored-accepts) .four) fits b′ b″ five z′

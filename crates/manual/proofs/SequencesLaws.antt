@@ -21,15 +21,16 @@ use Rattle.manual.specs.Missing.{readMissing}
 use Rattle.manual.specs.Calls.{fresh, reportRules, applied, debouncedBy, report, tickRules, timeRuns, tickMoves}
 use Rattle.manual.specs.Calls.{ticks, tick, ofCycle, startRules, startCycle, stopRules, stopCycle, covers}
 use Rattle.manual.specs.Calls.{unknownCode}
-use Rattle.manual.specs.Calls.{cleared, clearRules, clearCode, readStatus, readFrame}
+use Rattle.manual.specs.Calls.{cleared, clearLog, clearRules, clearCode, readStatus, readFrame}
+use Rattle.manual.specs.Counts.{carriesPast}
 use Rattle.manual.specs.Untested.{readTable, readPaint, listGrey}
 use Rattle.manual.specs.Image.{save, restore}
 use Rattle.manual.specs.Diagnostics.{positive, negative, Served, served, service14}
-use Rattle.manual.specs.Diagnostics.{servedBy, sent, requestRules, requestReply}
+use Rattle.manual.specs.Diagnostics.{asksClear, servedBy, sent, requestRules, requestReply}
 use Rattle.manual.specs.Sequences.{Query, ReadStatus, ReadFrame, ReadCounter, ReadMissing, ReadTable, ReadPaint}
 use Rattle.manual.specs.Sequences.{ListGrey, Save}
 use Rattle.manual.specs.Sequences.{Call, Fresh, Report, Tick, Start, Stop}
-use Rattle.manual.specs.Sequences.{Clear, Read, Restore, Request, answerTo, onlyIf, outcome, asksClear, gives}
+use Rattle.manual.specs.Sequences.{Clear, Read, Restore, Request, answerTo, onlyIf, outcome, gives}
 use Rattle.manual.specs.Sequences.{tokens, tokensAt, goesOn}
 use Rattle.manual.proofs.WordsLaws.{clash, by}
 use Rattle.manual.proofs.AnswersLaws.{none-applies, goes-through}
@@ -77,23 +78,24 @@ module _ (cfg : Configuration) where
   onlyReads (Restore image) = false
   onlyReads (Request bytes) = not (asksClear cfg bytes)
 
-  -- what an accepted call makes of state s; a fresh and a restore begin anew and have no place here
-  pub data Does (s : State) : Call → State → Type 0 where
+  -- what an accepted call, with b lent beside it, makes of state s; a fresh and a restore begin anew and have no place
+  -- here
+  pub data Does (b : Beside) (s : State) : Call → State → Type 0 where
     a-report : (k code : ℕ) (frame : List ℕ) (present : ℕ)
-        → firstThatApplies (reportRules cfg k code frame present s) ≡ 0
-        → Does s (Report k code frame present) (applied cfg frame k (debouncedBy cfg k code s) s)
-    a-tick : (ms : ℕ) (frame : List ℕ) (present : ℕ) → firstThatApplies (tickRules cfg ms frame s) ≡ 0
-        → Does s (Tick ms frame present) (forThose cfg (tickMoves cfg present (s .board)) (ticks cfg ms frame) s)
+        → firstThatApplies (reportRules cfg k code frame present b s) ≡ 0
+        → Does b s (Report k code frame present) (applied cfg frame k (debouncedBy cfg k code s) s)
+    a-tick : (ms : ℕ) (frame : List ℕ) (present : ℕ) → firstThatApplies (tickRules cfg ms frame present b s) ≡ 0
+        → Does b s (Tick ms frame present) (forThose cfg (tickMoves cfg present (s .board)) (ticks cfg ms frame) s)
     a-start : (c : ℕ) → firstThatApplies (startRules cfg c s) ≡ 0
-        → Does s (Start c) (withCycle c true (forThose cfg (ofCycle cfg c) (happens cfg start) s))
-    a-stop : (c : ℕ) → firstThatApplies (stopRules cfg c s) ≡ 0
-        → Does s (Stop c) (withCycle c false (forThose cfg (ofCycle cfg c) (stops cfg) s))
-    a-clear : (code : ℕ) → firstThatApplies (clearRules cfg code s) ≡ 0 → Does s (Clear code) (cleared cfg code s)
+        → Does b s (Start c) (withCycle c true (forThose cfg (ofCycle cfg c) (happens cfg start) s))
+    a-stop : (c : ℕ) → firstThatApplies (stopRules cfg c b s) ≡ 0
+        → Does b s (Stop c) (withCycle c false (forThose cfg (ofCycle cfg c) (stops cfg) s))
+    a-clear : (code : ℕ) → firstThatApplies (clearRules cfg code b s) ≡ 0 → Does b s (Clear code) (cleared cfg code s)
     -- service 14 with a known code does what the clear does
     a-request : (bytes : List ℕ) → asksClear cfg bytes ≡ true
-        → firstThatApplies (clearRules cfg (threeAt 1 bytes) s) ≡ 0
-        → Does s (Request bytes) (cleared cfg (threeAt 1 bytes) s)
-    a-reading : (c : Call) → onlyReads c ≡ true → Does s c s
+        → firstThatApplies (clearRules cfg (threeAt 1 bytes) b s) ≡ 0
+        → Does b s (Request bytes) (cleared cfg (threeAt 1 bytes) s)
+    a-reading : (c : Call) → onlyReads c ≡ true → Does b s c s
 
   -- service 14 clears a known code, and nothing else changes the state
   served-state : (bytes : List ℕ) (room : ℕ) (s : State)
@@ -121,21 +123,29 @@ module _ (cfg : Configuration) where
   -- where a request is accepted, so is a clear of a known code
   request-clears : (bytes : List ℕ) (b : Beside) (s : State) → firstThatApplies (requestRules cfg bytes b s) ≡ 0
       → asksClear cfg bytes ≡ true
-      → firstThatApplies (clearRules cfg (threeAt 1 bytes) s) ≡ 0
+      → firstThatApplies (clearRules cfg (threeAt 1 bytes) b s) ≡ 0
   unfolding firstThatApplies requestRules clearRules
   request-clears bytes b s z a =
-      rw (none-applies (requestRules cfg bytes b s) z refl 0, none-applies (requestRules cfg bytes b s) z refl 1, known)
+      rw (
+        none-applies (requestRules cfg bytes b s) z refl 0,
+        none-applies (requestRules cfg bytes b s) z refl 1,
+        known,
+        below,
+      )
     where
+      below : carriesPast (clearLog cfg (threeAt 1 bytes) s) (b .counts) ≡ false
+      below = rw a at (none-applies (requestRules cfg bytes b s) z refl 4)
+
       known : unknownCode cfg (threeAt 1 bytes) ≡ false
       known =
           not-true _
           (and-right (eqb (getD bytes 0 0) 0x14 && eqb (length bytes) 4) (not (unknownCode cfg (threeAt 1 bytes))) a)
 
   request-does : (bytes : List ℕ) (b : Beside) (s : State) → firstThatApplies (requestRules cfg bytes b s) ≡ 0
-      → Does s (Request bytes) (servedBy cfg bytes (length (b .room)) s .state)
+      → Does b s (Request bytes) (servedBy cfg bytes (length (b .room)) s .state)
   request-does bytes b s z =
-      subst (Does s (Request bytes)) (sym (served-state bytes (length (b .room)) s))
-      (by (asksClear cfg bytes) (Does s (Request bytes))
+      subst (Does b s (Request bytes)) (sym (served-state bytes (length (b .room)) s))
+      (by (asksClear cfg bytes) (Does b s (Request bytes))
       (λ a. a-request bytes a (request-clears bytes b s z a))
       (λ n. a-reading (Request bytes) (ap not n)))
 
@@ -175,28 +185,28 @@ module _ (cfg : Configuration) where
   query-leaves ListGrey b s = judged-leaves _ b s _ refl
   query-leaves Save b s = judged-leaves _ b s _ refl
 
-  query-does : (q : Query) (b : Beside) (s : State) → Either (Does s (Read q)) s (answerTo cfg q b s)
+  query-does : (q : Query) (b : Beside) (s : State) → Either (Does b s (Read q)) s (answerTo cfg q b s)
   query-does q b s = go (eqb (answerTo cfg q b s .answer) 0) refl
     where
-      go : (t : Bool) → eqb (answerTo cfg q b s .answer) 0 ≡ t → Either (Does s (Read q)) s (answerTo cfg q b s)
-      go true e = inr (eqb-true _ 0 e, subst (Does s (Read q)) (sym (query-leaves q b s)) (a-reading (Read q) refl))
+      go : (t : Bool) → eqb (answerTo cfg q b s .answer) 0 ≡ t → Either (Does b s (Read q)) s (answerTo cfg q b s)
+      go true e = inr (eqb-true _ 0 e, subst (Does b s (Read q)) (sym (query-leaves q b s)) (a-reading (Read q) refl))
       go false e = inl (eqb-false _ 0 e, query-leaves q b s)
 
   pub call-does : (c : Call) (b : Beside) (s : State) → goesOn cfg c b s ≡ true
-      → Either (Does s c) s (outcome cfg c b s)
+      → Either (Does b s c) s (outcome cfg c b s)
   unfolding fresh report tick startCycle stopCycle clearCode restore requestReply sent
-  call-does Fresh b s g = judged-either (Does s Fresh) _ b s _ refl (λ z. not-accepted _ b s _ refl g z)
+  call-does Fresh b s g = judged-either (Does b s Fresh) _ b s _ refl (λ z. not-accepted _ b s _ refl g z)
   call-does (Report k code frame present) b s g =
-      judged-either (Does s (Report k code frame present)) _ b s _ refl (a-report k code frame present)
+      judged-either (Does b s (Report k code frame present)) _ b s _ refl (a-report k code frame present)
   call-does (Tick ms frame present) b s g =
-      judged-either (Does s (Tick ms frame present)) _ b s _ refl (a-tick ms frame present)
-  call-does (Start c) b s g = judged-either (Does s (Start c)) _ b s _ refl (a-start c)
-  call-does (Stop c) b s g = judged-either (Does s (Stop c)) _ b s _ refl (a-stop c)
-  call-does (Clear code) b s g = judged-either (Does s (Clear code)) _ b s _ refl (a-clear code)
+      judged-either (Does b s (Tick ms frame present)) _ b s _ refl (a-tick ms frame present)
+  call-does (Start c) b s g = judged-either (Does b s (Start c)) _ b s _ refl (a-start c)
+  call-does (Stop c) b s g = judged-either (Does b s (Stop c)) _ b s _ refl (a-stop c)
+  call-does (Clear code) b s g = judged-either (Does b s (Clear code)) _ b s _ refl (a-clear code)
   call-does (Read q) b s g = query-does q b s
   call-does (Restore image) b s g =
-      judged-either (Does s (Restore image)) _ b s _ refl (λ z. not-accepted _ b s _ refl g z)
-  call-does (Request bytes) b s g = judged-either (Does s (Request bytes)) _ b s _ refl (request-does bytes b s)
+      judged-either (Does b s (Restore image)) _ b s _ refl (λ z. not-accepted _ b s _ refl g z)
+  call-does (Request bytes) b s g = judged-either (Does b s (Request bytes)) _ b s _ refl (request-does bytes b s)
 
   -- ---- what every call keeps, of a relation between state and histories
 
@@ -205,26 +215,27 @@ module _ (cfg : Configuration) where
   given c s H e = gives cfg c (s .board) e (D s e) ++ H e
 
   -- What a relation must keep for every call to keep it: the five that change the state, where they are accepted.
-  pub record KeptWhenAccepted (Q : State → Histories → Type 0) (s : State) (H : Histories) : Type 0 where
+  pub record KeptWhenAccepted (Q : State → Histories → Type 0) (b : Beside) (s : State) (H : Histories) : Type 0 where
     pub report : (k code : ℕ) (frame : List ℕ) (present : ℕ)
-        → firstThatApplies (reportRules cfg k code frame present s) ≡ 0
+        → firstThatApplies (reportRules cfg k code frame present b s) ≡ 0
         → Q (applied cfg frame k (debouncedBy cfg k code s) s) (given (Report k code frame present) s H)
-    pub tick : (ms : ℕ) (frame : List ℕ) (present : ℕ) → firstThatApplies (tickRules cfg ms frame s) ≡ 0
+    pub tick : (ms : ℕ) (frame : List ℕ) (present : ℕ) → firstThatApplies (tickRules cfg ms frame present b s) ≡ 0
         → Q (forThose cfg (tickMoves cfg present (s .board)) (ticks cfg ms frame) s) (given (Tick ms frame present) s H)
     pub start : (c : ℕ) → firstThatApplies (startRules cfg c s) ≡ 0
         → Q (withCycle c true (forThose cfg (ofCycle cfg c) (happens cfg start) s)) (given (Start c) s H)
-    pub stop : (c : ℕ) → firstThatApplies (stopRules cfg c s) ≡ 0
+    pub stop : (c : ℕ) → firstThatApplies (stopRules cfg c b s) ≡ 0
         → Q (withCycle c false (forThose cfg (ofCycle cfg c) (stops cfg) s)) (given (Stop c) s H)
-    pub clear : (code : ℕ) → firstThatApplies (clearRules cfg code s) ≡ 0
+    pub clear : (code : ℕ) → firstThatApplies (clearRules cfg code b s) ≡ 0
         → Q (cleared cfg code s) (given (Clear code) s H)
 
-  module _ (Q : State → Histories → Type 0) (s : State) (H : Histories) (q : Q s H) (k : KeptWhenAccepted Q s H) where
+  module _ (Q : State → Histories → Type 0) (b : Beside) (s : State) (H : Histories) (q : Q s H)
+      (k : KeptWhenAccepted Q b s H) where
     -- a request's tokens are those of the clear that it asks for
-    asked : (b : Bool) (bytes : List ℕ) (t : State) → asksClear cfg bytes ≡ b
-        → Q t (λ e. onlyIf (b && covers cfg (threeAt 1 bytes) e) (clear ∷ []) ++ H e)
+    asked : (a : Bool) (bytes : List ℕ) (t : State) → asksClear cfg bytes ≡ a
+        → Q t (λ e. onlyIf (a && covers cfg (threeAt 1 bytes) e) (clear ∷ []) ++ H e)
         → Q t (λ e. onlyIf (asksClear cfg bytes && covers cfg (threeAt 1 bytes) e) (clear ∷ []) ++ H e)
-    asked b bytes t a =
-        subst (λ (b : Bool). Q t (λ e. onlyIf (b && covers cfg (threeAt 1 bytes) e) (clear ∷ []) ++ H e)) (sym a)
+    asked a bytes t is =
+        subst (λ (a : Bool). Q t (λ e. onlyIf (a && covers cfg (threeAt 1 bytes) e) (clear ∷ []) ++ H e)) (sym is)
 
     reading-keeps : (c : Call) → onlyReads c ≡ true → Q s (given c s H)
     reading-keeps Fresh r = q
@@ -237,7 +248,7 @@ module _ (cfg : Configuration) where
     reading-keeps (Restore image) r = q
     reading-keeps (Request bytes) r = asked false bytes s (not-true _ r) q
 
-    does-keeps : (c : Call) (t : State) → Does s c t → Q t (given c s H)
+    does-keeps : (c : Call) (t : State) → Does b s c t → Q t (given c s H)
     does-keeps _ _ (a-report e code frame present z) = k .report e code frame present z
     does-keeps _ _ (a-tick ms frame present z) = k .tick ms frame present z
     does-keeps _ _ (a-start c z) = k .start c z
@@ -247,12 +258,12 @@ module _ (cfg : Configuration) where
     does-keeps _ _ (a-reading c r) = reading-keeps c r
 
     -- "Refused calls … count for nothing."
-    pub call-keeps : (c : Call) (b : Beside) → goesOn cfg c b s ≡ true
+    pub call-keeps : (c : Call) → goesOn cfg c b s ≡ true
         → Q (outcome cfg c b s .state) (λ e. tokensAt cfg c b s e ++ H e)
     unfolding tokens
-    call-keeps c b g = go (outcome cfg c b s) (call-does c b s g)
+    call-keeps c g = go (outcome cfg c b s) (call-does c b s g)
       where
-        go : (o : Outcome) → Either (Does s c) s o
+        go : (o : Outcome) → Either (Does b s c) s o
             → Q (o .state) (λ e. tokens cfg (o .answer) c (s .board) e (D s e) ++ H e)
         go o (inl (n, p)) = rw (p, ne-eqb (o .answer) 0 n) q
         go o (inr (z, d)) = rw z (does-keeps c (o .state) d)

@@ -215,11 +215,11 @@ module _ (cfg : Configuration) where
 
     -- ---- report
 
-    report-sound : (k code : ℕ) (frame : List ℕ) (present : ℕ) (s : State) → Sound cfg s
-        → firstThatApplies (reportRules cfg k code frame present s) ≡ 0
+    report-sound : (k code : ℕ) (frame : List ℕ) (present : ℕ) (b : Beside) (s : State) → Sound cfg s
+        → firstThatApplies (reportRules cfg k code frame present b s) ≡ 0
         → Sound cfg (applied cfg frame k (reported cfg k code (D s k)) s)
     unfolding reportRules
-    report-sound k code frame present s o z =
+    report-sound k code frame present b s o z =
         reports-sound frame (eqb-true _ _ (not-false _ (none-applies _ z refl 5))) k
         (leb-false _ _ (none-applies _ z refl 2)) code s (not-false _ (none-applies _ z refl 6)) o
 
@@ -235,11 +235,11 @@ module _ (cfg : Configuration) where
       running = λ k u. applied-running cfg frame k _ u;
     }
 
-    tick-sound : (ms : ℕ) (frame : List ℕ) (present : ℕ) (s : State) → Sound cfg s → firstThatApplies
-        (tickRules cfg ms frame s) ≡ 0
+    tick-sound : (ms : ℕ) (frame : List ℕ) (present : ℕ) (b : Beside) (s : State) → Sound cfg s
+        → firstThatApplies (tickRules cfg ms frame present b s) ≡ 0
         → Sound cfg (forThose cfg (tickMoves cfg present (s .board)) (ticks cfg ms frame) s)
     unfolding tickRules
-    tick-sound ms frame present s o z =
+    tick-sound ms frame present b s o z =
         those-going (ticks-keep ms frame present (eqb-true _ _ (not-false _ (none-applies _ z refl 3))) s) o .sound
 
     -- ---- start and stop
@@ -353,16 +353,16 @@ module _ (cfg : Configuration) where
   judged-config applies rules z n =
       config-tells cfg (not-false _ (none-applies ((2 if not (configOk cfg)) ∷ (3 if applies) ∷ rules) z n 0))
 
-  does-sound : (c : Call) (s t : State) → Does cfg s c t → Sound cfg s → Sound cfg t
+  does-sound : (c : Call) (b : Beside) (s t : State) → Does cfg b s c t → Sound cfg s → Sound cfg t
   unfolding reportRules tickRules startRules stopRules clearRules
-  does-sound _ s _ (a-report k code frame present z) o =
-      report-sound (judged-config _ _ z refl) k code frame present s o z
-  does-sound _ s _ (a-tick ms frame present z) o = tick-sound (judged-config _ _ z refl) ms frame present s o z
-  does-sound _ s _ (a-start c z) o = start-sound (judged-config _ _ z refl) c s o z
-  does-sound _ s _ (a-stop c z) o = stop-sound (judged-config _ _ z refl) c s o
-  does-sound _ s _ (a-clear code z) o = cleared-sound (judged-config _ _ z refl) code s o
-  does-sound _ s _ (a-request bytes a z) o = cleared-sound (judged-config _ _ z refl) (threeAt 1 bytes) s o
-  does-sound _ s _ (a-reading c r) o = o
+  does-sound _ b s _ (a-report k code frame present z) o =
+      report-sound (judged-config _ _ z refl) k code frame present b s o z
+  does-sound _ b s _ (a-tick ms frame present z) o = tick-sound (judged-config _ _ z refl) ms frame present b s o z
+  does-sound _ b s _ (a-start c z) o = start-sound (judged-config _ _ z refl) c s o z
+  does-sound _ b s _ (a-stop c z) o = stop-sound (judged-config _ _ z refl) c s o
+  does-sound _ b s _ (a-clear code z) o = cleared-sound (judged-config _ _ z refl) code s o
+  does-sound _ b s _ (a-request bytes a z) o = cleared-sound (judged-config _ _ z refl) (threeAt 1 bytes) s o
+  does-sound _ b s _ (a-reading c r) o = o
 
   fresh-begun : (b : Beside) (s : State) → fresh cfg b s .answer ≡ 0 → Sound cfg (fresh cfg b s .state)
   unfolding fresh freshRules
@@ -384,9 +384,9 @@ module _ (cfg : Configuration) where
       → Sound cfg (outcome cfg c b s .state)
   call-sound c b s o true g = go (call-does cfg c b s g)
     where
-      go : Either (Does cfg s c) s (outcome cfg c b s) → Sound cfg (outcome cfg c b s .state)
+      go : Either (Does cfg b s c) s (outcome cfg c b s) → Sound cfg (outcome cfg c b s .state)
       go (inl (n, p)) = subst (Sound cfg) (sym p) o
-      go (inr (z, d)) = does-sound c s _ d o
+      go (inr (z, d)) = does-sound c b s _ d o
   call-sound c b s o false g = begun c (not-false (beginsAnew c && eqb (outcome cfg c b s .answer) 0) g)
     where
       begun : (c : Call) → beginsAnew c && eqb (outcome cfg c b s .answer) 0 ≡ true → Sound cfg

@@ -1,9 +1,9 @@
 -- In every state that calls lead to, with restores of images saved on the way: the configuration is accepted and the
--- state well formed, so no call is refused with 2 or 3; memory lists no event twice; and the stored record of each
--- event is the record that its history makes.
+-- state well formed, so no call is refused with 2, nor with 3 where it takes no counts or is lent five; memory lists no
+-- event twice; and the stored record of each event is the record that its history makes.
 use mathlib.Core.Path.{_≡_, refl, sym, ap, subst, _∙_}
 use mathlib.Core.Logic.{_≢_}
-use mathlib.Core.Bool.{Bool, true, not}
+use mathlib.Core.Bool.{Bool, true, not, _&&_}
 use mathlib.Core.List.{List, [], _∷_, _++_}
 use Prim.Native.Nat.{ℕ, _<_}
 use native.Mathlib.Omega.{arith}
@@ -12,6 +12,7 @@ use Rattle.history.specs.History.{recordAfter}
 use Rattle.manual.specs.Configuration.{Configuration, events, limitsOf, configOk}
 use Rattle.manual.specs.State.{State, stored, storedAt}
 use Rattle.manual.specs.Answers.{Beside, Outcome, Rule, _if_, firstThatApplies}
+use Rattle.manual.specs.Counts.{countsFit}
 use Rattle.manual.specs.Memory.{noTwice}
 use Rattle.manual.specs.WellFormed.{entries, wellFormed}
 use Rattle.manual.specs.Counter.{readCounterRules}
@@ -25,6 +26,7 @@ use Rattle.manual.specs.Sequences.{Query, ReadStatus, ReadFrame, ReadCou
 use Rattle.manual.specs.Sequences.{ListGrey, Save, Call, Fresh, Report, Tick}
 use Rattle.manual.specs.Sequences.{Start, Stop, Clear, Read, Restore, Request, outcome, queryRules}
 use Rattle.manual.specs.Sequences.{rulesOf, tokensAt, goesOn, Reached, begun, called, restored}
+use Rattle.manual.specs.Tallies.{takesCounts}
 use Rattle.manual.proofs.AnswersLaws.{none-applies, accepted, lacks, never-given}
 use Rattle.manual.proofs.WellFormedLaws.{state-tells, well-formed-lengths}
 use Rattle.manual.proofs.SequencesLaws.{Histories}
@@ -36,41 +38,67 @@ use Rattle.manual.proofs.AnswerIsFirstThatApplies.{answer-is}
 
 -- ---- where the configuration and the state are in order, 2 and 3 are not given
 
-abbrev Unrefused : List Rule → Type 0
-Unrefused rules = (firstThatApplies rules ≢ 2) × (firstThatApplies rules ≢ 3)
-
-past-both : (a b : Bool) (rules : List Rule) → a ≡ true → b ≡ true → lacks 2 rules ≡ true → lacks 3 rules ≡ true
-    → Unrefused ((2 if not a) ∷ (3 if not b) ∷ rules)
+not-2 : (a x : Bool) (rules : List Rule) → a ≡ true → lacks 2 rules ≡ true
+    → firstThatApplies ((2 if not a) ∷ (3 if x) ∷ rules) ≢ 2
 unfolding firstThatApplies
-past-both a b rules p q l m =
-    rw (p, q) (never-given 2 (λ z. omega arith) rules l, never-given 3 (λ z. omega arith) rules m)
+not-2 a x rules p l = rw p (never-given 2 (λ z. omega arith) ((3 if x) ∷ rules) l)
+
+not-3 : (fits a b : Bool) (rules : List Rule) → fits ≡ true → a ≡ true → b ≡ true → lacks 3 rules ≡ true
+    → firstThatApplies ((2 if not a) ∷ (3 if not (fits && b)) ∷ rules) ≢ 3
+unfolding firstThatApplies
+not-3 fits a b rules f p q l = rw (f, p, q) (never-given 3 (λ z. omega arith) rules l)
 
 module _ (cfg : Configuration) where
-  query-not-2-or-3 : (q : Query) (b : Beside) (s : State) → configOk cfg ≡ true → wellFormed cfg s ≡ true
-      → Unrefused (queryRules cfg q b s)
+  query-not-2 : (q : Query) (b : Beside) (s : State) → configOk cfg ≡ true
+      → firstThatApplies (queryRules cfg q b s) ≢ 2
   unfolding readStatusRules readFrameRules readCounterRules readMissingRules readTableRules readPaintRules listGreyRules
       saveRules
-  query-not-2-or-3 (ReadStatus e) b s k w = past-both _ _ _ k w refl refl
-  query-not-2-or-3 (ReadFrame e which) b s k w = past-both _ _ _ k w refl refl
-  query-not-2-or-3 (ReadCounter e) b s k w = past-both _ _ _ k w refl refl
-  query-not-2-or-3 (ReadMissing e present) b s k w = past-both _ _ _ k w refl refl
-  query-not-2-or-3 ReadTable b s k w = past-both _ _ _ k w refl refl
-  query-not-2-or-3 (ReadPaint e) b s k w = past-both _ _ _ k w refl refl
-  query-not-2-or-3 ListGrey b s k w = past-both _ _ _ k w refl refl
-  query-not-2-or-3 Save b s k w = past-both _ _ _ k w refl refl
+  query-not-2 (ReadStatus e) b s k = not-2 _ _ _ k refl
+  query-not-2 (ReadFrame e which) b s k = not-2 _ _ _ k refl
+  query-not-2 (ReadCounter e) b s k = not-2 _ _ _ k refl
+  query-not-2 (ReadMissing e present) b s k = not-2 _ _ _ k refl
+  query-not-2 ReadTable b s k = not-2 _ _ _ k refl
+  query-not-2 (ReadPaint e) b s k = not-2 _ _ _ k refl
+  query-not-2 ListGrey b s k = not-2 _ _ _ k refl
+  query-not-2 Save b s k = not-2 _ _ _ k refl
 
-  not-2-or-3 : (c : Call) (b : Beside) (s : State) → configOk cfg ≡ true → wellFormed cfg s ≡ true
-      → Unrefused (rulesOf cfg c b s)
+  query-not-3 : (q : Query) (b : Beside) (s : State) → configOk cfg ≡ true → wellFormed cfg s ≡ true
+      → firstThatApplies (queryRules cfg q b s) ≢ 3
+  unfolding readStatusRules readFrameRules readCounterRules readMissingRules readTableRules readPaintRules listGreyRules
+      saveRules
+  query-not-3 (ReadStatus e) b s k w = not-3 true _ _ _ refl k w refl
+  query-not-3 (ReadFrame e which) b s k w = not-3 true _ _ _ refl k w refl
+  query-not-3 (ReadCounter e) b s k w = not-3 true _ _ _ refl k w refl
+  query-not-3 (ReadMissing e present) b s k w = not-3 true _ _ _ refl k w refl
+  query-not-3 ReadTable b s k w = not-3 true _ _ _ refl k w refl
+  query-not-3 (ReadPaint e) b s k w = not-3 true _ _ _ refl k w refl
+  query-not-3 ListGrey b s k w = not-3 true _ _ _ refl k w refl
+  query-not-3 Save b s k w = not-3 true _ _ _ refl k w refl
+
+  call-not-2 : (c : Call) (b : Beside) (s : State) → configOk cfg ≡ true → firstThatApplies (rulesOf cfg c b s) ≢ 2
   unfolding freshRules reportRules tickRules startRules stopRules clearRules restoreRules requestRules
-  not-2-or-3 Fresh b s k w = past-both _ _ _ k (well-formed-lengths cfg s w) refl refl
-  not-2-or-3 (Report e code frame present) b s k w = past-both _ _ _ k w refl refl
-  not-2-or-3 (Tick ms frame present) b s k w = past-both _ _ _ k w refl refl
-  not-2-or-3 (Start c) b s k w = past-both _ _ _ k w refl refl
-  not-2-or-3 (Stop c) b s k w = past-both _ _ _ k w refl refl
-  not-2-or-3 (Clear code) b s k w = past-both _ _ _ k w refl refl
-  not-2-or-3 (Read q) b s k w = query-not-2-or-3 q b s k w
-  not-2-or-3 (Restore image) b s k w = past-both _ _ _ k (well-formed-lengths cfg s w) refl refl
-  not-2-or-3 (Request bytes) b s k w = past-both _ _ _ k w refl refl
+  call-not-2 Fresh b s k = not-2 _ _ _ k refl
+  call-not-2 (Report e code frame present) b s k = not-2 _ _ _ k refl
+  call-not-2 (Tick ms frame present) b s k = not-2 _ _ _ k refl
+  call-not-2 (Start c) b s k = not-2 _ _ _ k refl
+  call-not-2 (Stop c) b s k = not-2 _ _ _ k refl
+  call-not-2 (Clear code) b s k = not-2 _ _ _ k refl
+  call-not-2 (Read q) b s k = query-not-2 q b s k
+  call-not-2 (Restore image) b s k = not-2 _ _ _ k refl
+  call-not-2 (Request bytes) b s k = not-2 _ _ _ k refl
+
+  call-not-3 : (c : Call) (b : Beside) (s : State) → (takesCounts c ≡ true → countsFit (b .counts) ≡ true)
+      → configOk cfg ≡ true → wellFormed cfg s ≡ true → firstThatApplies (rulesOf cfg c b s) ≢ 3
+  unfolding freshRules reportRules tickRules startRules stopRules clearRules restoreRules requestRules
+  call-not-3 Fresh b s f k w = not-3 _ _ _ _ (f refl) k (well-formed-lengths cfg s w) refl
+  call-not-3 (Report e code frame present) b s f k w = not-3 _ _ _ _ (f refl) k w refl
+  call-not-3 (Tick ms frame present) b s f k w = not-3 _ _ _ _ (f refl) k w refl
+  call-not-3 (Start c) b s f k w = not-3 true _ _ _ refl k w refl
+  call-not-3 (Stop c) b s f k w = not-3 _ _ _ _ (f refl) k w refl
+  call-not-3 (Clear code) b s f k w = not-3 _ _ _ _ (f refl) k w refl
+  call-not-3 (Read q) b s f k w = query-not-3 q b s k w
+  call-not-3 (Restore image) b s f k w = not-3 _ _ _ _ (f refl) k (well-formed-lengths cfg s w) refl
+  call-not-3 (Request bytes) b s f k w = not-3 _ _ _ _ (f refl) k w refl
 
   -- what holds of every state that calls lead to
   record Whole (s : State) (H : Histories) : Type 0 where
@@ -121,9 +149,12 @@ module _ (cfg : Configuration) where
         → storedAt e (s .records) ≡ stored (recordAfter (limitsOf cfg e) (H e))
     record-follows = whole reached .follows .records
 
-    -- no call of a sequence is refused with 2 or 3
-    pub never-refused-with-2-or-3 : (c : Call) (b : Beside)
-        → (outcome cfg c b s .answer ≢ 2) × (outcome cfg c b s .answer ≢ 3)
-    never-refused-with-2-or-3 c b =
-        let n = not-2-or-3 c b s config-accepted well-formed in
-        (λ q. n .0 (sym (answer-is cfg c b s) ∙ q), λ q. n .1 (sym (answer-is cfg c b s) ∙ q))
+    -- no call of a sequence is refused with 2
+    pub never-refused-with-2 : (c : Call) (b : Beside) → outcome cfg c b s .answer ≢ 2
+    never-refused-with-2 c b q = call-not-2 c b s config-accepted (sym (answer-is cfg c b s) ∙ q)
+
+    -- nor with 3, where it takes no counts or is lent five
+    pub never-refused-with-3 : (c : Call) (b : Beside) → (takesCounts c ≡ true → countsFit (b .counts) ≡ true)
+        → outcome cfg c b s .answer ≢ 3
+    never-refused-with-3 c b five q =
+        call-not-3 c b s five config-accepted well-formed (sym (answer-is cfg c b s) ∙ q)

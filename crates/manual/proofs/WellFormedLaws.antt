@@ -1,6 +1,6 @@
 -- What a well-formed state tells, clause by clause, and that these clauses make a state well formed.
 use mathlib.Core.Path.{_≡_, sym, ap, subst, _∙_}
-use mathlib.Core.Bool.{true}
+use mathlib.Core.Bool.{true, false, not, _&&_}
 use mathlib.Core.List.{List, _++_}
 use Prim.Native.Nat.{ℕ, _-_, _*_, _≤_, _<_}
 use native.Mathlib.Nat.{mul-comm, mul-sub, mul-le-mul-left}
@@ -16,7 +16,10 @@ use Rattle.manual.specs.State.{State, recordWidth, recordOf, D}
 use Rattle.manual.specs.Memory.{entryWidth, memoryLength, entryCount, bytesInUse, noTwice}
 use Rattle.manual.specs.WellFormed.{recordOk, DOk, eventOk, entryOk, lengthsFitWith, entriesWith}
 use Rattle.manual.specs.WellFormed.{zeroTailWith, memoryOkWith, wellFormedWith, lengthsFit, wellFormed}
+use Rattle.manual.specs.Answers.{Beside}
+use Rattle.manual.specs.Counts.{countsFit}
 use Rattle.manual.proofs.WordsLaws.{all-below-at, all-below, zeros-are}
+use Rattle.manual.proofs.AnswersLaws.{three-passed}
 
 -- payloads of W bytes
 module _ (cfg : Configuration) (W : ℕ) (s : State) where
@@ -135,3 +138,8 @@ module _ (cfg : Configuration) {W : ℕ} (s : State) where
 pub well-formed-lengths : (cfg : Configuration) (s : State) → wellFormed cfg s ≡ true → lengthsFit cfg s ≡ true
 unfolding wellFormedWith
 well-formed-lengths cfg s w = part _ w 0
+
+-- where refusal 3 does not apply the state is well formed
+pub judged-formed : (cfg : Configuration) (b : Beside) (s : State)
+    → not (countsFit (b .counts) && wellFormed cfg s) ≡ false → wellFormed cfg s ≡ true
+judged-formed cfg b s e = three-passed (countsFit (b .counts)) (wellFormed cfg s) e .1

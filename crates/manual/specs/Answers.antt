@@ -11,7 +11,7 @@ use Rattle.manual.specs.declared.Verdict.the-variants.{None}
 use Rattle.manual.specs.declared.Refusal.{Refusal}
 use Rattle.manual.specs.declared.Refusal.the-variants.{BadArgument, BadConfiguration, BadState, NoSuch}
 use Rattle.manual.specs.declared.Refusal.the-variants.{WrongCycleState, NoPreResult, RoomTooSmall, BadImage}
-use Rattle.manual.specs.declared.Refusal.the-variants.{WrongFrame, NoEntry, MissingCondition}
+use Rattle.manual.specs.declared.Refusal.the-variants.{WrongFrame, NoEntry, MissingCondition, CountsFull}
 use Rattle.manual.specs.declared.Answer.{Answer}
 use Rattle.manual.specs.declared.Answer.the-variants.{Done}
 use Rattle.manual.specs.declared.ReportAnswer.{ReportAnswer}
@@ -33,19 +33,30 @@ use Rattle.manual.specs.declared.LengthAnswer.the-variants.{Written}
 use Rattle.manual.specs.State.{State}
 
 -- What is lent beside the blocks and the board for a call to write: the output room, of bytes or, to list the grey
--- events, of 16-bit numbers. A call that is not lent it leaves it as it is.
+-- events, of 16-bit numbers; and document 02's W7, "five counts, each 32 bits and lent as a slice of five". A call that
+-- is not lent one of them does not look at it and leaves it as it is.
 pub record Beside : Type 0 where
   pub room : List ℕ
+  pub counts : List ℕ
+
+abbrev pub lentBoth : List ℕ → List ℕ → Beside
+lentBoth room counts = record { room = room; counts = counts }
 
 abbrev pub lentRoom : List ℕ → Beside
-lentRoom room = record { room = room }
+lentRoom room = lentBoth room []
+
+abbrev pub lentCounts : List ℕ → Beside
+lentCounts counts = lentBoth [] counts
 
 -- nothing is lent beside the blocks and the board
 abbrev pub alone : Beside
-alone = lentRoom []
+alone = lentBoth [] []
 
 abbrev pub withRoom : List ℕ → Beside → Beside
-withRoom room b = record { room = room }
+withRoom room b = record { room = room; counts = b .counts }
+
+abbrev pub withCounts : List ℕ → Beside → Beside
+withCounts counts b = record { room = b .room; counts = counts }
 
 -- What a call answers and leaves: its number; a report's verdict; the status or length; the frame part; what was lent
 -- beside; the blocks and the board.
@@ -107,6 +118,7 @@ numberOf BadImage = 8
 numberOf WrongFrame = 9
 numberOf NoEntry = 10
 numberOf MissingCondition = 11
+numberOf CountsFull = 12
 
 -- an answer in this paper's numbers
 pub record Answered : Type 0 where

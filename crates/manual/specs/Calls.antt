@@ -19,12 +19,13 @@ use Rattle.manual.specs.Configuration.{Configuration, events, places, fr
 use Rattle.manual.specs.Configuration.{codeOf, cycleOf, isInternal, isTime, configOk}
 use Rattle.manual.specs.State.{State, stored, runs, allStopped, statusByte, D, withD, withOverflow, withCycle}
 use Rattle.manual.specs.WellFormed.{lengthsFit, wellFormed, entries}
-use Rattle.manual.specs.Answers.{Beside, Outcome, done, Rule, _if_, judged}
+use Rattle.manual.specs.Answers.{Beside, withCounts, Outcome, done, Rule, _if_, judged}
 use Rattle.manual.specs.Debouncing.{Debounced, reported, ticked}
 use Rattle.manual.specs.Conditions.{enabled}
 use Rattle.manual.specs.OneEvent.{hasEntry, happens, qualifies, qualifiesDid, stops, clears, forThose}
 use Rattle.manual.specs.Memory.{Entry, firstFrame, latestFrame, memoryLength, entryFor}
-use Rattle.manual.specs.Counts.{Happening, ofStore, logThose, stopsLog, clearsLog}
+use Rattle.manual.specs.Counts.{Happening, ofStore, logThose, stopsLog, clearsLog, carriesPast, withRise}
+use Rattle.manual.specs.Counts.{countsFit, noCounts}
 
 -- the bytes of n fresh records
 unfoldable pub freshRecords : ℕ → List ℕ
@@ -47,7 +48,7 @@ frameOf which F none = []
 
 module _ (cfg : Configuration) where
   -- "Every call begins 2, 3."; "a block has the wrong length": `fits` says whether what is lent beside the state has
-  -- the right one
+  -- the right one; document 02, W7: "A slice of another length is 3."
   abbrev pub begins : State → Bool → List Rule → List Rule
   begins s fits rules = (2 if not (configOk cfg)) ∷ (3 if not (fits && wellFormed cfg s)) ∷ rules
 
@@ -81,25 +82,16 @@ module _ (cfg : Configuration) where
     board = record { running = allStopped; overflow = false };
   }
 
-  unfoldable pub freshRules : State → List Rule
-  freshRules s = beginsWithLengths s true []
+  unfoldable pub freshRules : Beside → State → List Rule
+  freshRules b s = beginsWithLengths s (countsFit (b .counts)) []
 
+  -- W7: "A fresh state zeroes all five."
   unfoldable pub fresh : Beside → State → Outcome
-  fresh b s = judged (freshRules s) b s (done b freshState)
+  fresh b s = judged (freshRules b s) b s (done (withCounts noCounts b) freshState)
 
   -- ---- report: "report 4, 1, 6, 9, 5"; document 02, W5: "A report whose needed conditions aren't all present is
-  -- refused with new number 11, checked last."
-
-  unfoldable pub reportRules : ℕ → ℕ → List ℕ → ℕ → State → List Rule
-  reportRules e code frame present s =
-      begins s true
-      ((4 if noSuchEvent e)
-      ∷ (1 if ltb 3 code)
-      ∷ (6 if (isInternal cfg e && ltb 1 code))
-      ∷ (9 if wrongFrame frame)
-      ∷ (5 if not (cycleRuns (s .board) e))
-      ∷ (11 if not (enabled cfg present e))
-      ∷ [])
+  -- refused with new number 11, checked last."; W7: "A report, tick, stop, clear or clearing diagnostic request whose
+  -- whole rise would carry any count past 4,294,967,295 is refused with new number 12, checked last."
 
   -- the new D, then what the verdict does
   unfoldable pub applied : List ℕ → ℕ → Debounced → State → State
@@ -112,30 +104,39 @@ module _ (cfg : Configuration) where
   abbrev pub debouncedBy : ℕ → ℕ → State → Debounced
   debouncedBy e code s = reported cfg e code (D s e)
 
+  abbrev pub reportDid : ℕ → ℕ → List ℕ → State → StoreAnswer
+  reportDid e code frame s = appliedDid frame e (debouncedBy e code s) s
+
+  -- W7: what becomes of entries in it
+  unfoldable pub reportLog : ℕ → ℕ → List ℕ → State → List Happening
+  reportLog e code frame s = ofStore e (reportDid e code frame s)
+
+  unfoldable pub reportRules : ℕ → ℕ → List ℕ → ℕ → Beside → State → List Rule
+  reportRules e code frame present b s =
+      begins s (countsFit (b .counts))
+      ((4 if noSuchEvent e)
+      ∷ (1 if ltb 3 code)
+      ∷ (6 if (isInternal cfg e && ltb 1 code))
+      ∷ (9 if wrongFrame frame)
+      ∷ (5 if not (cycleRuns (s .board) e))
+      ∷ (11 if not (enabled cfg present e))
+      ∷ (12 if carriesPast (reportLog e code frame s) (b .counts))
+      ∷ [])
+
   abbrev pub reportDone : ℕ → ℕ → List ℕ → Beside → State → Outcome
   reportDone e code frame b s = record {
     answer = 0;
     verdict = debouncedBy e code s .verdict;
     value = 0;
     part = [];
-    beside = b;
+    beside = withRise (reportLog e code frame s) b;
     state = applied frame e (debouncedBy e code s) s;
   }
 
-  abbrev pub reportDid : ℕ → ℕ → List ℕ → State → StoreAnswer
-  reportDid e code frame s = appliedDid frame e (debouncedBy e code s) s
-
-  -- document 02, W7: what becomes of entries in it
-  unfoldable pub reportLog : ℕ → ℕ → List ℕ → State → List Happening
-  reportLog e code frame s = ofStore e (reportDid e code frame s)
-
   unfoldable pub report : ℕ → ℕ → List ℕ → ℕ → Beside → State → Outcome
-  report e code frame present b s = judged (reportRules e code frame present s) b s (reportDone e code frame b s)
+  report e code frame present b s = judged (reportRules e code frame present b s) b s (reportDone e code frame b s)
 
-  -- ---- tick: "tick 1, 9"
-
-  unfoldable pub tickRules : ℕ → List ℕ → State → List Rule
-  tickRules ms frame s = begins s true ((1 if ltb 60000 ms) ∷ (9 if wrongFrame frame) ∷ [])
+  -- ---- tick: "tick 1, 9", and W7's 12
 
   -- "events in rising number, only kind 2 with its cycle running"
   abbrev pub timeRuns : Board → ℕ → Bool
@@ -156,11 +157,21 @@ module _ (cfg : Configuration) where
   tickLog ms frame present s =
       logThose cfg (tickMoves present (s .board)) (ticks ms frame) (λ e u. ofStore e (ticksDid ms frame e u)) s
 
+  unfoldable pub tickRules : ℕ → List ℕ → ℕ → Beside → State → List Rule
+  tickRules ms frame present b s =
+      begins s (countsFit (b .counts))
+      ((1 if ltb 60000 ms)
+      ∷ (9 if wrongFrame frame)
+      ∷ (12 if carriesPast (tickLog ms frame present s) (b .counts))
+      ∷ [])
+
   unfoldable pub tick : ℕ → List ℕ → ℕ → Beside → State → Outcome
   tick ms frame present b s =
-      judged (tickRules ms frame s) b s (done b (forThose cfg (tickMoves present (s .board)) (ticks ms frame) s))
+      judged (tickRules ms frame present b s) b s
+      (done (withRise (tickLog ms frame present s) b)
+      (forThose cfg (tickMoves present (s .board)) (ticks ms frame) s))
 
-  -- ---- start and stop of a cycle: "start and stop 4, 5"
+  -- ---- start and stop of a cycle: "start and stop 4, 5", and of a stop W7's 12
 
   abbrev pub ofCycle : ℕ → ℕ → Bool
   ofCycle c e = eqb (cycleOf cfg e) c
@@ -172,16 +183,20 @@ module _ (cfg : Configuration) where
   startCycle c b s =
       judged (startRules c s) b s (done b (withCycle c true (forThose cfg (ofCycle c) (happens cfg start) s)))
 
-  unfoldable pub stopRules : ℕ → State → List Rule
-  stopRules c s = begins s true ((4 if noSuchCycle c) ∷ (5 if not (runs (s .board) c)) ∷ [])
-
   unfoldable pub stopLog : ℕ → State → List Happening
   stopLog c s = logThose cfg (ofCycle c) (stops cfg) (stopsLog cfg) s
 
-  unfoldable pub stopCycle : ℕ → Beside → State → Outcome
-  stopCycle c b s = judged (stopRules c s) b s (done b (withCycle c false (forThose cfg (ofCycle c) (stops cfg) s)))
+  unfoldable pub stopRules : ℕ → Beside → State → List Rule
+  stopRules c b s =
+      begins s (countsFit (b .counts))
+      ((4 if noSuchCycle c) ∷ (5 if not (runs (s .board) c)) ∷ (12 if carriesPast (stopLog c s) (b .counts)) ∷ [])
 
-  -- ---- clear: "clear 4"
+  unfoldable pub stopCycle : ℕ → Beside → State → Outcome
+  stopCycle c b s =
+      judged (stopRules c b s) b s
+      (done (withRise (stopLog c s) b) (withCycle c false (forThose cfg (ofCycle c) (stops cfg) s)))
+
+  -- ---- clear: "clear 4", and W7's 12
 
   -- "Clear, by one trouble code or FFFFFFh for all"
   abbrev pub covers : ℕ → ℕ → Bool
@@ -201,11 +216,13 @@ module _ (cfg : Configuration) where
   unfoldable pub clearLog : ℕ → State → List Happening
   clearLog code s = logThose cfg (covers code) (clears cfg) (clearsLog cfg) s
 
-  unfoldable pub clearRules : ℕ → State → List Rule
-  clearRules code s = begins s true ((4 if unknownCode code) ∷ [])
+  unfoldable pub clearRules : ℕ → Beside → State → List Rule
+  clearRules code b s =
+      begins s (countsFit (b .counts))
+      ((4 if unknownCode code) ∷ (12 if carriesPast (clearLog code s) (b .counts)) ∷ [])
 
   unfoldable pub clearCode : ℕ → Beside → State → Outcome
-  clearCode code b s = judged (clearRules code s) b s (done b (cleared code s))
+  clearCode code b s = judged (clearRules code b s) b s (done (withRise (clearLog code s) b) (cleared code s))
 
   -- ---- read status: "read status 4"
 

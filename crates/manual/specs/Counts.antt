@@ -15,6 +15,7 @@ use Rattle.manual.specs.Words.{forBelow, countThose}
 use Rattle.manual.specs.Configuration.{Configuration, events, limitsOf}
 use Rattle.manual.specs.State.{State, recordOf}
 use Rattle.manual.specs.Memory.{Entry, eventOf}
+use Rattle.manual.specs.Answers.{Beside, withCounts}
 use Rattle.manual.specs.OneEvent.{hasEntry}
 
 -- ---- what becomes of an event's entry
@@ -69,7 +70,7 @@ unfoldable pub logBelow : {S : Type 0} → ℕ → (ℕ → S → S) → (ℕ �
 logBelow zero f g s = []
 logBelow (suc n) f g s = g n (forBelow n f s) ++ logBelow n f g s
 
--- a log that begins with entries that are there: each was admitted
+-- a log that begins with entries that are there: each was admitted; in the order of the entries, so the oldest first
 abbrev pub presentLog : List Entry → List Happening
 presentLog xs = map (λ x. wasAdmitted (eventOf x)) xs
 
@@ -121,6 +122,10 @@ past counts = anyOf (λ k. ltb mostCount k) counts
 -- "whose whole rise would carry any count past 4,294,967,295"
 abbrev pub carriesPast : List Happening → List ℕ → Bool
 carriesPast log counts = past (raised (riseOf log) counts)
+
+-- the counts that a call leaves which adds its whole rise
+abbrev pub withRise : List Happening → Beside → Beside
+withRise log b = withCounts (raised (riseOf log) (b .counts)) b
 
 -- "lent as a slice of five"
 abbrev pub countsFit : List ℕ → Bool

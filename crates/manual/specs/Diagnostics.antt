@@ -1,5 +1,5 @@
 -- Document 01, "Diagnostic requests", with the sub-functions of document 02, W1 and W4. Assumes nothing.
-use mathlib.Core.Bool.{Bool, true, not, _||_, cond}
+use mathlib.Core.Bool.{Bool, true, not, _&&_, _||_, cond}
 use mathlib.Core.List.{List, [], _∷_, _++_}
 use mathlib.Core.Option.{Option, none, some}
 use Prim.Native.Nat.{ℕ, _%_}
@@ -13,8 +13,9 @@ use Rattle.manual.specs.Configuration.{Configuration, events, codeOf, fi
 use Rattle.manual.specs.State.{State, storedAt, statusByte}
 use Rattle.manual.specs.Memory.{Entry, entryFor}
 use Rattle.manual.specs.WellFormed.{entries}
-use Rattle.manual.specs.Answers.{Beside, withRoom, Outcome, Rule, _if_, judged}
-use Rattle.manual.specs.Calls.{begins, unknownCode, cleared}
+use Rattle.manual.specs.Answers.{Beside, withRoom, withCounts, Outcome, Rule, _if_, judged}
+use Rattle.manual.specs.Counts.{riseOf, raised, carriesPast, countsFit}
+use Rattle.manual.specs.Calls.{begins, unknownCode, cleared, clearLog}
 use Rattle.manual.specs.Counter.{counterIn}
 
 -- three things are called 14: the service that clears, document 02's sub-function of service 19, the negative code
@@ -207,10 +208,28 @@ module _ (cfg : Configuration) where
   abbrev pub replied : ℕ → Beside → Served → Outcome
   replied service b r = sent (replyBytes service (r .reply)) b (r .state)
 
-  -- "diagnostic request 7, 1": "The reply room must hold 3 bytes (else 7).", "1 | empty diagnostic request"
+  -- service 14 with a trouble code that some event has, or with the one for all
+  abbrev pub asksClear : List ℕ → Bool
+  asksClear request =
+      eqb (getD request 0 0) 0x14 && eqb (length request) 4 && not (unknownCode cfg (threeAt 1 request))
+
+  -- document 02, W7: the counts that a "clearing diagnostic request" leaves, which are those of the clear; any other
+  -- leaves them
+  unfoldable pub countsAfter : List ℕ → Beside → State → List ℕ
+  countsAfter request b s =
+      cond (asksClear request) (raised (riseOf (clearLog cfg (threeAt 1 request) s)) (b .counts)) (b .counts)
+
+  -- "diagnostic request 7, 1": "The reply room must hold 3 bytes (else 7).", "1 | empty diagnostic request"; of a
+  -- "clearing diagnostic request" W7's 12
   unfoldable pub requestRules : List ℕ → Beside → State → List Rule
-  requestRules request b s = begins cfg s true ((7 if ltb (length (b .room)) 3) ∷ (1 if eqb (length request) 0) ∷ [])
+  requestRules request b s =
+      begins cfg s (countsFit (b .counts))
+      ((7 if ltb (length (b .room)) 3)
+      ∷ (1 if eqb (length request) 0)
+      ∷ (12 if (asksClear request && carriesPast (clearLog cfg (threeAt 1 request) s) (b .counts)))
+      ∷ [])
 
   unfoldable pub requestReply : List ℕ → Beside → State → Outcome
   requestReply request b s =
-      judged (requestRules request b s) b s (replied (getD request 0 0) b (servedBy request (length (b .room)) s))
+      judged (requestRules request b s) b s
+      (replied (getD request 0 0) (withCounts (countsAfter request b s) b) (servedBy request (length (b .room)) s))

@@ -17,8 +17,8 @@ use Rattle.manual.specs.Answers.{Beside}
 use Rattle.manual.specs.OneEvent.{happens, isQuiet}
 use Rattle.manual.specs.Displacement.{TakenOut}
 use Rattle.manual.specs.Calls.{report, tickMoves, ticks, tick, ofCycle, stopCycle, covers, clearCode}
-use Rattle.manual.specs.Diagnostics.{requestReply}
-use Rattle.manual.specs.Sequences.{Call, Report, Tick, Stop, Clear, Request, asksClear}
+use Rattle.manual.specs.Diagnostics.{asksClear, requestReply}
+use Rattle.manual.specs.Sequences.{Call, Report, Tick, Stop, Clear, Request}
 
 -- "count up by one, at most 255; frame replaced"; document 02, W6: "A repeat replaces only the latest."
 abbrev pub renewedEntry : List ℕ → Entry → Entry

@@ -13,9 +13,10 @@ use Rattle.manual.specs.Words.{two, equal}
 use Rattle.manual.specs.Configuration.{Configuration, events, places, frameBytes, entryFrames}
 use Rattle.manual.specs.State.{State, allStopped, recordWidth}
 use Rattle.manual.specs.Memory.{Entry, payloadOf, entryWidth, entryCount, bytesInUse}
-use Rattle.manual.specs.WellFormed.{entriesWith, wellFormedWith}
+use Rattle.manual.specs.WellFormed.{entriesWith, entries, wellFormedWith}
 use Rattle.manual.specs.OneEvent.{withEntries}
-use Rattle.manual.specs.Answers.{Beside, withRoom, Outcome, done, Rule, _if_, judged}
+use Rattle.manual.specs.Answers.{Beside, withRoom, withCounts, Outcome, done, Rule, _if_, judged}
+use Rattle.manual.specs.Counts.{countsFit, presentCounts}
 use Rattle.manual.specs.Calls.{begins, beginsWithLengths}
 
 -- "Byte 0 = 3 bodies, byte 1 = edition 1, then three rows of 6"
@@ -162,9 +163,13 @@ module _ (cfg : Configuration) where
 
   -- ---- restore: "restore 8"
 
-  unfoldable pub restoreRules : List ℕ → State → List Rule
-  restoreRules image s = beginsWithLengths cfg s true ((8 if not (acceptable image)) ∷ [])
+  unfoldable pub restoreRules : List ℕ → Beside → State → List Rule
+  restoreRules image b s = beginsWithLengths cfg s (countsFit (b .counts)) ((8 if not (acceptable image)) ∷ [])
+
+  -- document 02, W7: "A restore sets admitted to the entries present and the rest to 0"
+  abbrev pub restoredTo : State → Beside → Outcome
+  restoredTo s b = done (withCounts (presentCounts (entries cfg s)) b) s
 
   -- "and makes that state"
   unfoldable pub restore : List ℕ → Beside → State → Outcome
-  restore image b s = judged (restoreRules image s) b s (done b (stateOf image))
+  restore image b s = judged (restoreRules image b s) b s (restoredTo (stateOf image) b)

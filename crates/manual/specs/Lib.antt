@@ -18,4 +18,5 @@ pub mod Untested
 pub mod Image
 pub mod Sequences
 pub mod EntriesInACall
+pub mod Tallies
 pub mod MarkedExamples

@@ -13,8 +13,13 @@ use Rattle.manual.specs.Memory.{memoryLength}
 use Rattle.manual.specs.Debouncing.{ticked}
 use Rattle.manual.specs.Conditions.{allPresent}
 use Rattle.manual.specs.Calls.{report, tickMoves}
-use Rattle.manual.specs.Answers.{alone}
+use Rattle.manual.specs.Answers.{Beside, lentCounts}
+use Rattle.manual.specs.Counts.{noCounts}
 use Rattle.manual.specs.Sequences.{Call, Fresh, Report, Tick, Start, Stop, Clear, Read, Restore, Request, outcome}
+
+-- no room is lent to these calls, and the five counts of document 02's W7 at 0
+abbrev pub zeroed : Beside
+zeroed = lentCounts noCounts
 
 -- what is seen after a call of event 0, the only one: the call's answer and verdict, status, D, g, and the memory of
 -- one place with no frame
@@ -44,7 +49,7 @@ pub record Story : Type 0 where
 -- so what is seen of it is the verdict that debouncing gives
 abbrev pub verdictOf : Configuration → Call → State → Verdict
 verdictOf cfg Fresh s = None
-verdictOf cfg (Report k code frame present) s = report cfg k code frame present alone s .verdict
+verdictOf cfg (Report k code frame present) s = report cfg k code frame present zeroed s .verdict
 verdictOf cfg (Tick ms frame present) s =
     cond (tickMoves cfg present (s .board) 0) (ticked cfg 0 ms (D s 0) .verdict) None
 verdictOf cfg (Start c) s = None
@@ -72,7 +77,7 @@ pub record After : Type 0 where
 module _ (cfg : Configuration) where
   abbrev pub afterCall : Call → State → After
   afterCall c s =
-      let o = outcome cfg c alone s in
+      let o = outcome cfg c zeroed s in
       record { state = o .state; seen = see (o .answer) (verdictOf cfg c s) (o .state) }
 
   abbrev pub afterCalls : List Call → After → After

@@ -19,7 +19,8 @@ use Rattle.manual.specs.State.{State, storedAt, statusByte}
 use Rattle.manual.specs.Memory.{Entry, firstFrame, latestFrame, entryFor}
 use Rattle.manual.specs.WellFormed.{entries, wellFormed}
 use Rattle.manual.specs.Answers.{Beside, withRoom, Outcome}
-use Rattle.manual.specs.Calls.{unknownCode, cleared}
+use Rattle.manual.specs.Counts.{carriesPast, withRise, countsFit}
+use Rattle.manual.specs.Calls.{unknownCode, cleared, clearLog}
 use Rattle.manual.specs.Counter.{counterIn}
 
 -- ---- the sentences
@@ -153,14 +154,34 @@ module _ (cfg : Configuration) (request : List ℕ) (s : State) where
   abbrev pub Suppressed : Type 0
   Suppressed = (bytes : List ℕ) × Due bytes × (128 ≤ secondByte)
 
-  -- what is lent beside the state: the room for its reply
+  -- "14: length must be 4 (else 13); …; unknown: code 31; else clear"
+  abbrev pub Clearing : Type 0
+  Clearing = (service ≡ 0x14) × (length request ≡ 4) × (unknownCode cfg troubleCode ≡ false)
+
+  -- the outcome of a request that is sent these bytes, with this lent beside the state, and leaves this state: "Bytes
+  -- past the reply stay.", "the answer is 0"
+  abbrev pub sends : Beside → List ℕ → State → Outcome
+  sends b bytes after = record {
+    answer = 0;
+    verdict = None;
+    value = length bytes;
+    part = [];
+    beside = withRoom (bytes ++ drop (length bytes) (b .room)) b;
+    state = after;
+  }
+
+  -- what is lent beside the state: the room for its reply, and the counts
   module _ (b : Beside) where
-    -- "Every call begins 2, 3.", "The reply room must hold 3 bytes (else 7).", "1 | empty diagnostic request"
+    -- "Every call begins 2, 3.", "The reply room must hold 3 bytes (else 7).", "1 | empty diagnostic request"; document
+    -- 02, W7: "A slice of another length is 3.", and 12 of a "clearing diagnostic request whose whole rise would carry
+    -- any count past 4,294,967,295"
     pub record Accepted : Type 0 where
       pub configuration : configOk cfg ≡ true
+      pub five-counts : countsFit (b .counts) ≡ true
       pub formed : wellFormed cfg s ≡ true
       pub room-least : 3 ≤ length (b .room)
       pub not-empty : length request ≢ 0
+      pub not-past : Clearing → carriesPast (clearLog cfg troubleCode s) (b .counts) ≡ false
 
     -- the negative codes
     pub data Negative : ℕ → Type 0 where
@@ -183,32 +204,20 @@ module _ (cfg : Configuration) (request : List ℕ) (s : State) where
       -- "unknown: code 31"
       unknown : service ≡ 0x14 → length request ≡ 4 → unknownCode cfg troubleCode ≡ true → Negative 0x31
 
-    -- the outcome of a request that is sent these bytes and leaves this state: "Bytes past the reply stay.", "the
-    -- answer is 0"
-    abbrev pub sends : List ℕ → State → Outcome
-    sends bytes after = record {
-      answer = 0;
-      verdict = None;
-      value = length bytes;
-      part = [];
-      beside = withRoom (bytes ++ drop (length bytes) (b .room)) b;
-      state = after;
-    }
-
     -- "Negative reply: 7F, request's first byte, code; state stays"
     abbrev pub refusedWith : ℕ → Outcome
-    refusedWith code = sends (0x7F ∷ service ∷ code ∷ []) s
+    refusedWith code = sends b (0x7F ∷ service ∷ code ∷ []) s
 
     pub data Replies : Outcome → Type 0 where
       negative : (code : ℕ) → Negative code → Replies (refusedWith code)
       -- "With the top bit set a positive reply has length 0 and the room stays untouched."
-      suppressed : Suppressed → Replies (sends [] s)
+      suppressed : Suppressed → Replies (sends b [] s)
       -- "01 mask: …", "02 mask: …", "0A: …", "`59 14`, then …", "`59 04`, code, status, …", "`59 06`, code, status, …"
       positive : (bytes : List ℕ) → Due bytes → secondByte < 128 → length bytes ≤ length (b .room)
-          → Replies (sends bytes s)
-      -- "else clear and `54`"
+          → Replies (sends b bytes s)
+      -- "else clear and `54`"; the counts rise as by the clear
       clears : service ≡ 0x14 → length request ≡ 4 → unknownCode cfg troubleCode ≡ false
-          → Replies (sends (0x54 ∷ []) (cleared cfg troubleCode s))
+          → Replies (sends (withRise (clearLog cfg troubleCode s) b) (0x54 ∷ []) (cleared cfg troubleCode s))
 
 -- ---- words to read replies with, for the theorems that lay one beside another
 

@@ -3,7 +3,7 @@ use mathlib.Core.Path.{_≡_}
 use mathlib.Core.Bool.{Bool, true, false, not, _&&_, cond}
 use mathlib.Core.List.{List, [], _∷_, _++_}
 use Prim.Native.Nat.{ℕ}
-use lib.ListN.{length, getD, take}
+use lib.ListN.{take}
 use lib.IntN.{ℤ}
 use lib.Dec.{eqb}
 use Rattle.history.specs.History.{Token, passed, failed, start, stop, clear, History}
@@ -18,14 +18,14 @@ use Rattle.manual.specs.Answers.{Beside, Outcome, Rule}
 use Rattle.manual.specs.Debouncing.{reported, ticked}
 use Rattle.manual.specs.Calls.{freshRules, reportRules, tickRules, startRules, stopRules, clearRules}
 use Rattle.manual.specs.Calls.{readStatusRules, readFrameRules, fresh, report, tick, startCycle, stopCycle}
-use Rattle.manual.specs.Calls.{clearCode, readStatus, readFrame, tickMoves, ofCycle, covers, unknownCode}
+use Rattle.manual.specs.Calls.{clearCode, readStatus, readFrame, tickMoves, ofCycle, covers}
 use Rattle.manual.specs.Calls.{reportLog, tickLog, stopLog, clearLog}
 use Rattle.manual.specs.Counts.{Happening}
 use Rattle.manual.specs.Counter.{readCounterRules, readCounter}
 use Rattle.manual.specs.Missing.{readMissingRules, readMissing}
 use Rattle.manual.specs.Untested.{readTableRules, readPaintRules, listGreyRules, readTable, readPaint, listGrey}
 use Rattle.manual.specs.Image.{saveRules, restoreRules, save, restore}
-use Rattle.manual.specs.Diagnostics.{requestRules, requestReply}
+use Rattle.manual.specs.Diagnostics.{asksClear, requestRules, requestReply}
 
 -- the calls that only read the blocks and the board, with any arguments whatever
 pub data Query : Type 0 where
@@ -102,19 +102,15 @@ module _ (cfg : Configuration) where
   queryRules Save b s = saveRules cfg b s
 
   abbrev pub rulesOf : Call → Beside → State → List Rule
-  rulesOf Fresh b s = freshRules cfg s
-  rulesOf (Report k code frame present) b s = reportRules cfg k code frame present s
-  rulesOf (Tick ms frame present) b s = tickRules cfg ms frame s
+  rulesOf Fresh b s = freshRules cfg b s
+  rulesOf (Report k code frame present) b s = reportRules cfg k code frame present b s
+  rulesOf (Tick ms frame present) b s = tickRules cfg ms frame present b s
   rulesOf (Start c) b s = startRules cfg c s
-  rulesOf (Stop c) b s = stopRules cfg c s
-  rulesOf (Clear code) b s = clearRules cfg code s
+  rulesOf (Stop c) b s = stopRules cfg c b s
+  rulesOf (Clear code) b s = clearRules cfg code b s
   rulesOf (Read q) b s = queryRules q b s
-  rulesOf (Restore image) b s = restoreRules cfg image s
+  rulesOf (Restore image) b s = restoreRules cfg image b s
   rulesOf (Request bytes) b s = requestRules cfg bytes b s
-
-  -- service 14 with a trouble code that some event has, or with the one for all
-  abbrev pub asksClear : List ℕ → Bool
-  asksClear bytes = eqb (getD bytes 0 0) 0x14 && eqb (length bytes) 4 && not (unknownCode cfg (threeAt 1 bytes))
 
   -- what an accepted call gives event e, by the board b and the event's own debounce number d: no status, K, h or g is
   -- looked at. Document 02, W5: "a tick counts for an event only while its conditions hold"
@@ -127,7 +123,7 @@ module _ (cfg : Configuration) where
   gives (Clear code) b e d = onlyIf (covers cfg code e) (clear ∷ [])
   gives (Read q) b e d = []
   gives (Restore image) b e d = []
-  gives (Request bytes) b e d = onlyIf (asksClear bytes && covers cfg (threeAt 1 bytes) e) (clear ∷ [])
+  gives (Request bytes) b e d = onlyIf (asksClear cfg bytes && covers cfg (threeAt 1 bytes) e) (clear ∷ [])
 
   -- "Refused calls and other events' reports count for nothing."
   unfoldable pub tokens : ℕ → Call → Board → ℕ → ℤ → List Token
@@ -148,7 +144,7 @@ module _ (cfg : Configuration) where
   logOf (Clear code) s = clearLog cfg code s
   logOf (Read q) s = []
   logOf (Restore image) s = []
-  logOf (Request bytes) s = cond (asksClear bytes) (clearLog cfg (threeAt 1 bytes) s) []
+  logOf (Request bytes) s = cond (asksClear cfg bytes) (clearLog cfg (threeAt 1 bytes) s) []
 
   -- what becomes of them in a call on state s, with this lent beside it: nothing in a refused one
   abbrev pub logAt : Call → Beside → State → List Happening

@@ -76,7 +76,7 @@ pub struct Rise {
     pub not_stored: u32,
 }
 
-// Why a call was refused: document 01's numbers 1 to 10 and document 02's 11, in their order.
+// Why a call was refused: document 01's numbers 1 to 10 and document 02's 11 and 12, in their order.
 pub enum Refusal {
     BadArgument,
     BadConfiguration,
@@ -89,6 +89,7 @@ pub enum Refusal {
     WrongFrame,
     NoEntry,
     MissingCondition,
+    CountsFull,
 }
 
 // The answer of fresh, tick, start, stop, clear and restore.

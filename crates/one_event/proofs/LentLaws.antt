@@ -20,6 +20,7 @@ use Rattle.manual.specs.Memory.{entriesOf, memoryOf, without, isLost}
 use Rattle.manual.specs.OneEvent.{happens, entryLeaves, keeps, storedFor, memoryTold, fails, failsDid, stops, clears}
 use Rattle.manual.specs.Debouncing.{Debounced, reported}
 use Rattle.manual.specs.Calls.{applied, appliedDid}
+use Rattle.manual.specs.Counts.{raised}
 use Rattle.manual.proofs.ConfigurationLaws.{config-tells}
 use Rattle.manual.proofs.OneEventLaws.{applied-running}
 use Rattle.config.specs.declared.Limits.{Limits}
@@ -260,6 +261,7 @@ module _ (cfg : Configuration) (e : ℕ) (s : State) where
 
     pub reports-is : (code : ℕ) → x ≡ reportedBy row code n
         → stepped (accepts (x .verdict) t) did ≡ reporting cfg frame e code s
+    unfolding raised
     reports-is code q =
         let is : x ≡ reported cfg e code (D s e) =
         q ∙ ap (reportedBy row code) p ∙ reported-is cfg e row o code (D s e) in

@@ -10,7 +10,6 @@ use Rattle.manual.specs.declared.Board.{Board}
 use Rattle.manual.specs.Configuration.{Configuration, configOk}
 use Rattle.manual.specs.State.{State, lent}
 use Rattle.manual.specs.WellFormed.{lengthsFit}
-use Rattle.manual.specs.Answers.{alone}
 use Rattle.manual.specs.Calls.{freshState}
 use Rattle.manual.specs.Sequences.{outcome}
 use Rattle.transcript.specs.declared.Cursor.{Cursor}
@@ -18,7 +17,7 @@ use Rattle.replay_step.specs.declared.Call.{Call}
 use Rattle.replay_step.specs.declared.Asked.{Asked}
 use Rattle.replay_step.specs.declared.Asked.the-variants.{Makes, Nothing}
 use Rattle.replay_step.specs.Asked.{askedAt}
-use Rattle.replay_step.specs.Turn.{Made, madeBy, callIs, zeroFrame}
+use Rattle.replay_step.specs.Turn.{lentEach, Made, madeBy, callIs, zeroFrame}
 use Rattle.page_story.specs.declared.Played.{Played}
 
 -- how far the log is played: the state; the place behind the last call, and whether a further call may follow; how many
@@ -64,7 +63,7 @@ ended p s bad =
 
 -- a call of the log is made as the replay program makes it
 abbrev pub makes : Configuration → Call → State → Made
-makes cfg call s = madeBy (outcome cfg (callIs (zeroFrame cfg) call) alone s)
+makes cfg call s = madeBy (outcome cfg (callIs (zeroFrame cfg) call) lentEach s)
 
 module _ (cfg : Configuration) (log : List ℕ) where
   -- "unreadable calls: a page that says so"

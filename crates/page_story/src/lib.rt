@@ -153,7 +153,8 @@ fn play(
 {
     let mut line = [0; 2052];
     let stopped = fresh_state::stopped_board(false);
-    let fresh = fresh_state::fresh(cfg, records, debounce, memory, stopped);
+    let mut counts = [0; manual::COUNTS];
+    let fresh = fresh_state::fresh(cfg, records, debounce, memory, stopped, &mut counts);
     let board = fresh.board;
     turns(cfg, records, debounce, memory, board, text, from, &mut line)
 }

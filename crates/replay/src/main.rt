@@ -116,12 +116,14 @@ fn story(
     let records = &mut records[..4 * n];
     let debounce = &mut debounce[..n];
     let memory = &mut memory[..used];
+    let mut counts = [0; manual::COUNTS];
     let fresh = fresh_state::fresh(
         cfg,
         records,
         debounce,
         memory,
         fresh_state::stopped_board(false),
+        &mut counts,
     );
     let board = fresh.board;
     turns(

@@ -188,7 +188,8 @@ fn story(
     let debounce = &mut debounce[..n];
     let memory = &mut memory[..used];
     let stopped = fresh_state::stopped_board(false);
-    let fresh = fresh_state::fresh(cfg, records, debounce, memory, stopped);
+    let mut counts = [0; manual::COUNTS];
+    let fresh = fresh_state::fresh(cfg, records, debounce, memory, stopped, &mut counts);
     let board = fresh.board;
     turns(
         cfg,

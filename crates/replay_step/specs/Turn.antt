@@ -8,7 +8,8 @@ use lib.ListN.{length, replicate}
 use Rattle.manual.specs.Configuration.{Configuration, mostEvents, events, frameBytes, configOk}
 use Rattle.manual.specs.State.{State, recordWidth}
 use Rattle.manual.specs.Memory.{mostMemory}
-use Rattle.manual.specs.Answers.{alone, Outcome}
+use Rattle.manual.specs.Answers.{Beside, lentCounts, Outcome}
+use Rattle.manual.specs.Counts.{noCounts}
 use Rattle.manual.specs.Conditions.{allPresent}
 use Rattle.manual.specs.Sequences as sequences
 use Rattle.manual.specs.Sequences.{outcome}
@@ -31,6 +32,10 @@ callIs frame (Start cycle) = sequences.Start cycle
 callIs frame (Stop cycle) = sequences.Stop cycle
 callIs frame (Tick ms) = sequences.Tick ms frame allPresent
 callIs frame (Clear code) = sequences.Clear code
+
+-- document 02, W7: the five counts that are lent to each call are 0; none is printed
+abbrev pub lentEach : Beside
+lentEach = lentCounts noCounts
 
 -- a call's number, and the state that it leaves
 pub record Made : Type 0 where
@@ -69,7 +74,7 @@ module _ (cfg : Configuration) where
 
   -- "At anything else unreadable, incomplete, or an argument with a minus: that line and stop."
   abbrev pub turnBy : List ℕ → State → Asked → Turned
-  turnBy buffer s (Makes call next) = lined next buffer (madeBy (outcome cfg (callIs zeroFrame call) alone s))
+  turnBy buffer s (Makes call next) = lined next buffer (madeBy (outcome cfg (callIs zeroFrame call) lentEach s))
   turnBy buffer s Nothing = turned End buffer s
   turnBy buffer s Asked.Unreadable = turned BadInput buffer s
 

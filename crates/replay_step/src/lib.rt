@@ -12,7 +12,9 @@ ghost use lib.ListN.{length, take};
 ghost use Rattle.manual.specs.Words.{between, natOf};
 ghost use Rattle.manual.specs.Configuration.{mostNumbers};
 ghost use Rattle.manual.specs.State.{lent};
-ghost use Rattle.manual.specs.Answers.{alone, ofAnswer, ofReport};
+ghost use Rattle.manual.specs.Answers.{lentCounts, ofAnswer, ofReport};
+ghost use Rattle.manual.specs.Conditions.{allPresent};
+ghost use Rattle.manual.specs.Calls.{report, tick};
 ghost use Rattle.manual.specs.Sequences.{outcome};
 ghost use Rattle.transcript.specs.Text.{nextRead};
 ghost use Rattle.replay_step.specs.Asked.{argumentOf, argumentAt, reportAsked, callAsked, callWith, askedAt};
@@ -289,7 +291,69 @@ fn made_of_report(r: ReportReturned) -> Made
     }
 }
 
-// Makes the call on the manager.
+// A report, while all conditions are present.
+fn make_report(
+    cfg: &[i32],
+    records: &mut [u8],
+    debounce: &mut [i32],
+    memory: &mut [u8],
+    board: Board,
+    event: EventNumber,
+    code: u32,
+    frame: &[u8],
+    counts: &mut [u32],
+) -> Made
+    ensures { λ r. ⌜
+        made (r .answer) (lent (now (records .exit)) (now (debounce .exit)) (now (memory .exit)) (r .board))
+        ≡ madeBy (report (now (cfg .entry)) (event .0) code (now (frame .entry)) allPresent
+        (lentCounts (now (counts .entry)))
+        (lent (now (records .entry)) (now (debounce .entry)) (now (memory .entry)) board)) ⌝ }
+{
+    made_of_report(reporting::report(
+        cfg,
+        records,
+        debounce,
+        memory,
+        board,
+        event,
+        code,
+        frame,
+        manual::ALL_PRESENT,
+        counts,
+    ))
+}
+
+// A tick, likewise.
+fn make_tick(
+    cfg: &[i32],
+    records: &mut [u8],
+    debounce: &mut [i32],
+    memory: &mut [u8],
+    board: Board,
+    ms: u32,
+    frame: &[u8],
+    counts: &mut [u32],
+) -> Made
+    ensures { λ r. ⌜
+        made (r .answer) (lent (now (records .exit)) (now (debounce .exit)) (now (memory .exit)) (r .board))
+        ≡ madeBy (tick (now (cfg .entry)) ms (now (frame .entry)) allPresent (lentCounts (now (counts .entry)))
+        (lent (now (records .entry)) (now (debounce .entry)) (now (memory .entry)) board)) ⌝ }
+{
+    let all = manual::ALL_PRESENT;
+    made_of(reporting::tick(
+        cfg,
+        records,
+        debounce,
+        memory,
+        board,
+        ms,
+        frame,
+        all,
+        counts,
+    ))
+}
+
+// The call on the manager, with this frame and these counts.
 fn make(
     cfg: &[i32],
     records: &mut [u8],
@@ -298,35 +362,38 @@ fn make(
     board: Board,
     call: Call,
     frame: &[u8],
+    counts: &mut [u32],
 ) -> Made
     ensures { λ r. ⌜
         made (r .answer) (lent (now (records .exit)) (now (debounce .exit)) (now (memory .exit)) (r .board))
-        ≡ madeBy (outcome (now (cfg .entry)) (callIs (now (frame .entry)) call) alone
+        ≡ madeBy (outcome (now (cfg .entry)) (callIs (now (frame .entry)) call) (lentCounts (now (counts .entry)))
         (lent (now (records .entry)) (now (debounce .entry)) (now (memory .entry)) board)) ⌝ }
 {
     match call {
-        Call::Report(event, code) => made_of_report(reporting::report(
-            cfg,
-            records,
-            debounce,
-            memory,
-            board,
-            event,
-            code,
-            frame,
-            manual::ALL_PRESENT,
-        )),
-        Call::Start(cycle) => made_of(cycles::start(cfg, records, debounce, memory, board, cycle)),
-        Call::Stop(cycle) => made_of(cycles::stop(cfg, records, debounce, memory, board, cycle)),
-        Call::Tick(ms) => {
-            let all = manual::ALL_PRESENT;
-            made_of(reporting::tick(cfg, records, debounce, memory, board, ms, frame, all))
+        Call::Report(event, code) => {
+            make_report(
+                cfg,
+                records,
+                debounce,
+                memory,
+                board,
+                event,
+                code,
+                frame,
+                counts,
+            )
         }
-        Call::Clear(code) => made_of(clearing::clear(cfg, records, debounce, memory, board, code)),
+        Call::Start(cycle) => made_of(cycles::start(cfg, records, debounce, memory, board, cycle)),
+        Call::Stop(c) => made_of(cycles::stop(cfg, records, debounce, memory, board, c, counts)),
+        Call::Tick(ms) => make_tick(cfg, records, debounce, memory, board, ms, frame, counts),
+        Call::Clear(code) => {
+            let done = clearing::clear(cfg, records, debounce, memory, board, code, counts);
+            made_of(done)
+        }
     }
 }
 
-// Makes the call with a frame of zeros, and fills its line.
+// Makes the call with a frame of zeros and counts of 0, and fills its line.
 fn play(
     cfg: &[i32],
     records: &mut [u8],
@@ -348,7 +415,17 @@ fn play(
 {
     let zeros = [0; manual::MOST_FRAME];
     let frame = &zeros[..config::frame_bytes(cfg)];
-    let made = make(cfg, records, debounce, memory, board, call, frame);
+    let mut counts = [0; manual::COUNTS];
+    let made = make(
+        cfg,
+        records,
+        debounce,
+        memory,
+        board,
+        call,
+        frame,
+        &mut counts,
+    );
     let answer = made.answer;
     let after = made.board;
     let length = transcript::fill_line(buffer, answer, records, config::events(cfg));

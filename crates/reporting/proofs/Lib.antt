@@ -1,3 +1,4 @@
+pub mod CountedLaws
 pub mod ReportLaws
 pub mod TickLaws
 pub mod OneOutcomeOnly

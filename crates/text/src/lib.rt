@@ -204,6 +204,36 @@ pub fn same_numbers(line: &[u8], at: usize, numbers: &[i32]) -> bool {
     !is_number(line, from)
 }
 
+// The same of numbers of 32 bits without a sign.
+pub fn read_wide(line: &[u8], at: usize, separator: u8, numbers: &mut [u32]) -> usize
+    ensures { λ r. ⌜ (r ≤ length (now (numbers .exit))) × (r ≡ length (take r (now (numbers .exit)))) ⌝ }
+{
+    let mut from = at;
+    for place in 0..numbers.len() {
+        if !is_number(line, from) {
+            return place;
+        }
+        numbers[place] = decimal_32(line, from);
+        from = next_number(line, from, separator);
+    }
+    numbers.len()
+}
+
+// The same of them.
+pub fn same_wide(line: &[u8], at: usize, numbers: &[u32]) -> bool {
+    let mut from = at;
+    for i in 0..numbers.len() {
+        if !is_number(line, from) {
+            return false;
+        }
+        if decimal_32(line, from) != numbers[i] {
+            return false;
+        }
+        from = next_number(line, from, b',');
+    }
+    !is_number(line, from)
+}
+
 fn wide(count: u16) -> u64 {
     count as u64
 }
@@ -310,4 +340,11 @@ pub fn most_counts(n: usize, counts: &[u16]) -> usize
     ensures { λ r. ⌜ (r ≤ length (now (counts .entry))) × (r ≡ length (take r (now (counts .entry)))) ⌝ }
 {
     if n < counts.len() { n } else { counts.len() }
+}
+
+// The same of numbers of 32 bits without a sign.
+pub fn most_wide(n: usize, numbers: &[u32]) -> usize
+    ensures { λ r. ⌜ (r ≤ length (now (numbers .entry))) × (r ≡ length (take r (now (numbers .entry)))) ⌝ }
+{
+    if n < numbers.len() { n } else { numbers.len() }
 }

@@ -4,7 +4,7 @@
 use crate::call::{Call, Outcome};
 use crate::compare::as_bytes;
 use crate::door::{Answer, Asked, Lengths, Program, Way};
-use crate::reference::{Board, Configuration, State, ALL_PRESENT, DONE, FAILED};
+use crate::reference::{Board, Configuration, State, ALL_PRESENT, COUNTS, DONE, FAILED};
 use std::hint::black_box;
 use std::io::{self, BufReader, Write};
 use std::process::{Child, Command, Stdio};
@@ -118,6 +118,7 @@ fn state(config: &Configuration, running: bool) -> State {
         records: Vec::new(),
         debounce: vec![0; config.events],
         memory: vec![0; config.memory()],
+        counts: vec![0; COUNTS],
         board: Board {
             running: [running, false, false, false],
             overflow: false,
@@ -174,6 +175,7 @@ impl Door {
             records: asked.state.records.len(),
             debounce: asked.state.debounce.len(),
             memory: asked.state.memory.len(),
+            counts: asked.state.counts.len(),
             input: asked.call.input().len(),
             room: asked.room.len(),
         };

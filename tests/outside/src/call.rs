@@ -93,16 +93,16 @@ pub struct Outcome {
 /// The sixteen calls, and the numbers each can answer with.
 pub const ANSWERS: [(&str, &[u8]); 16] = [
     ("fresh", &[0, 2, 3]),
-    ("report", &[0, 2, 3, 4, 1, 6, 9, 5, 11]),
-    ("tick", &[0, 2, 3, 1, 9]),
+    ("report", &[0, 2, 3, 4, 1, 6, 9, 5, 11, 12]),
+    ("tick", &[0, 2, 3, 1, 9, 12]),
     ("start", &[0, 2, 3, 4, 5]),
-    ("stop", &[0, 2, 3, 4, 5]),
-    ("clear", &[0, 2, 3, 4]),
+    ("stop", &[0, 2, 3, 4, 5, 12]),
+    ("clear", &[0, 2, 3, 4, 12]),
     ("read status", &[0, 2, 3, 4]),
     ("read frame", &[0, 2, 3, 4, 10]),
     ("save", &[0, 2, 3, 5, 7]),
     ("restore", &[0, 2, 3, 8]),
-    ("request", &[0, 2, 3, 7, 1]),
+    ("request", &[0, 2, 3, 7, 1, 12]),
     ("read counter", &[0, 2, 3, 4]),
     ("read table", &[0, 2, 3]),
     ("read paint", &[0, 2, 3, 4]),
@@ -137,7 +137,7 @@ impl Call {
     pub fn room(&self) -> usize {
         match self {
             Call::Save { room } | Call::Request { room, .. } => *room,
-            Call::ReadTable => 2 * reference::COUNTS,
+            Call::ReadTable => 2 * reference::TABLE,
             Call::ListGrey { numbers } => 2 * numbers,
             _ => 0,
         }
@@ -280,8 +280,8 @@ fn counter(answered: Result<i8, u8>) -> Outcome {
 }
 
 /// "any status, count or length it answers is 0"
-fn table(answered: Result<[u16; reference::COUNTS], u8>, room: &mut [u8]) -> Outcome {
-    put_numbers(room, &answered.unwrap_or([0; reference::COUNTS]));
+fn table(answered: Result<[u16; reference::TABLE], u8>, room: &mut [u8]) -> Outcome {
+    put_numbers(room, &answered.unwrap_or([0; reference::TABLE]));
     outcome(answered, Values::Nothing, |_| Values::Nothing)
 }
 

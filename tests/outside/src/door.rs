@@ -107,6 +107,7 @@ impl Asked<'_> {
             self.state.records.len(),
             4 * self.state.debounce.len(),
             self.state.memory.len(),
+            4 * self.state.counts.len(),
             input.len(),
             self.room.len(),
         ];
@@ -122,6 +123,8 @@ impl Asked<'_> {
         let debounce = self.state.debounce.iter();
         to.extend(debounce.flat_map(|number| number.to_le_bytes()));
         to.extend(&self.state.memory);
+        let counts = self.state.counts.iter();
+        to.extend(counts.flat_map(|count| count.to_le_bytes()));
         to.extend(input);
         to.extend(self.room);
     }
@@ -133,6 +136,7 @@ pub struct Lengths {
     pub records: usize,
     pub debounce: usize,
     pub memory: usize,
+    pub counts: usize,
     pub input: usize,
     pub room: usize,
 }
@@ -155,6 +159,7 @@ pub struct Answer {
     pub records: Vec<u8>,
     pub debounce: Vec<i32>,
     pub memory: Vec<u8>,
+    pub counts: Vec<u32>,
     pub input: Vec<u8>,
     pub room: Vec<u8>,
 }
@@ -176,10 +181,11 @@ impl Answer {
             start: word(&head, 16) as usize,
             length: word(&head, 24) as usize,
             nanoseconds: word(&head, 32),
-            config: numbers(from, lengths.config)?,
+            config: numbers(from, lengths.config, i32::from_le_bytes)?,
             records: bytes(from, lengths.records)?,
-            debounce: numbers(from, lengths.debounce)?,
+            debounce: numbers(from, lengths.debounce, i32::from_le_bytes)?,
             memory: bytes(from, lengths.memory)?,
+            counts: numbers(from, lengths.counts, u32::from_le_bytes)?,
             input: bytes(from, lengths.input)?,
             room: bytes(from, lengths.room)?,
         })
@@ -197,10 +203,12 @@ fn bytes(from: &mut impl Read, length: usize) -> io::Result<Vec<u8>> {
     Ok(bytes)
 }
 
-fn numbers(from: &mut impl Read, length: usize) -> io::Result<Vec<i32>> {
+fn numbers<T>(
+    from: &mut impl Read,
+    length: usize,
+    number: impl Fn([u8; 4]) -> T,
+) -> io::Result<Vec<T>> {
     let bytes = bytes(from, 4 * length)?;
-    let words = bytes.chunks_exact(4);
-    Ok(words
-        .map(|word| i32::from_le_bytes(word.try_into().expect("four bytes")))
-        .collect())
+    let (words, _) = bytes.as_chunks::<4>();
+    Ok(words.iter().map(|word| number(*word)).collect())
 }

@@ -4,11 +4,12 @@
 use crate::call::Call;
 use crate::making::NO_CONDITION;
 use crate::reference::{
-    grey_events, Configuration, State, CONFIRMED, EDITION_1, EDITION_2, FAILED_THIS_CYCLE,
-    KIND_TIME, NOT_COMPLETED_THIS_CYCLE, PENDING, TEST_FAILED, WARNING,
+    grey_events, Configuration, State, ADMITTED, ALL_CODES, CONFIRMED, COUNTS, EDITION_1,
+    EDITION_2, FAILED_THIS_CYCLE, KIND_TIME, NOT_COMPLETED_THIS_CYCLE, PENDING, TEST_FAILED,
+    WARNING,
 };
 
-const NEEDED: [&str; 74] = [
+const NEEDED: [&str; 104] = [
     "an event confirms",
     "an event asks for the indicator",
     "an event fails by a tick",
@@ -83,7 +84,40 @@ const NEEDED: [&str; 74] = [
     "none of the needed conditions is missing",
     "one of the needed conditions is missing",
     "several of the needed conditions are missing",
+    "admitted rises to its limit",
+    "pushed out rises to its limit",
+    "aged rises to its limit",
+    "cleared rises to its limit",
+    "not stored rises to its limit",
+    "a report is refused for admitted",
+    "a report is refused for pushed out",
+    "a report is refused for not stored",
+    "a tick is refused for admitted",
+    "a tick is refused for pushed out",
+    "a tick is refused for not stored",
+    "a tick is refused whole, with room for one",
+    "a stop is refused for aged",
+    "a stop is refused whole, with room for one",
+    "a clear of one is refused for cleared",
+    "a clear of all is refused for cleared",
+    "a clear of all is refused whole, with room for one",
+    "a request is refused for cleared",
+    "a request is refused whole, with room for one",
+    "an entry is renewed with admitted at its limit",
+    "a failure is not stored with admitted at its limit",
+    "an entry is added with the other counts at their limits",
+    "a tick adds an entry, displaces one and loses one",
+    "a stop ages several entries",
+    "a clear of all takes several entries out",
+    "a request takes an entry out",
+    "a negative reply with every count at its limit",
+    "a list with every count at its limit",
+    "a fresh state zeroes counts",
+    "a restore sets counts that were others",
 ];
+
+/// The names of the counts, in their order.
+const COUNTED: [&str; COUNTS] = ["admitted", "pushed out", "aged", "cleared", "not stored"];
 
 /// Of an image of this edition: the frames of an entry, and what a refusal shows where the image is as
 /// long as it should be, as long as one of the other edition, shorter, or longer.
@@ -179,6 +213,80 @@ impl Happenings {
         if !matches!(call, Call::Tick { .. }) {
             self.forget(before, after);
         }
+        self.counted(call, room, before, after);
+    }
+
+    /// What a call did to the counts.
+    fn counted(&mut self, call: &Call, room: &[u8], before: &State, after: &State) {
+        if matches!(call, Call::Fresh | Call::Restore { .. }) {
+            let others = before.counts != after.counts;
+            let fresh = matches!(call, Call::Fresh);
+            self.met("a fresh state zeroes counts", others && fresh);
+            self.met("a restore sets counts that were others", others && !fresh);
+            return;
+        }
+        let rise = rise(before, after);
+        for (place, name) in COUNTED.iter().enumerate() {
+            let full = rise[place] > 0 && after.counts[place] == u32::MAX;
+            self.met(&format!("{name} rises to its limit"), full);
+        }
+        let [admitted, pushed_out, aged, cleared, not_stored] = rise;
+        let all = before.counts == [u32::MAX; COUNTS];
+        match call {
+            Call::Tick { .. } => {
+                let three = admitted > pushed_out && pushed_out > 0 && not_stored > 0;
+                self.met("a tick adds an entry, displaces one and loses one", three);
+            }
+            Call::Stop { .. } => self.met("a stop ages several entries", aged > 1),
+            Call::Clear { .. } => self.met("a clear of all takes several entries out", cleared > 1),
+            Call::Request { .. } => {
+                let negative = room.first() == Some(&0x7F);
+                self.met("a request takes an entry out", cleared > 0);
+                self.met(
+                    "a negative reply with every count at its limit",
+                    all && negative,
+                );
+                let listed = room.starts_with(&[0x59, 0x02]);
+                self.met("a list with every count at its limit", all && listed);
+            }
+            _ => {}
+        }
+    }
+
+    /// Looks at a call that was refused for a count which had room for so many more.
+    pub fn full(&mut self, call: &Call, place: usize, left: u32) {
+        let name = match call {
+            Call::Report { .. } => "a report",
+            Call::Tick { .. } => "a tick",
+            Call::Stop { .. } => "a stop",
+            Call::Clear { code: ALL_CODES } => "a clear of all",
+            Call::Clear { .. } => "a clear of one",
+            _ => "a request",
+        };
+        self.met(&format!("{name} is refused for {}", COUNTED[place]), true);
+        if left > 0 {
+            let what = format!("{name} is refused whole, with room for one");
+            self.met(&what, left == 1);
+        }
+    }
+
+    /// A report that was a fresh failure, where counts have no room.
+    fn at_limit(&mut self, before: &State, after: &State) {
+        let [admitted, pushed_out, .., not_stored] = rise(before, after);
+        let full = |place: usize| before.counts[place] == u32::MAX;
+        let none = admitted + pushed_out + not_stored == 0;
+        self.met(
+            "an entry is renewed with admitted at its limit",
+            none && full(ADMITTED),
+        );
+        let lost = not_stored > 0 && full(ADMITTED);
+        self.met("a failure is not stored with admitted at its limit", lost);
+        let others = (1..COUNTS).all(full);
+        let added = admitted > 0 && pushed_out == 0;
+        self.met(
+            "an entry is added with the other counts at their limits",
+            added && others,
+        );
     }
 
     fn reports(&mut self, config: &Configuration, event: usize, present: u32) {
@@ -312,6 +420,7 @@ impl Happenings {
         }
         let overflow = after.board.overflow && !before.board.overflow;
         self.met("overflow", overflow);
+        self.at_limit(before, after);
         self.renewal(config, event, before, after);
         let (old, new) = (entries(config, before), entries(config, after));
         if let Some((_, count)) = old.iter().find(|(known, _)| *known == event) {
@@ -484,6 +593,11 @@ impl Happenings {
             suppress && unknown,
         );
     }
+}
+
+/// What a call added to the counts.
+fn rise(before: &State, after: &State) -> [u32; COUNTS] {
+    std::array::from_fn(|place| after.counts[place] - before.counts[place])
 }
 
 type Pair<'a> = (&'a [u8], &'a [u8]);

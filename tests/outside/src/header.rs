@@ -196,8 +196,8 @@ fn sizes(n: usize, m: usize, f: usize) -> [String; 7] {
     ]
 }
 
-const NAMED: [(&str, u32); 66] = [
-    ("HEADER_VERSION", 4000),
+const NAMED: [(&str, u32); 73] = [
+    ("HEADER_VERSION", 5000),
     ("MAX_EVENTS", 512),
     ("MAX_PLACES", 64),
     ("MAX_FRAME", 32),
@@ -229,6 +229,13 @@ const NAMED: [(&str, u32); 66] = [
     ("WRONG_FRAME", r::WRONG_FRAME as u32),
     ("NO_ENTRY", r::NO_ENTRY as u32),
     ("MISSING_CONDITION", r::MISSING_CONDITION as u32),
+    ("COUNTS_FULL", r::COUNTS_FULL as u32),
+    ("COUNTS", r::COUNTS as u32),
+    ("COUNT_ADMITTED", r::ADMITTED as u32),
+    ("COUNT_PUSHED_OUT", r::PUSHED_OUT as u32),
+    ("COUNT_AGED", r::AGED as u32),
+    ("COUNT_CLEARED", r::CLEARED as u32),
+    ("COUNT_NOT_STORED", r::NOT_STORED as u32),
     ("TEST_FAILED", r::TEST_FAILED as u32),
     (
         "TEST_FAILED_THIS_OPERATION_CYCLE",
@@ -342,6 +349,7 @@ fn parameter(name: &str, kind: &str) -> String {
         "&[u8]" => lent("const uint8_t"),
         "&mut [u8]" => lent("uint8_t"),
         "&mut [u16]" => lent("uint16_t"),
+        "&mut [u32]" => lent("uint32_t"),
         _ => format!("{} {name}", c_type(kind)),
     }
 }

@@ -15,13 +15,20 @@ const ENOUGH: u64 = 100_000;
 /// Calls made under one configuration.
 const CALLS_EACH: usize = 30;
 
+/// The lengths of the counts that are lent beside the right one.
+const OTHER_LENGTHS: [usize; 5] = [0, 1, 4, 6, 10];
+
 /// How often each call gave each answer.
-pub type Counts = [[u64; 12]; ANSWERS.len()];
+pub type Counts = [[u64; 13]; ANSWERS.len()];
+
+/// How often each call was lent counts of each other length, where nothing else was wrong.
+type Lent = [[u64; OTHER_LENGTHS.len()]; ANSWERS.len()];
 
 pub fn run(program: &Program, rounds: u64, seed: u64) -> (Tally, Counts) {
     let mut random = Random::new(!seed);
     let mut both = Comparison::new("hostile", program, !seed);
     let mut counts = Counts::default();
+    let mut lent = Lent::default();
     while both.tally.ran < rounds {
         let numbers = making::configuration(&mut random);
         let config = Configuration::judge(&numbers).expect("made to be right");
@@ -29,46 +36,85 @@ pub fn run(program: &Program, rounds: u64, seed: u64) -> (Tally, Counts) {
         let mut state = making::state(&mut random, &config, board);
         let left = (rounds - both.tally.ran).min(CALLS_EACH as u64);
         for _ in 0..left {
-            attack(&mut random, &mut both, &mut counts, &numbers, &mut state);
+            let made = attack(&mut random, &mut both, &numbers, &mut state);
+            counts[made.call][made.number] += 1;
+            if let Some(at) = made.length {
+                lent[made.call][at] += 1;
+            }
         }
     }
     if rounds >= ENOUGH {
-        for (call, (name, numbers)) in ANSWERS.iter().enumerate() {
-            for number in numbers.iter() {
-                if counts[call][usize::from(*number)] == 0 {
-                    both.tally.miss(format!("{name} answers {number}"));
-                }
-            }
-        }
+        missed(&mut both.tally, &counts, &lent);
     }
     (both.finish(), counts)
 }
 
-/// One call. Damage is done to copies, so that the state stays well formed.
-fn attack(
-    random: &mut Random,
-    both: &mut Comparison,
-    counts: &mut Counts,
-    numbers: &[i32],
-    state: &mut State,
-) {
-    let config = Configuration::judge(numbers).expect("made to be right");
-    let call = call(random, &config, state);
-    let fill = random.byte();
-    let (of_config, of_state) = match random.below(100) {
+/// What no call was, of all that should have been.
+fn missed(tally: &mut Tally, counts: &Counts, lent: &Lent) {
+    for (call, (name, numbers)) in ANSWERS.iter().enumerate() {
+        for number in numbers.iter() {
+            if counts[call][usize::from(*number)] == 0 {
+                tally.miss(format!("{name} answers {number}"));
+            }
+        }
+        for (at, length) in OTHER_LENGTHS.iter().enumerate() {
+            if lent[call][at] == 0 {
+                tally.miss(format!("{name} with {length} counts"));
+            }
+        }
+    }
+}
+
+/// What is damaged of all that a call is lent.
+struct Damaged {
+    config: bool,
+    state: bool,
+    /// Which of the other lengths the counts have.
+    length: Option<usize>,
+}
+
+fn damaged(random: &mut Random) -> Damaged {
+    let (config, state) = match random.below(100) {
         0..9 => (true, false),
         9..13 => (true, true),
         13..40 => (false, true),
         _ => (false, false),
     };
+    Damaged {
+        config,
+        state,
+        length: random.one_in(8).then(|| random.below(OTHER_LENGTHS.len())),
+    }
+}
+
+/// A call that was made: its row in ANSWERS, its answer, and which other length its counts had, where
+/// nothing else was damaged.
+struct Made {
+    call: usize,
+    number: usize,
+    length: Option<usize>,
+}
+
+/// One call. Damage is done to copies, so that the state stays well formed.
+fn attack(random: &mut Random, both: &mut Comparison, numbers: &[i32], state: &mut State) -> Made {
+    let config = Configuration::judge(numbers).expect("made to be right");
+    let call = call(random, &config, state);
+    let fill = random.byte();
+    if random.one_in(3) {
+        state.counts = making::counts_lent(random);
+    }
+    let of = damaged(random);
     // Fresh and restore would end a state that is worth attacking again.
     let replaces = matches!(call, Call::Fresh | Call::Restore { .. });
-    let outcome = if of_config || of_state || replaces {
+    let outcome = if of.config || of.state || of.length.is_some() || replaces {
         let mut lent = state.clone();
-        if of_state {
+        if of.state {
             damage::state(random, &config, &mut lent);
         }
-        let lent_numbers = match of_config {
+        if let Some(at) = of.length {
+            lent.counts.resize(OTHER_LENGTHS[at], u32::MAX);
+        }
+        let lent_numbers = match of.config {
             true => damage::configuration(random, numbers),
             false => numbers.to_vec(),
         };
@@ -78,7 +124,11 @@ fn attack(
         let board = board_bytes(random, &state.board);
         both.call(numbers, state, board, &call, fill)
     };
-    counts[call.index()][usize::from(outcome.number)] += 1;
+    Made {
+        call: call.index(),
+        number: usize::from(outcome.number),
+        length: of.length.filter(|_| !of.config && !of.state),
+    }
 }
 
 /// The board as any bytes that mean it: 0 no, anything else yes.

@@ -32,6 +32,7 @@ impl Expected {
             records: self.after.records.len(),
             debounce: self.after.debounce.len(),
             memory: self.after.memory.len(),
+            counts: self.after.counts.len(),
             input: self.call.input().len(),
             room: self.room.len(),
         }
@@ -73,6 +74,7 @@ impl Expected {
             .or_else(|| first_difference("records", &answer.records, &after.records))
             .or_else(|| first_difference("debounce", &answer.debounce, &after.debounce))
             .or_else(|| first_difference("memory", &answer.memory, &after.memory))
+            .or_else(|| first_difference("counts", &answer.counts, &after.counts))
             .or_else(|| first_difference("room", &answer.room, &self.room))?;
         Some(match self.outcome.number {
             DONE => first,
@@ -114,11 +116,12 @@ fn outcome(call: &Call, answer: &Answer) -> Outcome {
 }
 
 /// What the bits of an answer's `broken` stand for.
-const BLOCKS: [&str; 6] = [
+const BLOCKS: [&str; 7] = [
     "configuration",
     "records",
     "debounce numbers",
     "memory",
+    "counts",
     "frame, image or request",
     "room",
 ];

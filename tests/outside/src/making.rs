@@ -2,9 +2,10 @@
 
 use crate::random::Random;
 use crate::reference::{
-    image_head, Board, Configuration, Row, State, ALL_PRESENT, CONDITIONS, CONFIRMED, EDITION_1,
-    EDITION_2, FAILED_SINCE_CLEAR, FAILED_THIS_CYCLE, FRESH_STATUS, KIND_COUNTER, KIND_INTERNAL,
-    NOT_COMPLETED_SINCE_CLEAR, NOT_COMPLETED_THIS_CYCLE, PENDING, TEST_FAILED, WARNING,
+    image_head, Board, Configuration, Row, State, ALL_PRESENT, CONDITIONS, CONFIRMED, COUNTS,
+    EDITION_1, EDITION_2, FAILED_SINCE_CLEAR, FAILED_THIS_CYCLE, FRESH_STATUS, KIND_COUNTER,
+    KIND_INTERNAL, KIND_TIME, NOT_COMPLETED_SINCE_CLEAR, NOT_COMPLETED_THIS_CYCLE, PENDING,
+    TEST_FAILED, WARNING,
 };
 
 /// The largest trouble code.
@@ -79,6 +80,21 @@ fn debouncing(random: &mut Random) -> [i32; 6] {
     }
 }
 
+/// Events of kind time in one cycle that confirm and age soon, and a memory of few places: one tick
+/// stores, displaces and loses, one stop ages several.
+pub fn timed(random: &mut Random) -> Vec<i32> {
+    let n = random.between(5, 9);
+    let mut numbers = vec![n, random.between(1, 3), random.between(0, 2)];
+    for (event, priority) in (0..n).zip([9, 9, 5, 3].into_iter().cycle()) {
+        numbers.extend([1 + event, priority, 0]);
+        numbers.extend([KIND_TIME, -random.between(1, 8), random.between(1, 8)]);
+        numbers.extend([0; 3]);
+        let (heal, indicator) = (random.between(1, 3), random.between(0, 1));
+        numbers.extend([1, heal, 1, indicator, needed(random)]);
+    }
+    numbers
+}
+
 /// C confirm, H heal, A age, indicator.
 fn counts(random: &mut Random) -> [i32; 4] {
     let count = |random: &mut Random| random.pick(&[1, 1, 2, 2, 3, 4, 254, 255]);
@@ -133,6 +149,7 @@ pub fn state(random: &mut Random, config: &Configuration, board: Board) -> State
         records: Vec::with_capacity(4 * config.events),
         debounce: Vec::with_capacity(config.events),
         memory: vec![0; config.memory()],
+        counts: counts_lent(random),
         board,
     };
     for row in config.rows() {
@@ -143,6 +160,37 @@ pub fn state(random: &mut Random, config: &Configuration, board: Board) -> State
     }
     fill_memory(random, config, &mut state);
     state
+}
+
+/// Counts as they are lent: none of them near the limit, or some of them at it, or just below, or as far
+/// from it as a tick of 512 events can carry them.
+pub fn counts_lent(random: &mut Random) -> Vec<u32> {
+    let far = random.one_in(3);
+    let mut count = || match (far, random.below(8)) {
+        (true, _) | (_, 0 | 1) => random.below(1000) as u32,
+        (_, 2 | 3) => u32::MAX,
+        (_, 4) => u32::MAX - 1,
+        (_, 5) => u32::MAX - random.below(6) as u32,
+        (_, 6) => u32::MAX - 510 - random.below(4) as u32,
+        _ => random.next() as u32,
+    };
+    (0..COUNTS).map(|_| count()).collect()
+}
+
+/// Counts with room for no entry, or for one or a few.
+pub fn counts_near(random: &mut Random) -> Vec<u32> {
+    let mut count = || match random.below(6) {
+        0 => 0,
+        1..4 => u32::MAX,
+        4 => u32::MAX - 1,
+        _ => u32::MAX - random.below(4) as u32,
+    };
+    (0..COUNTS).map(|_| count()).collect()
+}
+
+/// "A restore sets admitted to the entries present and the rest to 0".
+pub fn counts_restored(state: &State) -> Vec<u32> {
+    vec![u32::from(state.memory[0]), 0, 0, 0, 0]
 }
 
 pub fn board(random: &mut Random) -> Board {
@@ -239,12 +287,22 @@ fn fill_memory(random: &mut Random, config: &Configuration, state: &mut State) {
     state.memory[0] = wanted as u8;
 }
 
+/// The events that have entries, the oldest first.
+pub fn events_of(config: &Configuration, state: &State) -> Vec<usize> {
+    let entries = state.memory[1..].chunks_exact(config.entry());
+    let in_use = entries.take(usize::from(state.memory[0]));
+    in_use
+        .map(|entry| usize::from(entry[0]) << 8 | usize::from(entry[1]))
+        .collect()
+}
+
 /// Blocks of the right lengths that hold anything.
 pub fn junk(random: &mut Random, config: &Configuration) -> State {
     State {
         records: random.bytes(4 * config.events),
         debounce: (0..config.events).map(|_| random.next() as i32).collect(),
         memory: random.bytes(config.memory()),
+        counts: (0..COUNTS).map(|_| random.next() as u32).collect(),
         board: board(random),
     }
 }

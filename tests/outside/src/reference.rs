@@ -3,6 +3,8 @@
 //! Each call judges first, in the document's order, and only then changes the
 //! lent blocks, in place. `Err` is a refusal and holds the number answered.
 
+use std::ops::Range;
+
 pub const DONE: u8 = 0;
 pub const BAD_ARGUMENT: u8 = 1;
 pub const BAD_CONFIGURATION: u8 = 2;
@@ -15,6 +17,7 @@ pub const BAD_IMAGE: u8 = 8;
 pub const WRONG_FRAME: u8 = 9;
 pub const NO_ENTRY: u8 = 10;
 pub const MISSING_CONDITION: u8 = 11;
+pub const COUNTS_FULL: u8 = 12;
 
 /// The bits of the status byte.
 pub const TEST_FAILED: u8 = 0x01;
@@ -41,6 +44,15 @@ pub const CONDITIONS: u32 = 31;
 pub const ALL_PRESENT: u32 = 2_147_483_647;
 /// "the lowest missing number, or 32 when none is"
 pub const NONE_MISSING: u32 = 32;
+
+/// Document 02: "five counts, each 32 bits and lent as a slice of five: entries admitted, pushed out,
+/// aged, cleared, and failures not stored".
+pub const COUNTS: usize = 5;
+pub const ADMITTED: usize = 0;
+pub const PUSHED_OUT: usize = 1;
+pub const AGED: usize = 2;
+pub const CLEARED: usize = 3;
+pub const NOT_STORED: usize = 4;
 
 /// Numbers of a row of the configuration.
 pub const ROW: usize = 14;
@@ -85,6 +97,8 @@ pub struct State {
     pub records: Vec<u8>,
     pub debounce: Vec<i32>,
     pub memory: Vec<u8>,
+    /// A call that does not take the counts does not look at them.
+    pub counts: Vec<u32>,
     pub board: Board,
 }
 
@@ -100,6 +114,7 @@ impl Clone for State {
         self.records.clone_from(&from.records);
         self.debounce.clone_from(&from.debounce);
         self.memory.clone_from(&from.memory);
+        self.counts.clone_from(&from.counts);
         self.board = from.board;
     }
 }
@@ -322,6 +337,39 @@ fn judge_lengths<'a>(config: &'a [i32], state: &State) -> Result<Configuration<'
     }
 }
 
+/// The same for a call that is lent the counts: "A slice of another length is 3."
+fn judge_with_counts<'a>(config: &'a [i32], state: &State) -> Result<Configuration<'a>, u8> {
+    let config = judge(config, state)?;
+    counts_fit(state)?;
+    Ok(config)
+}
+
+fn counts_fit(state: &State) -> Result<(), u8> {
+    match state.counts.len() {
+        COUNTS => Ok(()),
+        _ => Err(BAD_STATE),
+    }
+}
+
+/// Counts that no call can carry past their limit.
+type Wide = [u64; COUNTS];
+
+/// "whose whole rise would carry any count past 4,294,967,295 is refused …, checked last": the work is
+/// done on a copy of everything, and kept only where every count still has 32 bits.
+fn whole<T>(state: &mut State, work: impl FnOnce(&mut State, &mut Wide) -> T) -> Result<T, u8> {
+    let mut copy = state.clone();
+    let mut wide = [0; COUNTS];
+    for (wide, count) in wide.iter_mut().zip(&state.counts) {
+        *wide = u64::from(*count);
+    }
+    let done = work(&mut copy, &mut wide);
+    for (count, wide) in copy.counts.iter_mut().zip(wide) {
+        *count = u32::try_from(wide).map_err(|_| COUNTS_FULL)?;
+    }
+    *state = copy;
+    Ok(done)
+}
+
 fn records_well_formed(config: &Configuration, state: &State) -> bool {
     let (records, _) = state.records.as_chunks::<4>();
     let rows = config.rows().zip(records).zip(&state.debounce);
@@ -394,12 +442,15 @@ fn record(state: &mut State, event: usize) -> &mut [u8; 4] {
 /// bytes 0), cycles stopped, overflow clear".
 pub fn fresh(config: &[i32], state: &mut State) -> Result<(), u8> {
     judge_lengths(config, state)?;
+    counts_fit(state)?;
     for record in state.records.as_chunks_mut::<4>().0 {
         *record = [FRESH_STATUS, 0, 0, 0];
     }
     state.debounce.fill(0);
     state.memory.fill(0);
     state.board = Board::default();
+    // "A fresh state zeroes all five."
+    state.counts.fill(0);
     Ok(())
 }
 
@@ -411,7 +462,7 @@ pub fn report(
     frame: &[u8],
     present: u32,
 ) -> Result<Verdict, u8> {
-    let config = judge(config, state)?;
+    let config = judge_with_counts(config, state)?;
     if event >= config.events {
         return Err(NO_SUCH);
     }
@@ -433,9 +484,11 @@ pub fn report(
         return Err(MISSING_CONDITION);
     }
     let (d, verdict) = debounced(&row, state.debounce[event], code);
-    state.debounce[event] = d;
-    qualify(&config, state, event, verdict, frame);
-    Ok(verdict)
+    whole(state, |state, counts| {
+        state.debounce[event] = d;
+        qualify(&config, state, counts, event, verdict, frame);
+        verdict
+    })
 }
 
 /// The new D and the verdict of a report.
@@ -477,6 +530,7 @@ fn debounced(row: &Row, d: i32, code: u32) -> (i32, Verdict) {
 fn qualify(
     config: &Configuration,
     state: &mut State,
+    counts: &mut Wide,
     event: usize,
     verdict: Verdict,
     frame: &[u8],
@@ -487,11 +541,11 @@ fn qualify(
             let [status, ..] = record(state, event);
             *status &= !(TEST_FAILED | NOT_COMPLETED_SINCE_CLEAR | NOT_COMPLETED_THIS_CYCLE);
         }
-        Verdict::Failed => fail(config, state, event, frame),
+        Verdict::Failed => fail(config, state, counts, event, frame),
     }
 }
 
-fn fail(config: &Configuration, state: &mut State, event: usize, frame: &[u8]) {
+fn fail(config: &Configuration, state: &mut State, counts: &mut Wide, event: usize, frame: &[u8]) {
     let row = config.row(event);
     let [status, k, h, g] = record(state, event);
     let fresh_failure = *status & TEST_FAILED == 0;
@@ -510,12 +564,12 @@ fn fail(config: &Configuration, state: &mut State, event: usize, frame: &[u8]) {
         }
     }
     if fresh_failure {
-        store(config, state, event, frame);
+        store(config, state, counts, event, frame);
     }
 }
 
-/// "Fresh failure of e with the lent frame", cases 1 to 4.
-fn store(config: &Configuration, state: &mut State, event: usize, frame: &[u8]) {
+/// "Fresh failure of e with the lent frame", cases 1 to 4. An entry is "stored anew" where e had none.
+fn store(config: &Configuration, state: &mut State, counts: &mut Wide, event: usize, frame: &[u8]) {
     let mut count = 1;
     let mut first = frame.to_vec();
     if let Some(place) = place_of(config, &state.memory, event) {
@@ -525,13 +579,16 @@ fn store(config: &Configuration, state: &mut State, event: usize, frame: &[u8]) 
         first = known[3..3 + config.frame].to_vec();
         take_out(config, &mut state.memory, place);
     } else if usize::from(state.memory[0]) == config.places {
-        match victim(config, state, event) {
-            Some(place) => take_out(config, &mut state.memory, place),
-            None => {
-                state.board.overflow = true;
-                return;
-            }
-        }
+        let Some(place) = victim(config, state, event) else {
+            state.board.overflow = true;
+            counts[NOT_STORED] += 1;
+            return;
+        };
+        take_out(config, &mut state.memory, place);
+        counts[PUSHED_OUT] += 1;
+        counts[ADMITTED] += 1;
+    } else {
+        counts[ADMITTED] += 1;
     }
     let from = at(config, usize::from(state.memory[0]));
     let entry = &mut state.memory[from..from + config.entry()];
@@ -586,10 +643,11 @@ fn take_out(config: &Configuration, memory: &mut [u8], place: usize) {
     memory[0] -= 1;
 }
 
-/// "Its entry leaves", if it has one.
-fn leave(config: &Configuration, state: &mut State, event: usize) {
+/// "Its entry leaves", if it has one, and is counted.
+fn leave(config: &Configuration, state: &mut State, event: usize, count: &mut u64) {
     if let Some(place) = place_of(config, &state.memory, event) {
         take_out(config, &mut state.memory, place);
+        *count += 1;
     }
 }
 
@@ -600,13 +658,27 @@ pub fn tick(
     frame: &[u8],
     present: u32,
 ) -> Result<(), u8> {
-    let config = judge(config, state)?;
+    let config = judge_with_counts(config, state)?;
     if ms > 60_000 {
         return Err(BAD_ARGUMENT);
     }
     if frame.len() != config.frame {
         return Err(WRONG_FRAME);
     }
+    whole(state, |state, counts| {
+        pass_time(&config, state, counts, ms, frame, present);
+    })
+}
+
+/// "Events in rising number, only kind 2 with its cycle running".
+fn pass_time(
+    config: &Configuration,
+    state: &mut State,
+    counts: &mut Wide,
+    ms: u32,
+    frame: &[u8],
+    present: u32,
+) {
     for (event, row) in config.rows().enumerate() {
         if row.kind != KIND_TIME || !row.runs(&state.board) {
             continue;
@@ -624,9 +696,8 @@ pub fn tick(
             continue;
         };
         state.debounce[event] = moved;
-        qualify(&config, state, event, row.verdict_at(moved), frame);
+        qualify(config, state, counts, event, row.verdict_at(moved), frame);
     }
-    Ok(())
 }
 
 pub fn start(config: &[i32], state: &mut State, cycle: u32) -> Result<(), u8> {
@@ -649,24 +720,25 @@ pub fn start(config: &[i32], state: &mut State, cycle: u32) -> Result<(), u8> {
 }
 
 pub fn stop(config: &[i32], state: &mut State, cycle: u32) -> Result<(), u8> {
-    let config = judge(config, state)?;
+    let config = judge_with_counts(config, state)?;
     if cycle > 3 {
         return Err(NO_SUCH);
     }
     if !state.board.running[cycle as usize] {
         return Err(WRONG_CYCLE_STATE);
     }
-    state.board.running[cycle as usize] = false;
-    for (event, row) in config.rows().enumerate() {
-        if row.cycle as u32 == cycle {
-            heal(&row, record(state, event));
-            if age(&row, record(state, event)) {
-                leave(&config, state, event);
+    whole(state, |state, counts| {
+        state.board.running[cycle as usize] = false;
+        for (event, row) in config.rows().enumerate() {
+            if row.cycle as u32 == cycle {
+                heal(&row, record(state, event));
+                if age(&row, record(state, event)) {
+                    leave(&config, state, event, &mut counts[AGED]);
+                }
+                state.debounce[event] = 0;
             }
-            state.debounce[event] = 0;
         }
-    }
-    Ok(())
+    })
 }
 
 /// Stop, (a): "if 1 and 6 are clear: bit 2 clear, K = 0, and if bit 7 is set
@@ -706,33 +778,38 @@ fn age(row: &Row, record: &mut [u8; 4]) -> bool {
 }
 
 pub fn clear(config: &[i32], state: &mut State, code: u32) -> Result<(), u8> {
-    let config = judge(config, state)?;
-    if clear_code(&config, state, code) {
-        Ok(())
-    } else {
-        Err(NO_SUCH)
-    }
+    let config = judge_with_counts(config, state)?;
+    let covered = covered(&config, code).ok_or(NO_SUCH)?;
+    clear_events(&config, state, covered)
 }
 
-/// Clears one trouble code or all. False, and nothing done, for an unknown code.
-fn clear_code(config: &Configuration, state: &mut State, code: u32) -> bool {
-    if code == ALL_CODES {
-        for event in 0..config.events {
-            *record(state, event) = [FRESH_STATUS, 0, 0, 0];
-        }
-        state.debounce.fill(0);
-        // Every entry's event is covered, so every entry leaves.
-        state.memory.fill(0);
-        state.board.overflow = false;
-        return true;
-    }
-    let Some(event) = config.event_of(code) else {
-        return false;
+/// The events that a trouble code covers, and whether it is the one for all.
+struct Covered {
+    events: Range<usize>,
+    all: bool,
+}
+
+/// None for a code that is unknown.
+fn covered(config: &Configuration, code: u32) -> Option<Covered> {
+    let all = code == ALL_CODES;
+    let events = match all {
+        true => 0..config.events,
+        false => config.event_of(code).map(|event| event..event + 1)?,
     };
-    *record(state, event) = [FRESH_STATUS, 0, 0, 0];
-    state.debounce[event] = 0;
-    leave(config, state, event);
-    true
+    Some(Covered { events, all })
+}
+
+/// "Each covered event gets status 50h, K = h = g = D = 0, its entry leaves".
+fn clear_events(config: &Configuration, state: &mut State, covered: Covered) -> Result<(), u8> {
+    whole(state, |state, counts| {
+        for event in covered.events {
+            *record(state, event) = [FRESH_STATUS, 0, 0, 0];
+            state.debounce[event] = 0;
+            leave(config, state, event, &mut counts[CLEARED]);
+        }
+        // "clearing all also clears overflow"
+        state.board.overflow &= !covered.all;
+    })
 }
 
 pub fn read_status(config: &[i32], state: &State, event: usize) -> Result<u8, u8> {
@@ -797,10 +874,10 @@ pub fn read_missing(
 }
 
 /// Document 02: "four by eight", cycle by cycle, bit 0 first.
-pub const COUNTS: usize = 4 * 8;
+pub const TABLE: usize = 4 * 8;
 
 /// Document 02: for each cycle and each bit, the events of that cycle with the bit set.
-pub fn read_table(config: &[i32], state: &State) -> Result<[u16; COUNTS], u8> {
+pub fn read_table(config: &[i32], state: &State) -> Result<[u16; TABLE], u8> {
     let config = judge(config, state)?;
     Ok(std::array::from_fn(|at| {
         let (cycle, bit) = (at / 8, at % 8);
@@ -935,6 +1012,7 @@ pub fn save(config: &[i32], state: &State, room: &mut [u8]) -> Result<usize, u8>
 
 pub fn restore(config: &[i32], state: &mut State, image: &[u8]) -> Result<(), u8> {
     let config = judge_lengths(config, state)?;
+    counts_fit(state)?;
     let bodies = bodies(&config, image).ok_or(BAD_IMAGE)?;
     state.records.copy_from_slice(bodies.records);
     state.debounce.fill(0);
@@ -954,6 +1032,9 @@ pub fn restore(config: &[i32], state: &mut State, image: &[u8]) -> Result<(), u8
         running: [false; 4],
         overflow: bodies.overflow,
     };
+    // "A restore sets admitted to the entries present and the rest to 0"
+    state.counts.fill(0);
+    state.counts[ADMITTED] = u32::from(bodies.memory[0]);
     Ok(())
 }
 
@@ -1008,7 +1089,7 @@ pub fn request(
     request: &[u8],
     room: &mut [u8],
 ) -> Result<usize, u8> {
-    let config = judge(config, state)?;
+    let config = judge_with_counts(config, state)?;
     if room.len() < 3 {
         return Err(ROOM_TOO_SMALL);
     }
@@ -1017,7 +1098,14 @@ pub fn request(
     };
     let reply = match service {
         0x19 => read_information(&config, state, request, room),
-        &SERVICE_14 => clear_information(&config, state, request, room),
+        &SERVICE_14 => match to_clear(&config, request) {
+            Ok(covered) => {
+                clear_events(&config, state, covered)?;
+                room[0] = 0x54;
+                Ok(1)
+            }
+            Err(code) => Err(code),
+        },
         _ => Err(0x11),
     };
     Ok(reply.unwrap_or_else(|code| {
@@ -1153,19 +1241,10 @@ fn send(reply: &[u8], suppressed: bool, room: &mut [u8]) -> Result<usize, u8> {
     Ok(reply.len())
 }
 
-/// Service 14. `Err` is the code of a negative reply.
-fn clear_information(
-    config: &Configuration,
-    state: &mut State,
-    request: &[u8],
-    room: &mut [u8],
-) -> Result<usize, u8> {
+/// Service 14: the events that it clears. `Err` is the code of a negative reply.
+fn to_clear(config: &Configuration, request: &[u8]) -> Result<Covered, u8> {
     let &[_, high, middle, low] = request else {
         return Err(0x13);
     };
-    if !clear_code(config, state, u32::from_be_bytes([0, high, middle, low])) {
-        return Err(0x31);
-    }
-    room[0] = 0x54;
-    Ok(1)
+    covered(config, u32::from_be_bytes([0, high, middle, low])).ok_or(0x31)
 }

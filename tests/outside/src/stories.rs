@@ -9,21 +9,27 @@ use crate::happenings::Happenings;
 use crate::making;
 use crate::random::Random;
 use crate::reference::{
-    grey_events, Board, Configuration, State, ALL_CODES, ALL_PRESENT, BAD_IMAGE, DONE, EDITION_1,
-    EDITION_2, FAILED, KIND_INTERNAL, KIND_TIME, MISSING_CONDITION, NO_SUCH, PASSED, PRE_FAILED,
-    PRE_PASSED,
+    grey_events, Board, Configuration, State, ADMITTED, AGED, ALL_CODES, ALL_PRESENT, BAD_IMAGE,
+    CLEARED, COUNTS, COUNTS_FULL, DONE, EDITION_1, EDITION_2, FAILED, KIND_INTERNAL, KIND_TIME,
+    MISSING_CONDITION, NO_SUCH, PASSED, PRE_FAILED, PRE_PASSED, PUSHED_OUT,
 };
 use crate::tally::Tally;
 
 /// Stories fail when something they are about did not happen in so many calls.
 const ENOUGH: u64 = 100_000;
 
+/// So many events take part in a call that moves many entries.
+const MANY: usize = 12;
+
 pub fn run(program: &Program, rounds: u64, seed: u64) -> Tally {
     let mut random = Random::new(seed);
     let mut both = Comparison::new("stories", program, seed);
     let mut happenings = Happenings::default();
     while both.tally.ran < rounds {
-        let numbers = making::configuration(&mut random);
+        let numbers = match random.one_in(8) {
+            true => making::timed(&mut random),
+            false => making::configuration(&mut random),
+        };
         let config = Configuration::judge(&numbers).expect("made to be right");
         let mut story = Story {
             mood: Mood::new(&mut random, &config),
@@ -46,6 +52,13 @@ pub fn run(program: &Program, rounds: u64, seed: u64) -> Tally {
     both.finish()
 }
 
+/// Entries admitted, less those present, pushed out, aged and cleared.
+fn between(state: &State) -> i64 {
+    let count = |place: usize| i64::from(state.counts[place]);
+    let present = i64::from(state.memory[0]);
+    count(ADMITTED) - present - count(PUSHED_OUT) - count(AGED) - count(CLEARED)
+}
+
 /// What a story is like.
 struct Mood {
     calls: usize,
@@ -57,6 +70,10 @@ struct Mood {
     pre: usize,
     /// Percent of reports and ticks that are not lent all conditions.
     switching: usize,
+    /// Percent of steps before which the caller sets the counts near their limits.
+    counting: usize,
+    /// Percent of steps that move many entries at once.
+    many: usize,
     /// Most reports go to this many events from `first` on.
     first: usize,
     events: usize,
@@ -71,6 +88,8 @@ impl Mood {
             failing: random.pick(&[20, 50, 50, 90]),
             pre: random.pick(&[20, 60]),
             switching: random.pick(&[0, 10, 40]),
+            counting: random.pick(&[0, 0, 5, 20]),
+            many: random.pick(&[0, 0, 1, 4]),
             first: random.below(config.events - events + 1),
             events,
         }
@@ -117,14 +136,48 @@ impl Story<'_> {
             let room = self.both.room();
             self.happenings
                 .observe(&self.config, &call, room, &self.before, &self.state);
+            self.add_up(&call);
         }
         match (outcome.number, &call) {
             (NO_SUCH, Call::Clear { code }) => self.happenings.unknown(&self.config, *code),
             (MISSING_CONDITION, Call::Report { present, .. }) => self.happenings.switched(*present),
             (BAD_IMAGE, Call::Restore { image }) => self.happenings.spoilt(&self.config, image),
+            (COUNTS_FULL, _) => self.full(&call),
             _ => {}
         }
         Some(outcome)
+    }
+
+    /// "Admitted equals entries present plus pushed out plus aged plus cleared": after fresh and restore,
+    /// and from there on; where the caller set the counts, by as much as that left between the two.
+    fn add_up(&mut self, call: &Call) {
+        let expected = match call {
+            Call::Fresh | Call::Restore { .. } => 0,
+            _ => between(&self.before),
+        };
+        if between(&self.state) != expected {
+            let text = format!("the counts do not add up after {call}");
+            self.both.tally.differ(text);
+        }
+    }
+
+    /// A call that was refused for its counts: for those which refuse it alone too. The caller may then
+    /// zero them.
+    fn full(&mut self, call: &Call) {
+        for place in 0..COUNTS {
+            let mut alone = self.before.clone();
+            let count = self.before.counts[place];
+            alone.counts.fill(0);
+            alone.counts[place] = count;
+            let mut room = vec![0; call.room()];
+            let outcome = call.by_reference(self.numbers, &mut alone, &mut room);
+            if outcome.number == COUNTS_FULL {
+                self.happenings.full(call, place, u32::MAX - count);
+            }
+        }
+        if self.random.one_in(2) {
+            self.state.counts.fill(0);
+        }
     }
 
     /// Restores an image, of either edition, of a random well-formed state; sometimes first its bytes
@@ -137,18 +190,19 @@ impl Story<'_> {
         let other = making::state(self.random, &self.config, board);
         let edition = making::edition(self.random);
         let image = making::image(&self.config, edition, &other);
-        if self.random.one_in(3) {
-            let spoilt = match self.random.one_in(2) {
+        if self.random.one_in(2) {
+            let spoilt = match self.random.one_in(3) {
                 true => damage::other_edition(&image),
                 false => damage::image(self.random, image.clone()),
             };
             self.call(Call::Restore { image: spoilt })?;
         }
         self.call(Call::Restore { image })?;
-        let told = match edition {
+        let mut told = match edition {
             EDITION_1 => making::told_by_edition_1(&self.config, &other),
             _ => other,
         };
+        told.counts = making::counts_restored(&told);
         if self.state != told {
             let text = "the state restored is not the state of the image";
             self.both.tally.differ(text.to_string());
@@ -172,6 +226,12 @@ impl Story<'_> {
     }
 
     fn step(&mut self) -> Option<()> {
+        if self.random.percent(self.mood.counting) {
+            self.state.counts = making::counts_near(self.random);
+        }
+        if self.random.percent(self.mood.many) {
+            return self.many();
+        }
         if self.random.percent(self.mood.turning) {
             return self.turn();
         }
@@ -305,6 +365,96 @@ impl Story<'_> {
         Some(())
     }
 
+    /// One of the calls that move many entries at once, often with counts near their limits.
+    fn many(&mut self) -> Option<()> {
+        match self.random.below(3) {
+            0 => self.storm(),
+            1 => self.clean_run(),
+            _ => self.sweep(),
+        }
+    }
+
+    fn maybe_near(&mut self) {
+        if self.random.one_in(2) {
+            self.state.counts = making::counts_near(self.random);
+        }
+    }
+
+    fn start_if_stopped(&mut self, event: usize) -> Option<()> {
+        let cycle = self.config.row(event).cycle as u32;
+        if !self.state.board.running[cycle as usize] {
+            self.call(Call::Start { cycle })?;
+        }
+        Some(())
+    }
+
+    fn send(&mut self, event: usize, code: u32) -> Option<()> {
+        let frame = self.random.bytes(self.config.frame);
+        let present = ALL_PRESENT;
+        self.call(Call::Report {
+            event,
+            code,
+            frame,
+            present,
+        })?;
+        Some(())
+    }
+
+    /// Several events of kind time begin to fail, and one tick brings them all to their tops.
+    fn storm(&mut self) -> Option<()> {
+        if self.random.one_in(2) {
+            let code = ALL_CODES;
+            self.call(Call::Clear { code })?;
+        }
+        let first = self.mood.first;
+        for event in first..first + self.mood.events.min(MANY) {
+            if self.config.row(event).kind == KIND_TIME {
+                self.start_if_stopped(event)?;
+                self.send(event, PASSED)?;
+                self.send(event, PRE_FAILED)?;
+            }
+        }
+        self.maybe_near();
+        let frame = self.random.bytes(self.config.frame);
+        self.call(Call::Tick {
+            ms: 60_000,
+            frame,
+            present: ALL_PRESENT,
+        })?;
+        Some(())
+    }
+
+    /// A run in which the events that have entries pass: those that are near it age at its stop.
+    fn clean_run(&mut self) -> Option<()> {
+        let event = self.event();
+        self.start_if_stopped(event)?;
+        let cycle = self.config.row(event).cycle;
+        let with_entries = making::events_of(&self.config, &self.state);
+        let of_cycle = |event: &usize| self.config.row(*event).cycle == cycle;
+        let events: Vec<usize> = with_entries.into_iter().filter(of_cycle).collect();
+        for event in events.into_iter().take(MANY) {
+            self.send(event, PASSED)?;
+        }
+        self.maybe_near();
+        let cycle = cycle as u32;
+        self.call(Call::Stop { cycle })?;
+        Some(())
+    }
+
+    /// All is cleared, by the call or by a request.
+    fn sweep(&mut self) -> Option<()> {
+        self.maybe_near();
+        let call = match self.random.one_in(2) {
+            true => Call::Clear { code: ALL_CODES },
+            false => Call::Request {
+                request: vec![0x14, 0xFF, 0xFF, 0xFF],
+                room: 3,
+            },
+        };
+        self.call(call)?;
+        Some(())
+    }
+
     /// A known trouble code mostly, sometimes all, sometimes one beside a known
     /// one, the first or the last, which is mostly none's.
     fn trouble_code(&mut self) -> u32 {
@@ -397,7 +547,8 @@ impl Story<'_> {
     /// bytes; and the story goes on from there.
     fn bring_back(&mut self, image: Vec<u8>) -> Option<()> {
         let junk = making::junk(self.random, &self.config);
-        let saved = std::mem::replace(&mut self.state, junk);
+        let mut saved = std::mem::replace(&mut self.state, junk);
+        saved.counts = making::counts_restored(&saved);
         let room = image.len();
         self.call(Call::Restore {
             image: image.clone(),

@@ -4,14 +4,18 @@ use crate::call::{Call, Outcome, Values};
 use crate::compare::{as_bytes, stored_frame};
 use crate::door::{Asked, Program, Way};
 use crate::line::{Expected, Line};
-use crate::reference::{self, Board, Configuration, State, ALL_PRESENT, DONE};
+use crate::reference::{self, Board, Configuration, State, ALL_PRESENT, COUNTS, DONE};
 use crate::tally::{first_difference, Tally};
 
 /// The files, which the program `call_cases` runs too.
-const FILES: [(&str, &str); 5] = [
+const FILES: [(&str, &str); 6] = [
     (
         "calls.txt",
         include_str!("../../../crates/call_cases/data/calls.txt"),
+    ),
+    (
+        "counts.txt",
+        include_str!("../../../crates/call_cases/data/counts.txt"),
     ),
     (
         "document.txt",
@@ -73,6 +77,7 @@ impl Case {
             .or_else(|| first_difference("records", &after.records, &self.after.records))
             .or_else(|| first_difference("debounce", &after.debounce, &self.after.debounce))
             .or_else(|| first_difference("memory", &after.memory, &self.after.memory))
+            .or_else(|| first_difference("counts", &after.counts, &self.after.counts))
     }
 
     /// Sends it through the door. A board's bytes are 0 and 1 here, before and after.
@@ -236,6 +241,7 @@ fn junk(config: &[i32]) -> State {
         records: vec![FILL; 4 * sizes.events],
         debounce: vec![-1; sizes.events],
         memory: vec![FILL; sizes.memory()],
+        counts: vec![u32::MAX; COUNTS],
         board: Board::default(),
     }
 }
@@ -270,10 +276,10 @@ fn pairs(word: &str) -> Vec<u8> {
         .collect()
 }
 
-/// `RECORDS DEBOUNCE MEMORY CYCLES OVERFLOW`.
+/// `RECORDS DEBOUNCE MEMORY CYCLES OVERFLOW COUNTS`.
 fn state_of(text: &str) -> State {
     let words: Vec<&str> = text.split_whitespace().collect();
-    let [records, debounce, memory, cycles, overflow] = words[..] else {
+    let [records, debounce, memory, cycles, overflow, counts] = words[..] else {
         panic!("{text} is no state");
     };
     let mut board = Board {
@@ -283,13 +289,19 @@ fn state_of(text: &str) -> State {
     for (running, digit) in board.running.iter_mut().zip(cycles.bytes()) {
         *running = digit == b'1';
     }
-    let numbers = debounce.split(',').filter(|word| *word != "-");
     State {
         records: bytes(records),
-        debounce: numbers.map(number).collect(),
+        debounce: listed(debounce),
         memory: bytes(memory),
+        counts: listed(counts),
         board,
     }
+}
+
+/// Numbers with commas between, `-` for none.
+fn listed<T: std::str::FromStr>(word: &str) -> Vec<T> {
+    let numbers = word.split(',').filter(|word| *word != "-");
+    numbers.map(number).collect()
 }
 
 /// `CALL ARGUMENTS`.

@@ -6,13 +6,13 @@ use Rattle.call_cases.proofs.run_lines.Statement.{statement}
 use Rattle.call_cases.proofs.run_lines.Tie as tie
 
 abbrev Inv-loop : tie.InvT-loop
-Inv-loop name fd line₀ says₀ want₀ cfg₀ other₀ records₀ debounce₀ memory₀ now₀ counter₀ line says want cfg other records
-    debounce memory now counter =
+Inv-loop name fd line₀ says₀ want₀ cfg₀ other₀ records₀ debounce₀ memory₀ counts₀ now₀ counter₀ line says want cfg other
+    records debounce memory counts now counter =
     0 ≤ counter
 
 abbrev μ-loop : tie.MeasureT-loop
-μ-loop name fd line₀ says₀ want₀ cfg₀ other₀ records₀ debounce₀ memory₀ now₀ counter₀ line says want cfg other records
-    debounce memory now counter =
+μ-loop name fd line₀ says₀ want₀ cfg₀ other₀ records₀ debounce₀ memory₀ counts₀ now₀ counter₀ line says want cfg other
+    records debounce memory counts now counter =
     1000000000 - counter
 
 pub run-lines-spec : {M : Type 1} → statement M

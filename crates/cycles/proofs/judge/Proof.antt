@@ -1,5 +1,6 @@
 -- `judge` meets its contract.
-use mathlib.Core.Bool.{true}
+use denote.Ref.{now}
+use Rattle.manual.specs.State.{lent}
 use Rattle.judgement.proofs.JudgedLaws.{judged-by, stopped-by}
 use borrow.Author.Needs.{needs}
 use Rattle.cycles.proofs.judge.Statement.{statement}
@@ -7,11 +8,17 @@ use Rattle.cycles.proofs.judge.Tie as tie
 
 returns : tie.Need-returns
 returns c =
-    judged-by _ _ true (c .before .before .before .begin .ensures) _ (c .before .enum-told .given .1)
-    (c .four-five .ensures)
+    let a = c .before .before .before .before .before .before .args in
+    let s = lent (now (a .records)) (now (a .debounce)) (now (a .memory)) (a .board) in
+    let begin = c .before .before .before .begin in
+    judged-by (now (a .cfg)) s (a .fits) (begin .ensures) _ (c .before .enum-told .given .1) (c .four-five .ensures)
 
 returns-2 : tie.Need-returns-2
-returns-2 c = stopped-by _ _ true (c .before .before .before .begin .ensures) _ _ (c .before .refusal .given .1)
+returns-2 c =
+    let a = c .before .before .before .before .before .before .args in
+    let s = lent (now (a .records)) (now (a .debounce)) (now (a .memory)) (a .board) in
+    let begin = c .before .before .before .begin in
+    stopped-by (now (a .cfg)) s (a .fits) (begin .ensures) _ _ (c .before .refusal .given .1)
 
 pub judge-spec : {M : Type 1} → statement M
 judge-spec =

@@ -1,5 +1,6 @@
 -- `start` meets its contract.
 use mathlib.Core.Path.{ap, _∙_}
+use mathlib.Core.Bool.{true}
 use denote.Ref.{now}
 use Rattle.manual.specs.State.{lent}
 use Rattle.manual.specs.Answers.{alone, done}
@@ -15,7 +16,7 @@ accept-start-requires c κs =
     let c8 = c .before .before .before .before .before .before .before .before in
     let a = c8 .args in
     let s = lent (now (a .records)) (now (a .debounce)) (now (a .memory)) (a .board) in
-    may-start (now (a .cfg)) s (a .cycle) _
+    may-start (now (a .cfg)) s (a .cycle) true _
     (passed-by _ (c .before .before .before .judge .ensures) (c .before .enum-told .given .1))
 
 returns : tie.Need-returns
@@ -28,7 +29,7 @@ returns c =
     let accept = c .before .before .before .accept-start in
     accepted-by _ (rw (wrong .ensures) at (judge .ensures)) _ _ _
     (c .before .before .before .before .before .enum-told .given .1)
-    (c .done .ensures (accept .last .1 .0) (now (a .debounce)) (now (a .memory))
+    (c .done .ensures alone (accept .last .1 .0) (now (a .debounce)) (now (a .memory))
     ∙ ap (done alone) (accept .ensures (now (a .debounce)) (now (a .memory))))
 
 returns-2 : tie.Need-returns-2
@@ -37,7 +38,7 @@ returns-2 c =
     let judge = c .before .before .before .before .judge in
     let wrong = c .before .before .before .before .before .before .runs in
     refused-by _ (rw (wrong .ensures) at (judge .ensures)) _ _ _ _ (c .before .before .refusal .given .1)
-    (c .refused .ensures _ _ _)
+    (c .refused .ensures alone _ _ _)
 
 pub start-spec : {M : Type 1} → statement M
 start-spec =

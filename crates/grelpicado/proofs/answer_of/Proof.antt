@@ -1,5 +1,4 @@
 -- `answer_of` meets its contract.
-use mathlib.Core.List.{[]}
 use borrow.Author.Needs.{needs}
 use Rattle.manual.specs.State.{lent}
 use Rattle.manual.specs.Answers.{ofAnswer}
@@ -8,9 +7,9 @@ use Rattle.grelpicado.proofs.answer_of.Statement.{statement}
 use Rattle.grelpicado.proofs.answer_of.Tie as tie
 
 returns : tie.Need-returns
-returns c = λ records debounce memory.
+returns c = λ records debounce memory b.
     let a = c .before .before .before .args .returned in
-    crossed (ofAnswer (a .answer)) [] (lent records debounce memory (a .board)) (c .before .before .before .args .found)
+    crossed (ofAnswer (a .answer)) b (lent records debounce memory (a .board)) (c .before .before .before .args .found)
     (c .before .answer-number .ensures) (answer-verdict (a .answer)) (answer-value (a .answer))
     (c .handed-back .ensures)
 

@@ -1,26 +1,25 @@
 -- `grelpicado_clear` meets its contract.
-use borrow.Author.Needs.{needs}
-use Rattle.manual.specs.Answers.{alone}
+use Rattle.manual.specs.Answers.{lentCounts}
 use Rattle.manual.specs.State.{lent}
 use Rattle.manual.specs.Calls.{clearCode}
 use Rattle.grelpicado.specs.Panel.{crosses}
 use Rattle.grelpicado.proofs.PanelLaws.{through}
+use borrow.Author.Needs.{needs}
 use Rattle.grelpicado.proofs.grelpicado_clear.Statement.{statement}
 use Rattle.grelpicado.proofs.grelpicado_clear.Tie as tie
 
 returns : tie.Need-returns
 returns c =
     let c8 = c .before .before .before .before .before .before .before .before in
-    let a = c8 .before .before .before .before .before .args in
-    through crosses
-    (λ b. clearCode (a .cfg .now) (a .code) alone (lent (a .records .now) (a .debounce .now) (a .memory .now) b))
-    (a .board) (c .answer-of .ensures _ _ _) (c .before .before .before .before .before .before .clear .ensures)
-    (c8 .before .before .board-of .ensures)
+    let c16 = c8 .before .before .before .before .before .before .before .before in
+    let a = c16 .before .args in through crosses (λ b. clearCode (a .cfg .now) (a .code) (lentCounts (a .counts .now))
+    (lent (a .records .now) (a .debounce .now) (a .memory .now) b)) (a .board) (c .answer-of .ensures _ _ _ _)
+    (c8 .clear .ensures) (c8 .before .before .before .before .before .board-of .ensures)
 
 pub grelpicado-clear-spec : {M : Type 1} → statement M
 grelpicado-clear-spec =
     tie.close
     (tie.spec
     (λ c κs. search needs) (λ c κs. search needs) (λ c κs. search needs) (λ c. search needs) (λ c. search needs)
-    (λ c. search needs)
+    (λ c. search needs) (λ c. search needs)
     returns)

@@ -14,7 +14,7 @@ returns c =
     let a = c8 .args in
     through crosses
     (λ b. startCycle (a .cfg .now) (a .cycle) alone (lent (a .records .now) (a .debounce .now) (a .memory .now) b))
-    (a .board) (c .answer-of .ensures _ _ _) (c .before .before .before .start .ensures)
+    (a .board) (c .answer-of .ensures _ _ _ _) (c .before .before .before .start .ensures)
     (c .before .before .before .before .before .board-of .ensures)
 
 pub grelpicado-start-spec : {M : Type 1} → statement M

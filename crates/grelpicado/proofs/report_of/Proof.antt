@@ -1,6 +1,5 @@
 -- `report_of` meets its contract.
 use mathlib.Core.Path.{ap, _∙_}
-use mathlib.Core.List.{[]}
 use borrow.Author.Needs.{needs}
 use Rattle.manual.specs.State.{lent}
 use Rattle.manual.specs.Answers.{ofReport}
@@ -10,9 +9,9 @@ use Rattle.grelpicado.proofs.report_of.Statement.{statement}
 use Rattle.grelpicado.proofs.report_of.Tie as tie
 
 returns : tie.Need-returns
-returns c = λ records debounce memory.
+returns c = λ records debounce memory b.
     let a = c .before .before .before .before .before .args .returned in
-    crossed (ofReport (a .answer)) [] (lent records debounce memory (a .board))
+    crossed (ofReport (a .answer)) b (lent records debounce memory (a .board))
     (c .before .before .before .before .before .args .found) (c .before .before .before .report-number .ensures)
     (c .before .verdict-number .ensures ∙ ap verdictNumber (c .before .before .report-verdict .ensures))
     (report-value (a .answer)) (c .handed-back .ensures)

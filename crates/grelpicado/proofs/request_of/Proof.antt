@@ -7,9 +7,9 @@ use Rattle.grelpicado.proofs.request_of.Statement.{statement}
 use Rattle.grelpicado.proofs.request_of.Tie as tie
 
 returns : tie.Need-returns
-returns c = λ records debounce memory room.
+returns c = λ records debounce memory b.
     let a = c .before .before .before .before .args .returned in
-    crossed (ofLength (a .answer)) room (lent records debounce memory (a .board))
+    crossed (ofLength (a .answer)) b (lent records debounce memory (a .board))
     (c .before .before .before .before .args .found) (c .before .before .length-number .ensures)
     (length-verdict (a .answer)) (c .before .written-length .ensures) (c .handed-back .ensures)
 

@@ -1,36 +1,69 @@
 -- `restore` meets its contract.
-use mathlib.Core.Path.{refl, ap}
-use Rattle.manual.specs.Answers.{alone, done}
-use Rattle.judgement.proofs.JudgedLaws.{passed-by, accepted-by, refused-by}
+use mathlib.Core.Path.{refl}
+use native.Mathlib.Omega.{arith}
+use denote.Ref.{now}
 use Rattle.manual.specs.Image.{restore}
-use Rattle.image.proofs.RestoreLaws.{restore-ready}
+use Rattle.judgement.proofs.JudgedLaws.{passed-by, refused-by}
+use Rattle.image.proofs.RestoreLaws.{restore-ready, restore-five, restored-counted, few-enough, restore-done}
 use borrow.Author.Needs.{needs}
 use Rattle.image.proofs.restore.Statement.{statement}
 use Rattle.image.proofs.restore.Tie as tie
 
 accept-restore-requires : tie.Need-accept-restore-requires
 accept-restore-requires c κs =
-    let c8 = c .before .before .before .before .before .before .before .before in
-    let board = c8 .before .before .before .before .args .board in
-    restore-ready _ _ _ _ _ board
-    (passed-by _ (c .before .before .before .before .before .judge-restore .ensures board)
-    (c .before .before .before .enum-told .given .1))
+    let judge = c .before .before .before .before .before in
+    let a = judge .before .before .before .before .before .before .before .before .before .args in
+    restore-ready _ _ (now (a .counts)) _ _ _ (a .board)
+    (passed-by _ (judge .judge-restore .ensures (a .board)) (c .before .before .before .enum-told .given .1))
+
+entry-count-requires : tie.Need-entry-count-requires
+entry-count-requires c κs =
+    let accept = c .before .before .before .before .before .before in
+    let told = accept .before .before .before .before in
+    let judge = told .before .before in
+    let a = judge .before .before .before .before .before .before .before .before .before .args in
+    restored-counted _ _ (now (a .counts)) _ _ _ (a .board)
+    (passed-by _ (judge .judge-restore .ensures (a .board)) (told .enum-told .given .1))
+    (accept .accept-restore .ensures) .some
+
+cast-present : tie.Need-cast-present
+cast-present c =
+    let accept = c .before .before .before .before .before .before .before in
+    let told = accept .before .before .before .before in
+    let judge = told .before .before in
+    let a = judge .before .before .before .before .before .before .before .before .before .args in
+    let few =
+    few-enough _ _ (now (a .counts)) _ _ _ (a .board)
+    (passed-by _ (judge .judge-restore .ensures (a .board)) (told .enum-told .given .1))
+    (accept .accept-restore .ensures) in
+    omega (arith, few, c .entry-count .ensures)
+
+set-present-requires : tie.Need-set-present-requires
+set-present-requires c κs =
+    let accept = c .before .before .before .before .before .before .before .before in
+    let told = accept .before .before .before .before in
+    let judge = told .before .before in
+    let a = judge .before .before .before .before .before .before .before .before .before .args in
+    restore-five _ _ (now (a .counts)) _ _ _ (a .board)
+    (passed-by _ (judge .judge-restore .ensures (a .board)) (told .enum-told .given .1))
 
 returns : tie.Need-returns
-unfolding restore
 returns c =
-    let c8 = c .before .before .before .before .before .before .before .before in
-    let c16 = c8 .before .before .before .before .before .before .before .before in
-    let board = c16 .before .before .args .board in
-    let judge = c8 .before .before .before .judge-restore in
-    accepted-by _ (judge .ensures board) _ _ _ (c8 .before .enum-told .given .1)
-    (ap (done alone) (c .before .before .before .before .before .accept-restore .ensures))
+    let present = c .before .before .before .before in
+    let accept = present .before .before .before .before .before .before .before in
+    let told = accept .before .before .before .before in
+    let judge = told .before .before in
+    let a = judge .before .before .before .before .before .before .before .before .before .args in
+    restore-done _ _ _ _ _ _ (a .board)
+    (passed-by _ (judge .judge-restore .ensures (a .board)) (told .enum-told .given .1))
+    (accept .accept-restore .ensures) (present .entry-count .ensures) (c .before .before .set-present .ensures)
 
 returns-2 : tie.Need-returns-2
 unfolding restore
 returns-2 c =
-    let board = c .before .before .before .before .before .before .before .before .before .before .args .board in
-    refused-by _ (c .before .before .before .judge-restore .ensures board) _ _ _ _ (c .before .r .given .1) refl
+    let judge = c .before .before .before in
+    let a = judge .before .before .before .before .before .before .before .before .before .args in
+    refused-by _ (judge .judge-restore .ensures (a .board)) _ _ _ _ (c .before .r .given .1) refl
 
 pub restore-spec : {M : Type 1} → statement M
 restore-spec =
@@ -38,7 +71,10 @@ restore-spec =
     (tie.spec
     (λ c κs. search needs) (λ c. search needs)
     accept-restore-requires
-    (λ c. search needs) (λ c. search needs) (λ c. search needs) (λ c. search needs)
+    entry-count-requires
+    cast-present
+    set-present-requires
+    (λ c. search needs) (λ c. search needs) (λ c. search needs) (λ c. search needs) (λ c. search needs)
     returns
-    (λ c. search needs) (λ c. search needs) (λ c. search needs)
+    (λ c. search needs) (λ c. search needs) (λ c. search needs) (λ c. search needs)
     returns-2)

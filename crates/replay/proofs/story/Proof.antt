@@ -81,25 +81,26 @@ turns-requires : tie.Need-turns-requires
 turns-requires c κs =
     let c8 = c .before .before .before .before .before .before .before .before in
     let c16 = c8 .before .before .before .before .before .before .before .before in
-    let cfg = now (c16 .before .before .before .before .before .before .args .cfg) in
+    let c24 = c16 .before .before .before .before .before .before .before .before in
+    let cfg = now (c24 .args .cfg) in
     let few : events cfg ≤ 512 =
-    config-tells cfg (c16 .before .before .before .before .before .before .pre .accepted) .n-most in
+    config-tells cfg (c24 .pre .accepted) .n-most in
     let part =
-    length-of-front (4 * c16 .before .before .events .result)
-    (now (c16 .before .before .before .before .before .before .args .records))
-    (blocks-within cfg (c16 .before .before .before .before .before .before .pre)
-    (c16 .before .before .events .ensures)
-    (rw (c16 .before .places .ensures, c16 .entry-frames .ensures) at
-    (c8 .before .before .before .before .before .before .before .memory-length .ensures))
+    length-of-front (4 * c16 .before .before .before .before .events .result)
+    (now (c24 .args .records))
+    (blocks-within cfg (c24 .pre)
+    (c16 .before .before .before .before .events .ensures)
+    (rw (c16 .before .before .before .places .ensures, c16 .before .before .entry-frames .ensures) at
+    (c16 .before .memory-length .ensures))
     .records-within) in
     record {
-      accepted = c16 .before .before .before .before .before .before .pre .accepted;
+      accepted = c24 .pre .accepted;
       records-long =
           omega (
             arith,
-            c .before .before .before .before .before .before .before .fresh .kept .1 .0,
+            c8 .fresh .kept .1 .0,
             part,
-            c16 .before .before .events .ensures,
+            c16 .before .before .before .before .events .ensures,
           );
       buffer-long = omega (arith, few);
     }
@@ -117,6 +118,6 @@ story-spec =
     slice-aggregate-debounce
     slice-relend-prefix-memory
     slice-aggregate-memory
-    (λ c κs. search needs) (λ c κs. search needs) (λ c. search needs)
+    (λ c κs. search needs) (λ c. search needs) (λ c κs. search needs) (λ c. search needs)
     turns-requires
     (λ c. search needs) (λ c. search needs) (λ c. search needs) (λ c. search needs))

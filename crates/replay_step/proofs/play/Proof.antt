@@ -1,3 +1,4 @@
+-- `play` meets its contract.
 use denote.Ref.{now}
 use Rattle.manual.specs.State.{lent}
 use Rattle.manual.proofs.ConfigurationLaws.{config-tells}
@@ -9,28 +10,23 @@ use Rattle.replay_step.proofs.play.Tie as tie
 
 array-share-prefix-zeros : tie.Need-array-share-prefix-zeros
 array-share-prefix-zeros c =
-    rw (c .frame-bytes .ensures)
-    (config-tells (now (c .before .before .before .before .args .cfg))
+    rw (c .frame-bytes .ensures) (config-tells (now (c .before .before .before .before .args .cfg))
     (c .before .before .before .before .pre .accepted) .F-most)
 
 slice-aggregate-frame : tie.Need-slice-aggregate-frame
 slice-aggregate-frame c =
-    length-of-front _ _
-    (rw (c .before .frame-bytes .ensures)
-    (config-tells (now (c .before .before .before .before .before .args .cfg))
-    (c .before .before .before .before .before .pre .accepted) .F-most))
+    length-of-front _ _ (rw (c .before .frame-bytes .ensures) (config-tells (now
+    (c .before .before .before .before .before .args .cfg)) (c .before .before .before .before .before .pre .accepted) .F-most))
 
 returns : tie.Need-returns
 returns c =
     let c8 = c .before .before .before .before .before .before .before .before in
     let c16 = c8 .before .before .before .before .before .before .before .before in
-    let a = c16 .before .before .before .before .before .args in
-    line-made (now (a .cfg)) (a .call) (a .next) (now (a .buffer))
-    (lent (now (a .records)) (now (a .debounce)) (now (a .memory)) (a .board))
-    (zeros-front 32 _ (c16 .before .frame-bytes .ensures)
-    (config-tells (now (a .cfg)) (c16 .before .before .before .before .before .pre .accepted) .F-most))
-    (c .before .before .before .events .ensures) (c8 .before .before .before .before .make .ensures)
-    (c .before .before .fill-line .ensures)
+    let a = c16 .before .before .before .before .before .before .before .args in line-made (now (a .cfg)) (a .call)
+    (a .next) (now (a .buffer)) (lent (now (a .records)) (now (a .debounce)) (now (a .memory)) (a .board)) (zeros-front
+    32 _ (c16 .before .before .before .frame-bytes .ensures) (config-tells (now (a .cfg))
+    (c16 .before .before .before .before .before .before .before .pre .accepted) .F-most)) (c .before .before .before .events .ensures)
+    (c8 .before .before .before .before .before .make .ensures) (c .before .before .fill-line .ensures)
 
 pub play-spec : {M : Type 1} → statement M
 play-spec =
@@ -39,6 +35,6 @@ play-spec =
     (λ c κs. search needs)
     array-share-prefix-zeros
     slice-aggregate-frame
-    (λ c κs. search needs) (λ c κs. search needs) (λ c κs. search needs) (λ c. search needs) (λ c. search needs)
-    (λ c. search needs) (λ c. search needs)
+    (λ c. search needs) (λ c κs. search needs) (λ c κs. search needs) (λ c κs. search needs) (λ c. search needs)
+    (λ c. search needs) (λ c. search needs) (λ c. search needs)
     returns)

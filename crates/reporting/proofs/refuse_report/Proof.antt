@@ -4,7 +4,7 @@ use Rattle.reporting.proofs.refuse_report.Statement.{statement}
 use Rattle.reporting.proofs.refuse_report.Tie as tie
 
 returns : tie.Need-returns
-returns c records debounce memory = refl
+returns c records debounce memory b = refl
 
 pub refuse-report-spec : {M : Type 1} → statement M
 refuse-report-spec = tie.close (tie.spec returns)
