@@ -15,13 +15,13 @@ ghost use Rattle.rehearsal.specs.Copies.{AsLong};
 ghost use Rattle.reporting.specs.Accepted.{MayReport};
 
 // What an accepted report leaves beside the lent blocks: what it answers, and what it adds to the counts.
-pub struct Accepted {
+pub(crate) struct Accepted {
     pub returned: ReportReturned,
     pub rise: Rise,
 }
 
 // "Each accepted report gives a verdict: none, passed or failed."
-pub fn accept_report(
+pub(crate) fn accept_report(
     cfg: &[i32],
     records: &mut [u8],
     debounce: &mut [i32],
@@ -130,7 +130,7 @@ fn rehearse(
 
 // Whether the report's "whole rise would carry any count past 4,294,967,295". It is rehearsed only where a count is
 // near that.
-pub fn carries_past(
+pub(crate) fn carries_past(
     cfg: &[i32],
     records: &[u8],
     debounce: &[i32],

@@ -85,7 +85,7 @@ fn counted(board: Board, overflow: bool, rise: Rise) -> Counted
 }
 
 // "events in rising number": what each leaves, and what all of them add to the counts.
-pub fn tick_events(
+pub(crate) fn tick_events(
     cfg: &[i32],
     records: &mut [u8],
     debounce: &mut [i32],
@@ -204,7 +204,7 @@ fn rehearse(
 
 // Whether the tick's "whole rise would carry any count past 4,294,967,295". It is rehearsed only where a count is near
 // that.
-pub fn carries_past(
+pub(crate) fn carries_past(
     cfg: &[i32],
     records: &[u8],
     debounce: &[i32],

@@ -75,7 +75,7 @@ fn row_tests(
 }
 
 // "report 4, 1, 6, 9, 5", then 11. An event past the last has no row, so 4 is judged before the row is read.
-pub fn report_tests(
+pub(crate) fn report_tests(
     cfg: &[i32],
     board: Board,
     event: EventNumber,
@@ -101,7 +101,7 @@ pub fn report_tests(
 // ---- tick
 
 // "tick 1, 9"
-pub fn tick_tests(cfg: &[i32], ms: u32, frame: &[u8]) -> Check
+pub(crate) fn tick_tests(cfg: &[i32], ms: u32, frame: &[u8]) -> Check
     ensures { λ r. ⌜ checkNumber r ≡ firstThatApplies (tickTests (now (cfg .entry)) ms (now (frame .entry))) ⌝ }
 {
     let ms_refused = LONGEST_TICK < ms;
@@ -128,7 +128,7 @@ fn time_runs(cfg: &[i32], board: Board, event: EventNumber) -> bool
 }
 
 // "A tick doesn't move such an event's D.": one whose needed conditions are not all present.
-pub fn tick_moves(cfg: &[i32], board: Board, event: EventNumber, present: u32) -> bool
+pub(crate) fn tick_moves(cfg: &[i32], board: Board, event: EventNumber, present: u32) -> bool
     requires { ⌜ RowWithin (now cfg) (event .0) ⌝ }
     ensures { λ r. ⌜ r ≡ tickMoves (now (cfg .entry)) present board (event .0) ⌝ }
 {
