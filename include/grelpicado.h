@@ -3,7 +3,7 @@
  *
  * To start: write a configuration (grelpicado_event), give grelpicado_begin your
  * arrays, and make the calls grelpicado_ctx_... on what it filled. They stand at
- * the end of this file, over the seventeen plain calls that do the work.
+ * the end of this file, over the sixteen plain calls that do the work.
  *
  * The manager keeps nothing of its own. Everything it works on is lent by the
  * caller for the length of one call:
@@ -15,13 +15,10 @@
  *              first), occurrence count, first frame, latest frame
  *   counts     five unsigned 32-bit numbers: how many entries were admitted, pushed out, aged and
  *              cleared, and how many failures were not stored
- *   changes    one byte for each event: old status exclusive-or new status
  *   board      which of the four cycles run, and the overflow flag, by value
  *
  * The counts are lent to the calls that move them: fresh, report, tick, stop, clear,
- * restore and the diagnostic request. The other calls take no counts. The change
- * bytes are lent to the calls that fill them: report, tick, start, stop, clear and
- * the diagnostic request; and to the changes page, which reads them.
+ * restore and the diagnostic request. The other calls take no counts.
  *
  * A call takes any numbers, any bytes and any lengths. It answers with a number:
  * 0 when it is done, else one of the refusals below, the first that applies in
@@ -53,10 +50,10 @@ extern "C" {
 #endif
 
 /*
- * Of this header: 6000 is 6.0. The thousands rise when a program that includes it must be changed
+ * Of this header: 5000 is 5.0. The thousands rise when a program that includes it must be changed
  * or compiled again, the rest when something is added.
  */
-#define GRELPICADO_HEADER_VERSION 6000
+#define GRELPICADO_HEADER_VERSION 5000
 
 /* A cast and a check in the words of either language, for this file. */
 #ifdef __cplusplus
@@ -85,8 +82,6 @@ extern "C" {
         + GRELPICADO_SIZE_(M) * (GRELPICADO_SIZE_(3) + GRELPICADO_SIZE_(2) * GRELPICADO_SIZE_(F)))
 /* Counts. */
 #define GRELPICADO_COUNTS 5u
-/* Change bytes. */
-#define GRELPICADO_CHANGES_BYTES(n) GRELPICADO_SIZE_(n)
 /* Bytes of the largest saved image. */
 #define GRELPICADO_IMAGE_BYTES(n, M, F) \
     (GRELPICADO_SIZE_(20) + GRELPICADO_RECORDS_BYTES(n) + GRELPICADO_MEMORY_BYTES(M, F) + GRELPICADO_SIZE_(1))
@@ -101,8 +96,6 @@ extern "C" {
 
 /* Numbers of the longest list of grey events. */
 #define GRELPICADO_LIST_NUMBERS(n) GRELPICADO_SIZE_(n)
-/* Bytes of the longest changes page: 4 for each event. */
-#define GRELPICADO_CHANGES_PAGE_BYTES(n) (GRELPICADO_SIZE_(4) * GRELPICADO_SIZE_(n))
 
 /* An array by its name, not by a pointer to it, as a call takes it: the pointer and how many elements. */
 #define GRELPICADO_LEND(array) (array), sizeof (array) / sizeof (array)[0]
@@ -279,18 +272,6 @@ typedef struct grelpicado_event {
 #define GRELPICADO_COUNT_CLEARED 3    /* entries that left at a clear, or at a request of service 14h */
 #define GRELPICADO_COUNT_NOT_STORED 4 /* fresh failures that found no place */
 
-/* ---- the change bytes, n of them */
-
-/*
- * Byte i is old status exclusive-or new status of event i: the bits that a call changed. A call
- * that is lent them and done writes all n, whatever they held, 0 where nothing changed; so does a
- * diagnostic request with a negative or suppressed reply. A refused call leaves them: they are then
- * still those of the call before. Another length than n is 3.
- *
- * Fresh and restore take none: after them a panel repaints all. A stop also turns the paint of its
- * cycle's events grey, of those too whose status it does not change.
- */
-
 /* The trouble code that clears all events. */
 #define GRELPICADO_ALL_CODES 0xFFFFFFu
 
@@ -372,7 +353,7 @@ typedef struct grelpicado_request_answer {
     grelpicado_board board;
 } grelpicado_request_answer;
 
-/* ---- the seventeen calls */
+/* ---- the sixteen calls */
 
 /*
  * The fresh state: every status 50h, no entry, cycles stopped, overflow clear, all counts 0.
@@ -402,8 +383,7 @@ grelpicado_report_answer grelpicado_report(
     size_t event, uint32_t code,
     const uint8_t *frame, size_t frame_length,
     uint32_t present,
-    uint32_t *counts, size_t counts_length,
-    uint8_t *changes, size_t changes_length);
+    uint32_t *counts, size_t counts_length);
 
 /*
  * ms milliseconds have passed, 0 to 60,000, with these conditions present. Every event that fails by it
@@ -419,8 +399,7 @@ grelpicado_answer grelpicado_tick(
     uint32_t ms,
     const uint8_t *frame, size_t frame_length,
     uint32_t present,
-    uint32_t *counts, size_t counts_length,
-    uint8_t *changes, size_t changes_length);
+    uint32_t *counts, size_t counts_length);
 
 /*
  * Starts a cycle, 0 to 3.
@@ -432,8 +411,7 @@ grelpicado_answer grelpicado_start(
     const int32_t *debounce, size_t debounce_length,
     const uint8_t *memory, size_t memory_length,
     grelpicado_board board,
-    uint32_t cycle,
-    uint8_t *changes, size_t changes_length);
+    uint32_t cycle);
 
 /*
  * Stops a cycle, 0 to 3.
@@ -446,8 +424,7 @@ grelpicado_answer grelpicado_stop(
     uint8_t *memory, size_t memory_length,
     grelpicado_board board,
     uint32_t cycle,
-    uint32_t *counts, size_t counts_length,
-    uint8_t *changes, size_t changes_length);
+    uint32_t *counts, size_t counts_length);
 
 /*
  * Clears the event of a trouble code, or all for GRELPICADO_ALL_CODES, in any cycle state.
@@ -460,8 +437,7 @@ grelpicado_answer grelpicado_clear(
     uint8_t *memory, size_t memory_length,
     grelpicado_board board,
     uint32_t code,
-    uint32_t *counts, size_t counts_length,
-    uint8_t *changes, size_t changes_length);
+    uint32_t *counts, size_t counts_length);
 
 /*
  * The status byte of an event. Writes nothing.
@@ -546,24 +522,6 @@ grelpicado_length_answer grelpicado_list_grey(
     uint16_t *list, size_t list_length);
 
 /*
- * Writes to the front of the room what changed: for each event whose change byte is not 0, rising, 4
- * bytes: the event number, high first, the old status, the new one. New is the status in the records,
- * old is that exclusive-or the change byte. It takes any change bytes: for those of a call, make
- * no call between that changes the state. The answer is how many bytes the page has, at most
- * GRELPICADO_CHANGES_PAGE_BYTES(n); those of the room past it stay.
- * Refusals, in order: 2, 3 (the length of the change bytes too), 7 (the changed events do not all fit;
- * length 0 is enough where none changed).
- */
-grelpicado_length_answer grelpicado_changes_page(
-    const int32_t *config, size_t config_length,
-    const uint8_t *records, size_t records_length,
-    const int32_t *debounce, size_t debounce_length,
-    const uint8_t *memory, size_t memory_length,
-    grelpicado_board board,
-    const uint8_t *changes, size_t changes_length,
-    uint8_t *room, size_t room_length);
-
-/*
  * Where a stored frame of an event lies in the memory block: the first where `which` is GRELPICADO_FIRST,
  * 0, else the latest. Writes nothing.
  * Refusals, in order: 2, 3, 4 (event), 10.
@@ -619,8 +577,7 @@ grelpicado_request_answer grelpicado_request(
     grelpicado_board board,
     const uint8_t *request, size_t request_length,
     uint8_t *room, size_t room_length,
-    uint32_t *counts, size_t counts_length,
-    uint8_t *changes, size_t changes_length);
+    uint32_t *counts, size_t counts_length);
 
 /* ---- replies over CAN: ISO 15765-2, 8-byte frames, normal addressing */
 
@@ -759,8 +716,6 @@ typedef struct grelpicado {
     size_t memory_length; /* bytes */
     uint32_t *counts;
     size_t counts_length; /* numbers */
-    uint8_t *changes;
-    size_t changes_length; /* bytes */
     grelpicado_board board;
 } grelpicado;
 
@@ -777,9 +732,8 @@ typedef struct grelpicado_verdict_answer {
     (manager)->memory, (manager)->memory_length,        \
     (manager)->board
 
-/* And, behind a call's own arguments, where it moves the counts, and where it fills the change bytes. */
+/* And, behind a call's own arguments, where it moves the counts. */
 #define GRELPICADO_COUNTS_(manager) (manager)->counts, (manager)->counts_length
-#define GRELPICADO_CHANGES_(manager) (manager)->changes, (manager)->changes_length
 
 /* Keeps the board, answers the number. */
 static inline uint8_t grelpicado_keep_(grelpicado *manager, grelpicado_answer answer)
@@ -804,8 +758,7 @@ static inline uint8_t grelpicado_ctx_fresh(grelpicado *manager)
 /*
  * Fills the context from the caller's arrays and makes the fresh state. Every length is the number of
  * elements: GRELPICADO_LEND and GRELPICADO_LEND_CONFIG write pointer and length of an array.
- * Refusals, in order: 2, 3 (the lengths alone; that of the change bytes is judged by the calls that are
- * lent them).
+ * Refusals, in order: 2, 3 (the lengths alone).
  */
 static inline uint8_t grelpicado_begin(
     grelpicado *manager,
@@ -813,8 +766,7 @@ static inline uint8_t grelpicado_begin(
     uint8_t *records, size_t records_length,
     int32_t *debounce, size_t debounce_length,
     uint8_t *memory, size_t memory_length,
-    uint32_t *counts, size_t counts_length,
-    uint8_t *changes, size_t changes_length)
+    uint32_t *counts, size_t counts_length)
 {
     const grelpicado_board stopped = {{0, 0, 0, 0}, 0};
     manager->config = config;
@@ -827,8 +779,6 @@ static inline uint8_t grelpicado_begin(
     manager->memory_length = memory_length;
     manager->counts = counts;
     manager->counts_length = counts_length;
-    manager->changes = changes;
-    manager->changes_length = changes_length;
     manager->board = stopped;
     return grelpicado_ctx_fresh(manager);
 }
@@ -842,7 +792,7 @@ static inline grelpicado_verdict_answer grelpicado_ctx_report(
 {
     const grelpicado_report_answer answer = grelpicado_report(
         GRELPICADO_LENT_(manager), event, code, grelpicado_bytes_(frame, frame_length), frame_length, present,
-        GRELPICADO_COUNTS_(manager), GRELPICADO_CHANGES_(manager));
+        GRELPICADO_COUNTS_(manager));
     const grelpicado_verdict_answer rest = {answer.number, answer.verdict};
     manager->board = answer.board;
     return rest;
@@ -854,28 +804,25 @@ static inline uint8_t grelpicado_ctx_tick(
 {
     return grelpicado_keep_(manager, grelpicado_tick(
         GRELPICADO_LENT_(manager), ms, grelpicado_bytes_(frame, frame_length), frame_length, present,
-        GRELPICADO_COUNTS_(manager), GRELPICADO_CHANGES_(manager)));
+        GRELPICADO_COUNTS_(manager)));
 }
 
 /* Starts a cycle. Refusals: 2, 3, 4, 5. */
 static inline uint8_t grelpicado_ctx_start(grelpicado *manager, uint32_t cycle)
 {
-    return grelpicado_keep_(manager, grelpicado_start(
-        GRELPICADO_LENT_(manager), cycle, GRELPICADO_CHANGES_(manager)));
+    return grelpicado_keep_(manager, grelpicado_start(GRELPICADO_LENT_(manager), cycle));
 }
 
 /* Stops a cycle. Refusals: 2, 3, 4, 5, 12. */
 static inline uint8_t grelpicado_ctx_stop(grelpicado *manager, uint32_t cycle)
 {
-    return grelpicado_keep_(manager, grelpicado_stop(
-        GRELPICADO_LENT_(manager), cycle, GRELPICADO_COUNTS_(manager), GRELPICADO_CHANGES_(manager)));
+    return grelpicado_keep_(manager, grelpicado_stop(GRELPICADO_LENT_(manager), cycle, GRELPICADO_COUNTS_(manager)));
 }
 
 /* Clears the event of a trouble code, or all for GRELPICADO_ALL_CODES. Refusals: 2, 3, 4, 12. */
 static inline uint8_t grelpicado_ctx_clear(grelpicado *manager, uint32_t code)
 {
-    return grelpicado_keep_(manager, grelpicado_clear(
-        GRELPICADO_LENT_(manager), code, GRELPICADO_COUNTS_(manager), GRELPICADO_CHANGES_(manager)));
+    return grelpicado_keep_(manager, grelpicado_clear(GRELPICADO_LENT_(manager), code, GRELPICADO_COUNTS_(manager)));
 }
 
 /* The status byte of an event. Refusals: 2, 3, 4. */
@@ -917,15 +864,6 @@ static inline grelpicado_length_answer grelpicado_ctx_list_grey(
     return grelpicado_list_grey(GRELPICADO_LENT_(manager), list_length == 0 ? &none : list, list_length);
 }
 
-/* What the last done call that fills them changed, 4 bytes each: event (2), old, new. Refusals: 2, 3, 7. */
-static inline grelpicado_length_answer grelpicado_ctx_changes_page(
-    const grelpicado *manager, uint8_t *room, size_t room_length)
-{
-    uint8_t none = 0;
-    return grelpicado_changes_page(
-        GRELPICADO_LENT_(manager), GRELPICADO_CHANGES_(manager), room_length == 0 ? &none : room, room_length);
-}
-
 /* Where the first or latest frame of an event lies: at manager->memory + start. Refusals: 2, 3, 4, 10. */
 static inline grelpicado_frame_answer grelpicado_ctx_read_frame(
     const grelpicado *manager, size_t event, uint32_t which)
@@ -956,7 +894,7 @@ static inline grelpicado_length_answer grelpicado_ctx_request(
     uint8_t none = 0;
     const grelpicado_request_answer answer = grelpicado_request(
         GRELPICADO_LENT_(manager), grelpicado_bytes_(request, request_length), request_length,
-        room_length == 0 ? &none : room, room_length, GRELPICADO_COUNTS_(manager), GRELPICADO_CHANGES_(manager));
+        room_length == 0 ? &none : room, room_length, GRELPICADO_COUNTS_(manager));
     const grelpicado_length_answer rest = {answer.number, answer.length};
     manager->board = answer.board;
     return rest;
@@ -964,7 +902,6 @@ static inline grelpicado_length_answer grelpicado_ctx_request(
 
 #undef GRELPICADO_LENT_
 #undef GRELPICADO_COUNTS_
-#undef GRELPICADO_CHANGES_
 
 /* ---- the layout that the archive was compiled for; a compiler that lays out otherwise stops here */
 

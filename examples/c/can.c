@@ -30,7 +30,6 @@ static uint8_t records[GRELPICADO_RECORDS_BYTES(EVENTS)];
 static int32_t debounce[GRELPICADO_DEBOUNCE_NUMBERS(EVENTS)];
 static uint8_t memory[GRELPICADO_MEMORY_BYTES(PLACES, FRAME)];
 static uint32_t counts[GRELPICADO_COUNTS];
-static uint8_t changes[GRELPICADO_CHANGES_BYTES(EVENTS)];
 static grelpicado manager;
 
 /* ---- what each side keeps */
@@ -146,8 +145,7 @@ int main(void)
 {
     const uint8_t supported_codes[] = {0x19, 0x0A};
     must(grelpicado_begin(&manager, GRELPICADO_LEND_CONFIG(config), GRELPICADO_LEND(records),
-                          GRELPICADO_LEND(debounce), GRELPICADO_LEND(memory), GRELPICADO_LEND(counts),
-                          GRELPICADO_LEND(changes)));
+                          GRELPICADO_LEND(debounce), GRELPICADO_LEND(memory), GRELPICADO_LEND(counts)));
     grelpicado_can_start_answer asked = grelpicado_can_start(GRELPICADO_LEND(supported_codes));
     must(asked.number);
     tester_sends(asked.frame);

@@ -15,12 +15,6 @@
  *
  * The memory has one place, and the pressure is the more important: its entry pushes the link's out, and
  * while it is there a failure of the link is not stored. The counts tell a service engineer so.
- *
- * On the glass each event has a line, with its paint and its status. A line is painted anew only where it
- * changed: after each call that can change a status the panel reads the changes page, and paints the lines
- * of the events that stand on it. After fresh and restore, which tell no changes, it paints every line;
- * after a stop also those that are not grey yet, since an event whose cycle is stopped is grey whatever its
- * status. Every line that is painted is printed here.
  */
 #include <stdbool.h>
 #include <stdio.h>
@@ -73,22 +67,14 @@ static const GRELPICADO_CONFIG(EVENTS) config = {
     },
 };
 
-/* What the line of an event shows. */
-struct line {
-    uint8_t paint;
-    uint8_t status;
-};
-
-/* All that the manager works on beside the configuration, and what stands on the glass. It belongs to the panel. */
+/* All that the manager works on beside the configuration. It belongs to the panel. */
 struct panel {
     uint8_t records[GRELPICADO_RECORDS_BYTES(EVENTS)];
     int32_t debounce[GRELPICADO_DEBOUNCE_NUMBERS(EVENTS)];
     uint8_t memory[GRELPICADO_MEMORY_BYTES(PLACES, FRAME)];
     uint32_t counts[GRELPICADO_COUNTS];
-    uint8_t changes[GRELPICADO_CHANGES_BYTES(EVENTS)];
     grelpicado manager;
     uint32_t present; /* the set of conditions that are present */
-    struct line glass[EVENTS];
 };
 
 static void must_be_done(uint8_t number, const char *call)
@@ -108,8 +94,7 @@ static void begin(struct panel *panel)
 {
     uint8_t number = grelpicado_begin(
         &panel->manager, GRELPICADO_LEND_CONFIG(config), GRELPICADO_LEND(panel->records),
-        GRELPICADO_LEND(panel->debounce), GRELPICADO_LEND(panel->memory), GRELPICADO_LEND(panel->counts),
-        GRELPICADO_LEND(panel->changes));
+        GRELPICADO_LEND(panel->debounce), GRELPICADO_LEND(panel->memory), GRELPICADO_LEND(panel->counts));
     must_be_done(number, "begin");
     switch_pump(panel, true);
 }
@@ -157,13 +142,12 @@ static const char *const bit_names[8] = {
     "testNotCompletedThisOperationCycle", "warningIndicatorRequested",
 };
 
-static const char *const event_names[EVENTS] = {[PRESSURE] = "pressure", [LINK] = "link"};
-
-static void print_line(size_t event, struct line line)
+static void print_event(const struct panel *panel, const char *name, size_t event)
 {
-    printf("  %-9s%-5s%02Xh", event_names[event], paint_names[line.paint], (unsigned)line.status);
+    uint8_t status = status_of(panel, event);
+    printf("  %-9s%-5s%02Xh", name, paint_names[paint_of(panel, event)], (unsigned)status);
     for (unsigned bit = 0; bit < 8; bit++) {
-        if (line.status >> bit & 1u) {
+        if (status >> bit & 1u) {
             printf(" %s", bit_names[bit]);
         }
     }
@@ -173,8 +157,11 @@ static void print_line(size_t event, struct line line)
 /* Each condition that an event needs has a text here. */
 static const char *const reasons[GRELPICADO_CONDITIONS] = {[PUMP_ON] = "the pump is off"};
 
-static void print_value(const struct panel *panel)
+static void print_panel(const struct panel *panel, const char *moment)
 {
+    printf("%s\n", moment);
+    print_event(panel, "pressure", PRESSURE);
+    print_event(panel, "link", LINK);
     printf("  the value is painted %s\n", paint_names[paint_of_value(panel)]);
     grelpicado_missing_answer missing = missing_of(panel);
     if (missing.count > 0) {
@@ -214,56 +201,6 @@ static void print_counts(const struct panel *panel)
         (unsigned)counts[GRELPICADO_COUNT_CLEARED], (unsigned)counts[GRELPICADO_COUNT_NOT_STORED]);
 }
 
-/* ---- the glass */
-
-static void paint_line(struct panel *panel, size_t event, uint8_t status)
-{
-    struct line line = {paint_of(panel, event), status};
-    panel->glass[event] = line;
-    print_line(event, line);
-}
-
-static void paint_all(struct panel *panel)
-{
-    for (size_t event = 0; event < EVENTS; event++) {
-        paint_line(panel, event, status_of(panel, event));
-    }
-}
-
-/* What a done call changed. Not after a refused one: the change bytes are then those of an earlier call. */
-static void paint_changed(struct panel *panel)
-{
-    enum { CHANGE = 4 }; /* bytes of a changed event: its number, high first, old status, new status */
-    uint8_t page[GRELPICADO_CHANGES_PAGE_BYTES(EVENTS)];
-    grelpicado_length_answer answer = grelpicado_ctx_changes_page(&panel->manager, GRELPICADO_LEND(page));
-    must_be_done(answer.number, "changes page");
-    for (const uint8_t *change = page; change < page + answer.length; change += CHANGE) {
-        paint_line(panel, change[0] * 256u + change[1], change[3]);
-    }
-}
-
-/* A stop turns an event grey whether its status changed or not. */
-static void paint_stopped(struct panel *panel)
-{
-    for (size_t event = 0; event < EVENTS; event++) {
-        if (panel->glass[event].paint != paint_of(panel, event)) {
-            paint_line(panel, event, status_of(panel, event));
-        }
-    }
-}
-
-/* The lines that were painted are all that had to be. */
-static void must_show_all(const struct panel *panel)
-{
-    for (size_t event = 0; event < EVENTS; event++) {
-        struct line line = panel->glass[event];
-        if (line.paint != paint_of(panel, event) || line.status != status_of(panel, event)) {
-            fprintf(stderr, "the line of the %s is not up to date\n", event_names[event]);
-            exit(EXIT_FAILURE);
-        }
-    }
-}
-
 /* ---- the loop */
 
 /* Without a condition that the event needs, it is not tested now: refused, and nothing has changed. */
@@ -273,7 +210,6 @@ static void report(struct panel *panel, size_t event, uint32_t code, const uint8
         grelpicado_ctx_report(&panel->manager, event, code, frame, FRAME, panel->present).number;
     if (number != GRELPICADO_MISSING_CONDITION) {
         must_be_done(number, "report");
-        paint_changed(panel);
     }
 }
 
@@ -290,7 +226,6 @@ static void step(struct panel *panel, int value)
     }
     report(panel, LINK, answers ? GRELPICADO_PRE_PASSED : GRELPICADO_PRE_FAILED, frame);
     must_be_done(grelpicado_ctx_tick(&panel->manager, STEP_MS, frame, FRAME, panel->present), "tick");
-    paint_changed(panel);
 }
 
 static void go_on(struct panel *panel, const int *values, size_t steps)
@@ -298,26 +233,17 @@ static void go_on(struct panel *panel, const int *values, size_t steps)
     for (size_t i = 0; i < steps; i++) {
         step(panel, values[i]);
     }
-    must_show_all(panel);
-    print_value(panel);
 }
 
-static void run(struct panel *panel, const char *words, const int *values, size_t steps)
+static void run(struct panel *panel, const int *values, size_t steps)
 {
-    printf("%s\n", words);
     must_be_done(grelpicado_ctx_start(&panel->manager, RUN), "start");
-    paint_changed(panel);
     go_on(panel, values, steps);
 }
 
-static void stop(struct panel *panel, const char *words)
+static void stop(struct panel *panel)
 {
-    printf("%s\n", words);
     must_be_done(grelpicado_ctx_stop(&panel->manager, RUN), "stop");
-    paint_changed(panel);
-    paint_stopped(panel);
-    must_show_all(panel);
-    print_value(panel);
 }
 
 /* ---- power off and on */
@@ -332,9 +258,6 @@ static void lose_power(struct panel *panel)
     memset(panel, 0xA5, sizeof *panel);
     begin(panel);
     must_be_done(grelpicado_ctx_restore(&panel->manager, image, saved.length), "restore");
-    printf("Power on: the state is as it was saved.\n");
-    paint_all(panel);
-    print_value(panel);
 }
 
 /* ---- the pump is switched off and on, in one run */
@@ -343,15 +266,15 @@ static void switch_off_and_on(struct panel *panel)
 {
     static const int good[] = {210, 209, 210};
     static const int nothing[] = {0, 0, 0};
-    run(panel, "Fifth run: 2.10 bar.", GRELPICADO_LEND(good));
-    printf("The pump is switched off, and the sensor answers 0.00 bar.\n");
+    run(panel, GRELPICADO_LEND(good));
     switch_pump(panel, false);
     go_on(panel, GRELPICADO_LEND(nothing));
-    printf("The pump is switched on, and the sensor still answers 0.00 bar.\n");
+    print_panel(panel, "Fifth run: 2.10 bar, then the pump is switched off, and the sensor answers 0.00 bar.");
     switch_pump(panel, true);
     go_on(panel, GRELPICADO_LEND(nothing));
+    print_panel(panel, "The pump is switched on, and the sensor still answers 0.00 bar.");
     print_frames(panel);
-    stop(panel, "Stopped.");
+    stop(panel);
 }
 
 /* ---- the service screen */
@@ -361,11 +284,9 @@ static void service(struct panel *panel)
 {
     static const uint8_t request[] = {0x14, 0x00, 0x0A, 0x11};
     uint8_t reply[GRELPICADO_REPLY_BYTES(EVENTS, FRAME)];
-    printf("Service: a tester clears the code of the pressure.\n");
     must_be_done(
         grelpicado_ctx_request(&panel->manager, GRELPICADO_LEND(request), GRELPICADO_LEND(reply)).number, "request");
-    paint_changed(panel);
-    must_show_all(panel);
+    printf("Service: a tester clears the code of the pressure.\n");
     print_counts(panel);
 }
 
@@ -377,27 +298,31 @@ int main(void)
     static const int dropping[] = {210, 210, 210, SILENT, SILENT, SILENT, SILENT, SILENT};
     struct panel panel;
     begin(&panel);
-    printf("Power on: the state is fresh.\n");
-    paint_all(&panel);
 
-    run(&panel, "First run: the sensor never answers.", GRELPICADO_LEND(no_answer));
-    stop(&panel, "Stopped: no status changes, and the line of the link turns grey.");
+    run(&panel, GRELPICADO_LEND(no_answer));
+    print_panel(&panel, "First run: the sensor never answers.");
+    stop(&panel);
 
-    run(&panel, "Second run: the link is back, then the pressure falls.", GRELPICADO_LEND(falling));
+    run(&panel, GRELPICADO_LEND(falling));
+    print_panel(&panel, "Second run: the link is back, then the pressure falls.");
     print_frames(&panel);
     print_counts(&panel);
-    stop(&panel, "Stopped: a clean run has healed the warning of the link.");
+    stop(&panel);
 
     lose_power(&panel);
+    print_panel(&panel, "Power on: the state is as it was saved.");
     print_counts(&panel);
 
-    run(&panel, "Third run: the pressure is good again.", GRELPICADO_LEND(good));
-    stop(&panel, "Stopped: a clean run has healed the warning of the pressure.");
+    run(&panel, GRELPICADO_LEND(good));
+    print_panel(&panel, "Third run: the pressure is good again.");
+    stop(&panel);
+    print_panel(&panel, "Stopped: a clean run has healed the warning.");
     print_frames(&panel);
 
-    run(&panel, "Fourth run: 2.10 bar, then the link drops.", GRELPICADO_LEND(dropping));
+    run(&panel, GRELPICADO_LEND(dropping));
+    print_panel(&panel, "Fourth run: 2.10 bar, then the link drops.");
     print_counts(&panel);
-    stop(&panel, "Stopped.");
+    stop(&panel);
 
     switch_off_and_on(&panel);
     service(&panel);

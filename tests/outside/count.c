@@ -10,8 +10,7 @@
  *   - one event in two is confirmed and warns, one in eight ages at the next stop; one in four is fresh
  *     where it has no entry;
  *   - where the cycle runs, the events of kind time are counted up, and one in eight of them is 5 ms
- *     before it fails;
- *   - the change bytes are set of one event in four, or of all where the cycle is stopped.
+ *     before it fails.
  */
 #include <stdbool.h>
 #include <stdio.h>
@@ -42,7 +41,6 @@ struct world {
     uint16_t list[GRELPICADO_LIST_NUMBERS(MOST_EVENTS)];
     uint16_t table[GRELPICADO_CYCLES][8];
     uint32_t counts[GRELPICADO_COUNTS];
-    uint8_t changes[GRELPICADO_CHANGES_BYTES(MOST_EVENTS)];
     grelpicado_board board;
     uint8_t number;
     uint8_t value;
@@ -117,9 +115,6 @@ static void fill(struct world *world, bool running)
     for (size_t e = 0; e < n; e += 3) {
         world->debounce[e] = !running ? 0 : e % 24 == 0 ? 495 : 100;
     }
-    for (size_t e = 0; e < n; e += running ? 4 : 1) {
-        world->changes[e] = 0x41;
-    }
     world->board.running[0] = running;
 }
 
@@ -138,7 +133,6 @@ struct side {
     __typeof__(grelpicado_read_table) *read_table;
     __typeof__(grelpicado_read_paint) *read_paint;
     __typeof__(grelpicado_list_grey) *list_grey;
-    __typeof__(grelpicado_changes_page) *changes_page;
     __typeof__(grelpicado_read_frame) *read_frame;
     __typeof__(grelpicado_save) *save;
     __typeof__(grelpicado_restore) *restore;
@@ -147,15 +141,14 @@ struct side {
 
 static const struct side archive = {
     grelpicado_fresh, grelpicado_report, grelpicado_tick, grelpicado_start, grelpicado_stop, grelpicado_clear,
-    grelpicado_read_status, grelpicado_read_counter, grelpicado_read_missing, grelpicado_read_table,
-    grelpicado_read_paint, grelpicado_list_grey, grelpicado_changes_page, grelpicado_read_frame, grelpicado_save,
-    grelpicado_restore, grelpicado_request,
+    grelpicado_read_status, grelpicado_read_counter, grelpicado_read_missing, grelpicado_read_table, grelpicado_read_paint,
+    grelpicado_list_grey, grelpicado_read_frame, grelpicado_save, grelpicado_restore, grelpicado_request,
 };
 
 static const struct side plain = {
     plain_fresh, plain_report, plain_tick, plain_start, plain_stop, plain_clear,
     plain_read_status, plain_read_counter, plain_read_missing, plain_read_table, plain_read_paint, plain_list_grey,
-    plain_changes_page, plain_read_frame, plain_save, plain_restore, plain_request,
+    plain_read_frame, plain_save, plain_restore, plain_request,
 };
 
 /* ---- the calls */
@@ -167,7 +160,6 @@ static const struct side plain = {
     world->memory, GRELPICADO_MEMORY_BYTES(places, FRAME), world->board
 
 #define COUNTED GRELPICADO_LEND(world->counts)
-#define CHANGED world->changes, GRELPICADO_CHANGES_BYTES(n)
 
 /* The event whose entry stands in the middle. */
 static size_t middle(void)
@@ -189,7 +181,7 @@ static void keep(struct world *world, grelpicado_answer got)
 static void report(const struct side *by, struct world *world, size_t event, uint32_t code)
 {
     grelpicado_report_answer got =
-        by->report(LENT, event, code, GRELPICADO_LEND(frame), GRELPICADO_ALL_PRESENT, COUNTED, CHANGED);
+        by->report(LENT, event, code, GRELPICADO_LEND(frame), GRELPICADO_ALL_PRESENT, COUNTED);
     world->number = got.number;
     world->value = got.verdict;
     world->board = got.board;
@@ -197,7 +189,7 @@ static void report(const struct side *by, struct world *world, size_t event, uin
 
 static void request(const struct side *by, struct world *world, const uint8_t *bytes, size_t length)
 {
-    grelpicado_request_answer got = by->request(LENT, bytes, length, GRELPICADO_LEND(world->room), COUNTED, CHANGED);
+    grelpicado_request_answer got = by->request(LENT, bytes, length, GRELPICADO_LEND(world->room), COUNTED);
     world->number = got.number;
     world->length = got.length;
     world->board = got.board;
@@ -231,27 +223,27 @@ static void report_pre_failed(const struct side *by, struct world *world)
 
 static void tick(const struct side *by, struct world *world)
 {
-    keep(world, by->tick(LENT, 10, GRELPICADO_LEND(frame), GRELPICADO_ALL_PRESENT, COUNTED, CHANGED));
+    keep(world, by->tick(LENT, 10, GRELPICADO_LEND(frame), GRELPICADO_ALL_PRESENT, COUNTED));
 }
 
 static void start(const struct side *by, struct world *world)
 {
-    keep(world, by->start(LENT, 0, CHANGED));
+    keep(world, by->start(LENT, 0));
 }
 
 static void stop(const struct side *by, struct world *world)
 {
-    keep(world, by->stop(LENT, 0, COUNTED, CHANGED));
+    keep(world, by->stop(LENT, 0, COUNTED));
 }
 
 static void clear_one(const struct side *by, struct world *world)
 {
-    keep(world, by->clear(LENT, middle_code(), COUNTED, CHANGED));
+    keep(world, by->clear(LENT, middle_code(), COUNTED));
 }
 
 static void clear_all(const struct side *by, struct world *world)
 {
-    keep(world, by->clear(LENT, GRELPICADO_ALL_CODES, COUNTED, CHANGED));
+    keep(world, by->clear(LENT, GRELPICADO_ALL_CODES, COUNTED));
 }
 
 static void read_status(const struct side *by, struct world *world)
@@ -293,13 +285,6 @@ static void read_paint(const struct side *by, struct world *world)
 static void list_grey(const struct side *by, struct world *world)
 {
     grelpicado_length_answer got = by->list_grey(LENT, GRELPICADO_LEND(world->list));
-    world->number = got.number;
-    world->length = got.length;
-}
-
-static void changes_page(const struct side *by, struct world *world)
-{
-    grelpicado_length_answer got = by->changes_page(LENT, CHANGED, GRELPICADO_LEND(world->room));
     world->number = got.number;
     world->length = got.length;
 }
@@ -400,8 +385,6 @@ static const struct scene {
     {"read paint", read_paint, true},
     {"list grey, some", list_grey, true},
     {"list grey, all", list_grey, false},
-    {"changes page, some", changes_page, true},
-    {"changes page, all", changes_page, false},
     {"read frame", read_frame, true},
     {"save", save, false},
     {"restore", restore, false},

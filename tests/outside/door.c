@@ -7,11 +7,10 @@
  *   door layout    prints the size of each struct, and where its fields lie
  *   door numbers   prints what the header's macros stand for
  *
- * A call is a struct head, then the contents of the eight blocks in their order.
- * Its answer is a struct answer, then the eight blocks as the call left them. The
+ * A call is a struct head, then the contents of the seven blocks in their order.
+ * Its answer is a struct answer, then the seven blocks as the call left them. The
  * room of list grey holds its 16-bit numbers; read table has one for its counts.
- * The five counts and the change bytes are blocks, also of a plain call that does
- * not take them.
+ * The five counts are a block, also of a plain call that does not take them.
  * Numbers are little-endian: the archive is for x86-64.
  */
 #define _POSIX_C_SOURCE 200809L
@@ -27,11 +26,11 @@
 
 /* ---- what goes over the pipes */
 
-enum { CONFIG, RECORDS, DEBOUNCE, MEMORY, COUNTS, CHANGES, INPUT, ROOM, BLOCKS };
+enum { CONFIG, RECORDS, DEBOUNCE, MEMORY, COUNTS, INPUT, ROOM, BLOCKS };
 
 enum {
     FRESH, REPORT, TICK, START, STOP, CLEAR, READ_STATUS, READ_FRAME, SAVE, RESTORE, REQUEST, READ_COUNTER,
-    READ_TABLE, READ_PAINT, LIST_GREY, READ_MISSING, CHANGES_PAGE
+    READ_TABLE, READ_PAINT, LIST_GREY, READ_MISSING
 };
 
 /* By the plain call; on a context; by grelpicado_begin, for a fresh state. */
@@ -49,12 +48,10 @@ struct head {
     uint64_t bytes[BLOCKS]; /* of each block; numbers in bytes too */
 };
 
-enum { MOVED = 1 << BLOCKS }; /* the context's blocks changed */
-
 struct answer {
     uint8_t number;
-    uint8_t value;   /* verdict, status or paint */
-    uint16_t broken; /* a bit for each block beside which a byte was written, or MOVED */
+    uint8_t value;  /* verdict, status or paint */
+    uint8_t broken; /* a bit for each block beside which a byte was written; 80h: the context's blocks changed */
     grelpicado_board board;
     uint64_t turn;
     uint64_t start;  /* of a frame; or a counter, as a signed number; or how many conditions are missing */
@@ -62,9 +59,8 @@ struct answer {
     uint64_t nanoseconds;
 };
 
-_Static_assert(sizeof(struct head) == 104, "the other side writes 104 bytes");
-_Static_assert(offsetof(struct answer, board) == 4, "the other side reads the board there");
-_Static_assert(sizeof(struct answer) == 48, "the other side reads 48 bytes");
+_Static_assert(sizeof(struct head) == 96, "the other side writes 96 bytes");
+_Static_assert(sizeof(struct answer) == 40, "the other side reads 40 bytes");
 
 static struct {
     uint8_t bytes[1 << 16];
@@ -251,7 +247,6 @@ static uint8_t *bytes_or_null(const struct block *block)
     bytes_of(&b[MEMORY]), b[MEMORY].length
 
 #define COUNTED counts_of(&b[COUNTS]), count_of(&b[COUNTS])
-#define CHANGED bytes_of(&b[CHANGES]), b[CHANGES].length
 #define INPUT_BYTES bytes_of(&b[INPUT]), b[INPUT].length
 #define ROOM_BYTES bytes_of(&b[ROOM]), b[ROOM].length
 #define ROOM_LIST list_of(&b[ROOM]), b[ROOM].length / sizeof(uint16_t)
@@ -333,26 +328,21 @@ static void by_plain(const struct head *head, const struct block b[BLOCKS], stru
     uint32_t present = (uint32_t)head->present;
     switch (head->call) {
     case FRESH: take(answer, grelpicado_fresh(LENT, board, COUNTED)); break;
-    case REPORT:
-        take_report(answer, grelpicado_report(LENT, board, event, code, INPUT_BYTES, present, COUNTED, CHANGED));
-        break;
-    case TICK: take(answer, grelpicado_tick(LENT, board, number, INPUT_BYTES, present, COUNTED, CHANGED)); break;
-    case START: take(answer, grelpicado_start(LENT, board, number, CHANGED)); break;
-    case STOP: take(answer, grelpicado_stop(LENT, board, number, COUNTED, CHANGED)); break;
-    case CLEAR: take(answer, grelpicado_clear(LENT, board, number, COUNTED, CHANGED)); break;
+    case REPORT: take_report(answer, grelpicado_report(LENT, board, event, code, INPUT_BYTES, present, COUNTED)); break;
+    case TICK: take(answer, grelpicado_tick(LENT, board, number, INPUT_BYTES, present, COUNTED)); break;
+    case START: take(answer, grelpicado_start(LENT, board, number)); break;
+    case STOP: take(answer, grelpicado_stop(LENT, board, number, COUNTED)); break;
+    case CLEAR: take(answer, grelpicado_clear(LENT, board, number, COUNTED)); break;
     case READ_STATUS: take_status(answer, grelpicado_read_status(LENT, board, event)); break;
     case READ_FRAME: take_frame(answer, grelpicado_read_frame(LENT, board, event, code)); break;
     case SAVE: take_length(answer, grelpicado_save(LENT, board, ROOM_BYTES)); break;
     case RESTORE: take(answer, grelpicado_restore(LENT, board, INPUT_BYTES, COUNTED)); break;
-    case REQUEST:
-        take_request(answer, grelpicado_request(LENT, board, INPUT_BYTES, ROOM_BYTES, COUNTED, CHANGED));
-        break;
+    case REQUEST: take_request(answer, grelpicado_request(LENT, board, INPUT_BYTES, ROOM_BYTES, COUNTED)); break;
     case READ_COUNTER: take_counter(answer, grelpicado_read_counter(LENT, board, event)); break;
     case READ_TABLE: take_table(answer, &b[ROOM], grelpicado_read_table(LENT, board)); break;
     case READ_PAINT: take_paint(answer, grelpicado_read_paint(LENT, board, event)); break;
     case LIST_GREY: take_length(answer, grelpicado_list_grey(LENT, board, ROOM_LIST)); break;
     case READ_MISSING: take_missing(answer, grelpicado_read_missing(LENT, board, event, present)); break;
-    case CHANGES_PAGE: take_length(answer, grelpicado_changes_page(LENT, board, CHANGED, ROOM_BYTES)); break;
     default: give_up("no such call");
     }
 }
@@ -393,7 +383,6 @@ static void on_context(
     case READ_PAINT: take_paint(answer, grelpicado_ctx_read_paint(manager, event)); break;
     case LIST_GREY: take_length(answer, grelpicado_ctx_list_grey(manager, LIST_OR_NULL)); break;
     case READ_MISSING: take_missing(answer, grelpicado_ctx_read_missing(manager, event, present)); break;
-    case CHANGES_PAGE: take_length(answer, grelpicado_ctx_changes_page(manager, ROOM_OR_NULL)); break;
     default: give_up("no such call");
     }
 }
@@ -405,22 +394,21 @@ static bool holds(const grelpicado *manager, const struct block b[BLOCKS])
         && manager->records == bytes_of(&b[RECORDS]) && manager->records_length == b[RECORDS].length
         && manager->debounce == numbers_of(&b[DEBOUNCE]) && manager->debounce_length == count_of(&b[DEBOUNCE])
         && manager->memory == bytes_of(&b[MEMORY]) && manager->memory_length == b[MEMORY].length
-        && manager->counts == counts_of(&b[COUNTS]) && manager->counts_length == count_of(&b[COUNTS])
-        && manager->changes == bytes_of(&b[CHANGES]) && manager->changes_length == b[CHANGES].length;
+        && manager->counts == counts_of(&b[COUNTS]) && manager->counts_length == count_of(&b[COUNTS]);
 }
 
 static void by_context(const struct head *head, const struct block b[BLOCKS], struct answer *answer)
 {
-    grelpicado manager = {LENT, COUNTED, CHANGED, head->board};
+    grelpicado manager = {LENT, COUNTED, head->board};
     if (head->way == BY_BEGIN) {
         memset(&manager, 0xA5, sizeof manager);
-        answer->number = grelpicado_begin(&manager, LENT, COUNTED, CHANGED);
+        answer->number = grelpicado_begin(&manager, LENT, COUNTED);
     } else {
         on_context(head, b, &manager, answer);
     }
     answer->board = manager.board;
     if (!holds(&manager, b)) {
-        answer->broken |= MOVED;
+        answer->broken |= 0x80;
     }
 }
 
@@ -473,7 +461,7 @@ static void put_answer(struct answer *answer, const struct block blocks[BLOCKS])
 {
     for (size_t i = 0; i < BLOCKS; i++) {
         if (!guards_stand(&blocks[i])) {
-            answer->broken = (uint16_t)(answer->broken | 1u << i);
+            answer->broken = (uint8_t)(answer->broken | 1u << i);
         }
     }
     put(answer, sizeof *answer);
@@ -650,8 +638,6 @@ static void print_sizes(size_t n, size_t places, size_t frame)
         GRELPICADO_IMAGE_BYTES(n, places, frame));
     printf("GRELPICADO_REPLY_BYTES(%zu,%zu) %zu\n", n, frame, GRELPICADO_REPLY_BYTES(n, frame));
     printf("GRELPICADO_LIST_NUMBERS(%zu) %zu\n", n, GRELPICADO_LIST_NUMBERS(n));
-    printf("GRELPICADO_CHANGES_BYTES(%zu) %zu\n", n, GRELPICADO_CHANGES_BYTES(n));
-    printf("GRELPICADO_CHANGES_PAGE_BYTES(%zu) %zu\n", n, GRELPICADO_CHANGES_PAGE_BYTES(n));
 }
 
 /* What the macros that lend make of arrays of known lengths, and what GRELPICADO_CONFIG lays out. */

@@ -22,8 +22,6 @@ std::uint8_t records[GRELPICADO_RECORDS_BYTES(event_count)];
 std::int32_t debounce[GRELPICADO_DEBOUNCE_NUMBERS(event_count)];
 std::uint8_t memory[GRELPICADO_MEMORY_BYTES(place_count, frame_length)];
 std::uint32_t counts[GRELPICADO_COUNTS];
-std::uint8_t changes[GRELPICADO_CHANGES_BYTES(event_count)];
-std::uint8_t page[GRELPICADO_CHANGES_PAGE_BYTES(event_count)];
 std::uint8_t image[GRELPICADO_IMAGE_BYTES(event_count, place_count, frame_length)];
 std::uint8_t reply[GRELPICADO_REPLY_BYTES(event_count, frame_length)];
 std::uint16_t list[GRELPICADO_LIST_NUMBERS(event_count)];
@@ -31,14 +29,6 @@ std::uint16_t list[GRELPICADO_LIST_NUMBERS(event_count)];
 std::uint8_t verdict_of(grelpicado *manager, std::uint32_t code)
 {
     return grelpicado_ctx_report(manager, 0, code, nullptr, 0, GRELPICADO_ALL_PRESENT).verdict;
-}
-
-// Whether the last call changed event 0, so, and no other.
-bool tells_change(const grelpicado *manager, std::uint8_t from, std::uint8_t to)
-{
-    return grelpicado_ctx_changes_page(manager, GRELPICADO_LEND(page)).length == 4
-        && page[0] == 0 && page[1] == 0 && page[2] == from && page[3] == to
-        && grelpicado_ctx_changes_page(manager, page, 3).number == GRELPICADO_ROOM_TOO_SMALL;
 }
 
 bool a_run(grelpicado *manager)
@@ -50,9 +40,7 @@ bool a_run(grelpicado *manager)
         && grelpicado_ctx_read_missing(manager, 0, GRELPICADO_CONDITION(0)).lowest == 30
         && grelpicado_ctx_read_missing(manager, 0, GRELPICADO_ALL_PRESENT).lowest == GRELPICADO_NONE_MISSING
         && verdict_of(manager, GRELPICADO_FAILED) == GRELPICADO_VERDICT_FAILED
-        && tells_change(manager, 0x50, 0xAF)
         && grelpicado_ctx_tick(manager, GRELPICADO_MAX_TICK, nullptr, 0, 0) == GRELPICADO_DONE
-        && grelpicado_ctx_changes_page(manager, nullptr, 0).number == GRELPICADO_DONE
         && grelpicado_ctx_read_status(manager, 0).status == 0xAF
         && counts[GRELPICADO_COUNT_ADMITTED] == 1
         && grelpicado_ctx_read_counter(manager, 0).counter == 127
@@ -91,7 +79,6 @@ bool back_and_cleared(grelpicado *manager)
         && grelpicado_ctx_request(manager, GRELPICADO_LEND(details), GRELPICADO_LEND(reply)).length == 11
         && refused_while_full(manager)
         && grelpicado_ctx_clear(manager, GRELPICADO_ALL_CODES) == GRELPICADO_DONE
-        && tells_change(manager, 0xAF, GRELPICADO_FRESH_STATUS)
         && counts[GRELPICADO_COUNT_CLEARED] == 1
         && grelpicado_ctx_read_status(manager, 0).status == GRELPICADO_FRESH_STATUS;
 }
@@ -103,6 +90,6 @@ int main()
     grelpicado manager;
     const std::uint8_t begun = grelpicado_begin(
         &manager, GRELPICADO_LEND_CONFIG(config), GRELPICADO_LEND(records), GRELPICADO_LEND(debounce),
-        GRELPICADO_LEND(memory), GRELPICADO_LEND(counts), GRELPICADO_LEND(changes));
+        GRELPICADO_LEND(memory), GRELPICADO_LEND(counts));
     return begun == GRELPICADO_DONE && a_run(&manager) && back_and_cleared(&manager) ? 0 : 1;
 }

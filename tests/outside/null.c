@@ -21,11 +21,9 @@
     (void)debounce, (void)debounce_length,                  \
     (void)memory, (void)memory_length
 
-/* The same of the counts and the change bytes. */
+/* The same of the counts. */
 #define COUNTS uint32_t *counts, size_t counts_length
 #define NO_COUNTS (void)counts, (void)counts_length
-#define CHANGES uint8_t *changes, size_t changes_length
-#define NO_CHANGES (void)changes, (void)changes_length
 
 static uint8_t given_null(const uint8_t *bytes, size_t length)
 {
@@ -34,16 +32,16 @@ static uint8_t given_null(const uint8_t *bytes, size_t length)
 }
 
 grelpicado_report_answer grelpicado_report(
-    LENT(), size_t event, uint32_t code, const uint8_t *frame, size_t frame_length, uint32_t present, COUNTS, CHANGES)
+    LENT(), size_t event, uint32_t code, const uint8_t *frame, size_t frame_length, uint32_t present, COUNTS)
 {
-    UNUSED, NO_COUNTS, NO_CHANGES, (void)event, (void)code, (void)present;
+    UNUSED, NO_COUNTS, (void)event, (void)code, (void)present;
     return (grelpicado_report_answer){given_null(frame, frame_length), 0, board};
 }
 
 grelpicado_answer grelpicado_tick(
-    LENT(), uint32_t ms, const uint8_t *frame, size_t frame_length, uint32_t present, COUNTS, CHANGES)
+    LENT(), uint32_t ms, const uint8_t *frame, size_t frame_length, uint32_t present, COUNTS)
 {
-    UNUSED, NO_COUNTS, NO_CHANGES, (void)ms, (void)present;
+    UNUSED, NO_COUNTS, (void)ms, (void)present;
     return (grelpicado_answer){given_null(frame, frame_length), board};
 }
 
@@ -59,13 +57,6 @@ grelpicado_length_answer grelpicado_list_grey(LENT(const), uint16_t *list, size_
     return (grelpicado_length_answer){list == NULL ? 1 : 0, 0};
 }
 
-grelpicado_length_answer grelpicado_changes_page(
-    LENT(const), const uint8_t *changes, size_t changes_length, uint8_t *room, size_t room_length)
-{
-    UNUSED, NO_CHANGES, (void)board;
-    return (grelpicado_length_answer){given_null(room, room_length), 0};
-}
-
 grelpicado_answer grelpicado_restore(LENT(), const uint8_t *image, size_t image_length, COUNTS)
 {
     UNUSED, NO_COUNTS;
@@ -73,9 +64,9 @@ grelpicado_answer grelpicado_restore(LENT(), const uint8_t *image, size_t image_
 }
 
 grelpicado_request_answer grelpicado_request(
-    LENT(), const uint8_t *request, size_t request_length, uint8_t *room, size_t room_length, COUNTS, CHANGES)
+    LENT(), const uint8_t *request, size_t request_length, uint8_t *room, size_t room_length, COUNTS)
 {
-    UNUSED, NO_COUNTS, NO_CHANGES;
+    UNUSED, NO_COUNTS;
     uint8_t number = given_null(request, request_length) | given_null(room, room_length);
     return (grelpicado_request_answer){number, 0, board};
 }
@@ -90,13 +81,12 @@ static int lends_null(const char *call, uint8_t number)
 
 int main(void)
 {
-    grelpicado manager = {NULL, 0, NULL, 0, NULL, 0, NULL, 0, NULL, 0, NULL, 0, {{0, 0, 0, 0}, 0}};
+    grelpicado manager = {NULL, 0, NULL, 0, NULL, 0, NULL, 0, NULL, 0, {{0, 0, 0, 0}, 0}};
     uint8_t byte = 0;
     int wrong = lends_null("report", grelpicado_ctx_report(&manager, 0, 0, NULL, 0, 0).number)
         + lends_null("tick", grelpicado_ctx_tick(&manager, 0, NULL, 0, 0))
         + lends_null("save", grelpicado_ctx_save(&manager, NULL, 0).number)
         + lends_null("list grey", grelpicado_ctx_list_grey(&manager, NULL, 0).number)
-        + lends_null("changes page", grelpicado_ctx_changes_page(&manager, NULL, 0).number)
         + lends_null("restore", grelpicado_ctx_restore(&manager, NULL, 0))
         + lends_null("request", grelpicado_ctx_request(&manager, NULL, 0, &byte, 1).number)
         + lends_null("room of a request", grelpicado_ctx_request(&manager, &byte, 1, NULL, 0).number);

@@ -22,7 +22,6 @@ static uint8_t records[GRELPICADO_RECORDS_BYTES(EVENTS)];
 static int32_t debounce[GRELPICADO_DEBOUNCE_NUMBERS(EVENTS)];
 static uint8_t memory[GRELPICADO_MEMORY_BYTES(PLACES, FRAME)];
 static uint32_t counts[GRELPICADO_COUNTS];
-static uint8_t changes[GRELPICADO_CHANGES_BYTES(EVENTS)];
 static uint8_t reply[GRELPICADO_REPLY_BYTES(EVENTS, FRAME)];
 
 static void print_bytes(const uint8_t *bytes, size_t length)
@@ -77,7 +76,7 @@ int main(void)
     grelpicado manager;
     int well = grelpicado_begin(
         &manager, GRELPICADO_LEND_CONFIG(config), GRELPICADO_LEND(records), GRELPICADO_LEND(debounce),
-        GRELPICADO_LEND(memory), GRELPICADO_LEND(counts), GRELPICADO_LEND(changes)) == GRELPICADO_DONE
+        GRELPICADO_LEND(memory), GRELPICADO_LEND(counts)) == GRELPICADO_DONE
         && grelpicado_ctx_start(&manager, GRELPICADO_CYCLE_0) == GRELPICADO_DONE
         && report(&manager, 0, GRELPICADO_FAILED, 0x02) == GRELPICADO_DONE
         && report(&manager, 0, GRELPICADO_PASSED, 0x03) == GRELPICADO_DONE

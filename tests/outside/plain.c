@@ -7,8 +7,7 @@
  * header's struct. What is wrong is left at once. That no two entries are of one event is told by a mark
  * for each event seen, not by comparing pairs. A trouble code is searched by halving, since the codes
  * rise. Blocks of bytes are moved, filled and compared by the C library. Where a count is near its limit,
- * the blocks are kept, the work is done, and undone where a count would be past it. A call that goes through
- * all events writes the change byte of each on its way; one that need not zeroes them first.
+ * the blocks are kept, the work is done, and undone where a count would be past it.
  */
 #include "plain.h"
 
@@ -48,7 +47,6 @@ struct state {
     uint8_t *records;
     int32_t *debounce;
     uint8_t *memory;
-    uint8_t *changes;
     grelpicado_board board;
     uint32_t rise[GRELPICADO_COUNTS];
 };
@@ -61,10 +59,9 @@ struct state {
     writes uint8_t *memory, size_t memory_length,           \
     grelpicado_board board
 #define COUNTS uint32_t *counts, size_t counts_length
-#define CHANGES uint8_t *changes, size_t changes_length
 #define LENGTHS config, config_length, records_length, debounce_length, memory_length
 #define BLOCKS records, debounce, memory
-#define STATE {BLOCKS, changes, tidy(board), {0, 0, 0, 0, 0}}
+#define STATE {BLOCKS, tidy(board), {0, 0, 0, 0, 0}}
 
 /* ---- the configuration */
 
@@ -248,12 +245,6 @@ static uint8_t with_counts(uint8_t number, size_t counts_length)
     return number == GRELPICADO_DONE && counts_length != GRELPICADO_COUNTS ? GRELPICADO_BAD_STATE : number;
 }
 
-/* And of one that is lent change bytes, after the table was read. */
-static uint8_t with_changes(uint8_t number, const struct table *table, size_t changes_length)
-{
-    return number == GRELPICADO_DONE && changes_length != table->events ? GRELPICADO_BAD_STATE : number;
-}
-
 /* ---- the counts */
 
 /* The blocks as they were, while a call may have to be undone. */
@@ -262,23 +253,15 @@ struct kept {
     uint8_t records[GRELPICADO_RECORDS_BYTES(GRELPICADO_MAX_EVENTS)];
     int32_t debounce[GRELPICADO_DEBOUNCE_NUMBERS(GRELPICADO_MAX_EVENTS)];
     uint8_t memory[GRELPICADO_MEMORY_BYTES(GRELPICADO_MAX_PLACES, GRELPICADO_MAX_FRAME)];
-    uint8_t changes[GRELPICADO_CHANGES_BYTES(GRELPICADO_MAX_EVENTS)];
 };
 
-static void keep_blocks(const struct table *table, struct kept *kept, const struct state *state)
+static void copy_blocks(
+    const struct table *table, uint8_t *records, int32_t *debounce, uint8_t *memory,
+    const uint8_t *from_records, const int32_t *from_debounce, const uint8_t *from_memory)
 {
-    memcpy(kept->records, state->records, RECORD * table->events);
-    memcpy(kept->debounce, state->debounce, table->events * sizeof *state->debounce);
-    memcpy(kept->memory, state->memory, 1 + table->places * table->entry);
-    memcpy(kept->changes, state->changes, table->events);
-}
-
-static void undo(const struct table *table, struct state *state, const struct kept *kept)
-{
-    memcpy(state->records, kept->records, RECORD * table->events);
-    memcpy(state->debounce, kept->debounce, table->events * sizeof *state->debounce);
-    memcpy(state->memory, kept->memory, 1 + table->places * table->entry);
-    memcpy(state->changes, kept->changes, table->events);
+    memcpy(records, from_records, RECORD * table->events);
+    memcpy(debounce, from_debounce, table->events * sizeof *debounce);
+    memcpy(memory, from_memory, 1 + table->places * table->entry);
 }
 
 /* Each count rises at most once for an event: further from its limit it cannot come past it. */
@@ -290,7 +273,8 @@ static void keep_if_near(
         kept->is_kept = kept->is_kept || counts[i] > UINT32_MAX - table->events;
     }
     if (kept->is_kept) {
-        keep_blocks(table, kept, state);
+        copy_blocks(
+            table, kept->records, kept->debounce, kept->memory, state->records, state->debounce, state->memory);
     }
 }
 
@@ -300,7 +284,8 @@ static uint8_t add_or_undo(
 {
     for (size_t i = 0; kept->is_kept && i < GRELPICADO_COUNTS; i++) {
         if (state->rise[i] > UINT32_MAX - counts[i]) {
-            undo(table, state, kept);
+            copy_blocks(
+                table, state->records, state->debounce, state->memory, kept->records, kept->debounce, kept->memory);
             return GRELPICADO_COUNTS_FULL;
         }
     }
@@ -413,19 +398,6 @@ static void make_fresh(uint8_t *record)
     record[K] = record[H] = record[G] = 0;
 }
 
-/* The status of an event, and what of it changed. */
-static void set_status(struct state *state, size_t event, int status)
-{
-    uint8_t *at = &state->records[RECORD * event + STATUS];
-    state->changes[event] = (uint8_t)(*at ^ status);
-    *at = (uint8_t)status;
-}
-
-static void pass(struct state *state, size_t event)
-{
-    set_status(state, event, state->records[RECORD * event + STATUS] & ~(FAILED | UNTESTED | UNTESTED_THIS_CYCLE));
-}
-
 static void fail(const struct table *table, struct state *state, size_t event, const uint8_t *frame)
 {
     const grelpicado_event *row = &table->event[event];
@@ -439,7 +411,7 @@ static void fail(const struct table *table, struct state *state, size_t event, c
     if (record[K] >= row->confirm) {
         status |= row->indicator ? CONFIRMED | WARNING : CONFIRMED;
     }
-    set_status(state, event, status);
+    record[STATUS] = (uint8_t)status;
     record[H] = record[G] = 0;
     if (!(before & FAILED)) {
         store(table, state, event, frame);
@@ -457,7 +429,7 @@ static uint8_t qualify(
         return GRELPICADO_VERDICT_FAILED;
     }
     if (d == bottom(row)) {
-        pass(state, event);
+        state->records[RECORD * event + STATUS] &= (uint8_t)~(FAILED | UNTESTED | UNTESTED_THIS_CYCLE);
         return GRELPICADO_VERDICT_PASSED;
     }
     return GRELPICADO_VERDICT_NONE;
@@ -592,17 +564,16 @@ static uint8_t take_result(
         fail(table, state, event, frame);
         return GRELPICADO_VERDICT_FAILED;
     }
-    pass(state, event);
+    state->records[RECORD * event + STATUS] &= (uint8_t)~(FAILED | UNTESTED | UNTESTED_THIS_CYCLE);
     return GRELPICADO_VERDICT_PASSED;
 }
 
 grelpicado_report_answer plain_report(
-    LENT(), size_t event, uint32_t code, const uint8_t *frame, size_t frame_length, uint32_t present, COUNTS, CHANGES)
+    LENT(), size_t event, uint32_t code, const uint8_t *frame, size_t frame_length, uint32_t present, COUNTS)
 {
     struct table table;
     struct kept kept;
     uint8_t number = with_counts(judge(&table, LENGTHS, BLOCKS, &board), counts_length);
-    number = with_changes(number, &table, changes_length);
     if (number == GRELPICADO_DONE) {
         number = judge_report(&table, &board, event, code, frame_length, present);
     }
@@ -611,7 +582,6 @@ grelpicado_report_answer plain_report(
     }
     struct state state = STATE;
     keep_if_near(&table, &state, counts, &kept);
-    memset(changes, 0, changes_length);
     uint8_t verdict = take_result(&table, &state, event, code, frame);
     number = add_or_undo(&table, &state, counts, &kept);
     if (number != GRELPICADO_DONE) {
@@ -639,12 +609,11 @@ static void pass_time(
 }
 
 grelpicado_answer plain_tick(
-    LENT(), uint32_t ms, const uint8_t *frame, size_t frame_length, uint32_t present, COUNTS, CHANGES)
+    LENT(), uint32_t ms, const uint8_t *frame, size_t frame_length, uint32_t present, COUNTS)
 {
     struct table table;
     struct kept kept;
     uint8_t number = with_counts(judge(&table, LENGTHS, BLOCKS, &board), counts_length);
-    number = with_changes(number, &table, changes_length);
     if (number == GRELPICADO_DONE && ms > GRELPICADO_MAX_TICK) {
         number = GRELPICADO_BAD_ARGUMENT;
     }
@@ -656,7 +625,6 @@ grelpicado_answer plain_tick(
     }
     struct state state = STATE;
     keep_if_near(&table, &state, counts, &kept);
-    memset(changes, 0, changes_length);
     pass_time(&table, &state, (int32_t)ms, frame, present);
     number = add_or_undo(&table, &state, counts, &kept);
     return (grelpicado_answer){number, number == GRELPICADO_DONE ? state.board : board};
@@ -671,16 +639,16 @@ static uint8_t judge_cycle(const grelpicado_board *board, uint32_t cycle, bool m
     return (board->running[cycle] != 0) == must_run ? GRELPICADO_DONE : GRELPICADO_WRONG_CYCLE_STATE;
 }
 
-/* The header's start writes the records and the change bytes alone. */
+/* The header's start writes the records alone. */
 grelpicado_answer plain_start(
     const int32_t *config, size_t config_length,
     uint8_t *records, size_t records_length,
     const int32_t *debounce, size_t debounce_length,
     const uint8_t *memory, size_t memory_length,
-    grelpicado_board board, uint32_t cycle, CHANGES)
+    grelpicado_board board, uint32_t cycle)
 {
     struct table table;
-    uint8_t number = with_changes(judge(&table, LENGTHS, BLOCKS, &board), &table, changes_length);
+    uint8_t number = judge(&table, LENGTHS, BLOCKS, &board);
     if (number == GRELPICADO_DONE) {
         number = judge_cycle(&board, cycle, false);
     }
@@ -689,11 +657,9 @@ grelpicado_answer plain_start(
     }
     for (size_t e = 0; e < table.events; e++) {
         uint8_t *status = &records[RECORD * e + STATUS];
-        uint8_t before = *status;
         if (table.event[e].cycle == (int32_t)cycle) {
-            *status = (uint8_t)((before & ~FAILED_THIS_CYCLE) | UNTESTED_THIS_CYCLE);
+            *status = (uint8_t)((*status & ~FAILED_THIS_CYCLE) | UNTESTED_THIS_CYCLE);
         }
-        changes[e] = before ^ *status;
     }
     board.running[cycle] = 1;
     return (grelpicado_answer){GRELPICADO_DONE, tidy(board)};
@@ -702,25 +668,21 @@ grelpicado_answer plain_start(
 static void stop_events(const struct table *table, struct state *state, uint32_t cycle)
 {
     for (size_t e = 0; e < table->events; e++) {
-        uint8_t *record = state->records + RECORD * e;
-        uint8_t before = record[STATUS];
         if (table->event[e].cycle == (int32_t)cycle) {
-            if (heal_and_age(&table->event[e], record)) {
+            if (heal_and_age(&table->event[e], state->records + RECORD * e)) {
                 leave(table, state, e, GRELPICADO_COUNT_AGED);
             }
             state->debounce[e] = 0;
         }
-        state->changes[e] = before ^ record[STATUS];
     }
     state->board.running[cycle] = 0;
 }
 
-grelpicado_answer plain_stop(LENT(), uint32_t cycle, COUNTS, CHANGES)
+grelpicado_answer plain_stop(LENT(), uint32_t cycle, COUNTS)
 {
     struct table table;
     struct kept kept;
     uint8_t number = with_counts(judge(&table, LENGTHS, BLOCKS, &board), counts_length);
-    number = with_changes(number, &table, changes_length);
     if (number == GRELPICADO_DONE) {
         number = judge_cycle(&board, cycle, true);
     }
@@ -757,9 +719,7 @@ static size_t event_of(const struct table *table, uint32_t code)
 static void clear_all(const struct table *table, struct state *state)
 {
     for (size_t e = 0; e < table->events; e++) {
-        uint8_t *record = state->records + RECORD * e;
-        state->changes[e] = record[STATUS] ^ FRESH;
-        make_fresh(record);
+        make_fresh(state->records + RECORD * e);
     }
     state->rise[GRELPICADO_COUNT_CLEARED] = state->memory[0];
     memset(state->debounce, 0, table->events * sizeof *state->debounce);
@@ -778,8 +738,6 @@ static bool clear_code(const struct table *table, struct state *state, uint32_t 
     if (event == table->events) {
         return false;
     }
-    memset(state->changes, 0, table->events);
-    state->changes[event] = state->records[RECORD * event + STATUS] ^ FRESH;
     make_fresh(state->records + RECORD * event);
     state->debounce[event] = 0;
     leave(table, state, event, GRELPICADO_COUNT_CLEARED);
@@ -797,11 +755,10 @@ static uint8_t clear_counted(const struct table *table, struct state *state, uin
     return add_or_undo(table, state, counts, &kept);
 }
 
-grelpicado_answer plain_clear(LENT(), uint32_t code, COUNTS, CHANGES)
+grelpicado_answer plain_clear(LENT(), uint32_t code, COUNTS)
 {
     struct table table;
     uint8_t number = with_counts(judge(&table, LENGTHS, BLOCKS, &board), counts_length);
-    number = with_changes(number, &table, changes_length);
     if (number != GRELPICADO_DONE) {
         return (grelpicado_answer){number, board};
     }
@@ -914,12 +871,6 @@ grelpicado_paint_answer plain_read_paint(LENT(const), size_t event)
         GRELPICADO_DONE, is_grey(&table.event[event], status, &board) ? GRELPICADO_PAINT_GREY : tested};
 }
 
-static void put_two(uint8_t *at, size_t number)
-{
-    at[0] = (uint8_t)(number >> 8);
-    at[1] = (uint8_t)number;
-}
-
 /* The grey events are gathered apart, so that a list that is too short stays as it is. */
 grelpicado_length_answer plain_list_grey(LENT(const), uint16_t *list, size_t list_length)
 {
@@ -942,33 +893,6 @@ grelpicado_length_answer plain_list_grey(LENT(const), uint16_t *list, size_t lis
     return (grelpicado_length_answer){GRELPICADO_DONE, number_of_grey};
 }
 
-/* What changed, gathered apart too. The records have the new status, its change gives the old one. */
-grelpicado_length_answer plain_changes_page(
-    LENT(const), const uint8_t *changes, size_t changes_length, uint8_t *room, size_t room_length)
-{
-    struct table table;
-    uint8_t page[GRELPICADO_CHANGES_PAGE_BYTES(GRELPICADO_MAX_EVENTS)];
-    size_t length = 0;
-    uint8_t number = with_changes(judge(&table, LENGTHS, BLOCKS, &board), &table, changes_length);
-    if (number != GRELPICADO_DONE) {
-        return (grelpicado_length_answer){number, 0};
-    }
-    for (size_t e = 0; e < table.events; e++) {
-        uint8_t status = records[RECORD * e + STATUS];
-        if (changes[e] != 0) {
-            put_two(page + length, e);
-            page[length + 2] = status ^ changes[e];
-            page[length + 3] = status;
-            length += 4;
-        }
-    }
-    if (room_length < length) {
-        return (grelpicado_length_answer){GRELPICADO_ROOM_TOO_SMALL, 0};
-    }
-    memcpy(room, page, length);
-    return (grelpicado_length_answer){GRELPICADO_DONE, length};
-}
-
 grelpicado_frame_answer plain_read_frame(LENT(const), size_t event, uint32_t which)
 {
     struct table table;
@@ -989,6 +913,12 @@ grelpicado_frame_answer plain_read_frame(LENT(const), size_t event, uint32_t whi
 }
 
 /* ---- the image */
+
+static void put_two(uint8_t *at, size_t number)
+{
+    at[0] = (uint8_t)(number >> 8);
+    at[1] = (uint8_t)number;
+}
 
 /* Bytes of an entry in an image of an edition. */
 static size_t entry_of(const struct table *table, uint8_t edition)
@@ -1315,12 +1245,8 @@ static uint8_t reply(
     } else if (request[0] == CLEAR_INFORMATION) {
         code = clear_information(table, state, counts, request, request_length, room, length, &number);
     }
-    if (code == GOOD && request[0] == CLEAR_INFORMATION) {
-        return number;
-    }
-    memset(state->changes, 0, table->events); /* nothing was cleared */
     if (code == GOOD) {
-        return GRELPICADO_DONE;
+        return number;
     }
     room[0] = NEGATIVE;
     room[1] = request[0];
@@ -1330,11 +1256,10 @@ static uint8_t reply(
 }
 
 grelpicado_request_answer plain_request(
-    LENT(), const uint8_t *request, size_t request_length, uint8_t *room, size_t room_length, COUNTS, CHANGES)
+    LENT(), const uint8_t *request, size_t request_length, uint8_t *room, size_t room_length, COUNTS)
 {
     struct table table;
     uint8_t number = with_counts(judge(&table, LENGTHS, BLOCKS, &board), counts_length);
-    number = with_changes(number, &table, changes_length);
     if (number == GRELPICADO_DONE && room_length < 3) {
         number = GRELPICADO_ROOM_TOO_SMALL;
     }

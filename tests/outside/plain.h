@@ -1,5 +1,5 @@
 /*
- * The seventeen calls once more, in plain C: plain.c. Each has the type of the call of grelpicado.h whose
+ * The sixteen calls once more, in plain C: plain.c. Each has the type of the call of grelpicado.h whose
  * name it bears.
  */
 #ifndef PLAIN_H
@@ -19,7 +19,6 @@ __typeof__(grelpicado_read_missing) plain_read_missing;
 __typeof__(grelpicado_read_table) plain_read_table;
 __typeof__(grelpicado_read_paint) plain_read_paint;
 __typeof__(grelpicado_list_grey) plain_list_grey;
-__typeof__(grelpicado_changes_page) plain_changes_page;
 __typeof__(grelpicado_read_frame) plain_read_frame;
 __typeof__(grelpicado_save) plain_save;
 __typeof__(grelpicado_restore) plain_restore;

@@ -1,18 +1,17 @@
-// Runs the case files through the seventeen calls, and prints the file and the line of each case that differs, and for
+// Runs the case files through the sixteen calls, and prints the file and the line of each case that differs, and for
 // each file how many calls ran and how many differed.
 //
 // A line of a case file begins with
 //   config  a new story: the fresh state under this configuration
 //   ~       the configuration that is lent to the next call only
-//   %       the state, the counts and the change bytes that are lent to the next call
+//   %       the state and the counts that are lent to the next call
 //   >       a call, and in the next line, which begins with <, what it answers
 //   =       those after the call; where there is none, they are as before
 //   #       a remark
 ghost use Rattle.std.specs.Prelude.{◌≤◌};
 
 use manual::{
-    Board, EventNumber, FrameAnswer, FramePart, LengthAnswer, Paint, ReportReturned, Returned,
-    Verdict, Which,
+    Board, EventNumber, FrameAnswer, FramePart, LengthAnswer, Paint, Returned, Verdict, Which,
 };
 
 // How much of each block is lent, and the board.
@@ -23,7 +22,6 @@ struct Lent {
     debounce: usize,
     memory: usize,
     counts: usize,
-    changes: usize,
     board: Board,
 }
 
@@ -69,17 +67,14 @@ struct Given {
 
 #[derive(Drop)]
 enum Call {
-    Reads(Reading),
-    ChangesPage,
-    Makes(Making),
     Report,
-    Tick,
     Diagnose,
-    Moves(Moving),
+    Reads(Reading),
+    Writes(Plain),
     Unknown,
 }
 
-// The calls that only read, and are lent nothing but a room beside the state.
+// The calls that only read.
 #[derive(Drop)]
 enum Reading {
     ReadStatus,
@@ -92,19 +87,15 @@ enum Reading {
     Save,
 }
 
-// The calls that make a whole state, and are lent the counts but no change bytes.
+// The calls that answer a number alone.
 #[derive(Drop)]
-enum Making {
+enum Plain {
     Fresh,
+    Tick,
+    Start,
+    Stop,
+    Clear,
     Restore,
-}
-
-// The calls that are lent the change bytes and take a number alone.
-#[derive(Drop)]
-enum Moving {
-    Start(u32),
-    Stop(u32),
-    Clear(u32),
 }
 
 fn one_more(count: u32) -> u32 {
@@ -173,14 +164,12 @@ fn same_state(
     memory: &[u8],
     board: Board,
     counts: &[u32],
-    changes: &[u8],
 ) -> bool {
     text::same_bytes(line, text::word(line, 1), records)
         & text::same_numbers(line, text::word(line, 2), debounce)
         & text::same_bytes(line, text::word(line, 3), memory)
         & same_board(board, read_board(line))
         & text::same_wide(line, text::word(line, 6), counts)
-        & text::same_bytes(line, text::word(line, 7), changes)
 }
 
 // ---- answers, each against the line that begins with <
@@ -276,13 +265,39 @@ fn checked(says: &[u8], returned: Returned) -> Given {
     }
 }
 
-fn checked_report(says: &[u8], returned: ReportReturned) -> Given {
+fn run_report(
+    line: &[u8],
+    says: &[u8],
+    cfg: &[i32],
+    records: &mut [u8],
+    debounce: &mut [i32],
+    memory: &mut [u8],
+    board: Board,
+    counts: &mut [u32],
+) -> Given {
+    let event = event_of(line);
+    let code = number_of(line, 3);
+    let present = present_of(line, 5);
+    let mut frame = [0u8; 8192];
+    let size = text::read_bytes(line, text::word(line, 4), &mut frame);
+    let returned = reporting::report(
+        cfg,
+        records,
+        debounce,
+        memory,
+        board,
+        event,
+        code,
+        &frame[..size],
+        present,
+        counts,
+    );
     let answer = returned.answer;
-    let board = returned.board;
+    let after = returned.board;
     Given {
         agrees: same_number(says, answers::report_number(answer))
             & same_verdict(says, answers::report_verdict(answer)),
-        board,
+        board: after,
     }
 }
 
@@ -514,143 +529,6 @@ fn run_reading(
     }
 }
 
-fn page_into(
-    says: &[u8],
-    cfg: &[i32],
-    records: &[u8],
-    debounce: &[i32],
-    memory: &[u8],
-    board: Board,
-    changes: &[u8],
-    room: &mut [u8],
-) -> Given {
-    let answer = changes_page::changes_page(cfg, records, debounce, memory, board, changes, room);
-    Given {
-        agrees: same_room(says, answer, room),
-        board,
-    }
-}
-
-fn run_changes_page(
-    line: &[u8],
-    says: &[u8],
-    cfg: &[i32],
-    records: &[u8],
-    debounce: &[i32],
-    memory: &[u8],
-    board: Board,
-    changes: &[u8],
-) -> Given {
-    let mut room = [0xA5u8; 8192];
-    let size = text::most_bytes(room_of(line, 2), &room);
-    page_into(
-        says,
-        cfg,
-        records,
-        debounce,
-        memory,
-        board,
-        changes,
-        &mut room[..size],
-    )
-}
-
-fn run_making(
-    call: Making,
-    line: &[u8],
-    cfg: &[i32],
-    records: &mut [u8],
-    debounce: &mut [i32],
-    memory: &mut [u8],
-    board: Board,
-    counts: &mut [u32],
-) -> Returned {
-    let mut bytes = [0u8; 8192];
-    let size = text::read_bytes(line, text::word(line, 2), &mut bytes);
-    let bytes = &bytes[..size];
-    match call {
-        Making::Fresh => fresh_state::fresh(cfg, records, debounce, memory, board, counts),
-        Making::Restore => image::restore(cfg, records, debounce, memory, board, bytes, counts),
-    }
-}
-
-fn run_report(
-    line: &[u8],
-    cfg: &[i32],
-    records: &mut [u8],
-    debounce: &mut [i32],
-    memory: &mut [u8],
-    board: Board,
-    counts: &mut [u32],
-    changes: &mut [u8],
-) -> ReportReturned {
-    let event = event_of(line);
-    let code = number_of(line, 3);
-    let present = present_of(line, 5);
-    let mut frame = [0u8; 8192];
-    let size = text::read_bytes(line, text::word(line, 4), &mut frame);
-    reporting::report(
-        cfg,
-        records,
-        debounce,
-        memory,
-        board,
-        event,
-        code,
-        &frame[..size],
-        present,
-        counts,
-        changes,
-    )
-}
-
-fn run_tick(
-    line: &[u8],
-    cfg: &[i32],
-    records: &mut [u8],
-    debounce: &mut [i32],
-    memory: &mut [u8],
-    board: Board,
-    counts: &mut [u32],
-    changes: &mut [u8],
-) -> Returned {
-    let ms = number_of(line, 2);
-    let present = present_of(line, 4);
-    let mut frame = [0u8; 8192];
-    let size = text::read_bytes(line, text::word(line, 3), &mut frame);
-    reporting::tick(
-        cfg,
-        records,
-        debounce,
-        memory,
-        board,
-        ms,
-        &frame[..size],
-        present,
-        counts,
-        changes,
-    )
-}
-
-fn run_moving(
-    call: Moving,
-    cfg: &[i32],
-    records: &mut [u8],
-    debounce: &mut [i32],
-    memory: &mut [u8],
-    board: Board,
-    counts: &mut [u32],
-    changes: &mut [u8],
-) -> Returned {
-    match call {
-        Moving::Start(k) => cycles::start(cfg, records, debounce, memory, board, k, changes),
-        Moving::Stop(k) => cycles::stop(cfg, records, debounce, memory, board, k, counts, changes),
-        Moving::Clear(k) => {
-            clearing::clear(cfg, records, debounce, memory, board, k, counts, changes)
-        }
-    }
-}
-
 fn diagnose_into(
     says: &[u8],
     cfg: &[i32],
@@ -661,10 +539,9 @@ fn diagnose_into(
     request: &[u8],
     room: &mut [u8],
     counts: &mut [u32],
-    changes: &mut [u8],
 ) -> Given {
     let returned = diagnostics::request(
-        cfg, records, debounce, memory, board, request, room, counts, changes,
+        cfg, records, debounce, memory, board, request, room, counts,
     );
     let answer = returned.answer;
     let after = returned.board;
@@ -683,7 +560,6 @@ fn run_diagnose(
     memory: &mut [u8],
     board: Board,
     counts: &mut [u32],
-    changes: &mut [u8],
 ) -> Given {
     let mut request = [0u8; 8192];
     let length = text::read_bytes(line, text::word(line, 2), &mut request);
@@ -699,48 +575,42 @@ fn run_diagnose(
         &request[..length],
         &mut room[..size],
         counts,
-        changes,
     )
 }
 
-// A line that names none of the calls agrees with no answer.
-fn nothing_run(board: Board) -> Given {
-    Given {
-        agrees: false,
-        board,
+// The word that has such a call's frame or image; word 0, which has none, for a call that takes neither.
+fn plain_word(call: Plain) -> usize {
+    match call {
+        Plain::Tick => 3,
+        Plain::Restore => 2,
+        _ => 0,
     }
 }
 
-// Runs a call that is lent the change bytes to fill.
-fn run_changing(
-    call: Call,
+fn run_plain(
+    call: Plain,
     line: &[u8],
-    says: &[u8],
     cfg: &[i32],
     records: &mut [u8],
     debounce: &mut [i32],
     memory: &mut [u8],
     board: Board,
     counts: &mut [u32],
-    changes: &mut [u8],
-) -> Given {
+) -> Returned {
+    let k = number_of(line, 2);
+    let present = present_of(line, 4);
+    let mut bytes = [0u8; 8192];
+    let size = text::read_bytes(line, text::word(line, plain_word(call)), &mut bytes);
+    let bytes = &bytes[..size];
     match call {
-        Call::Report => checked_report(
-            says,
-            run_report(line, cfg, records, debounce, memory, board, counts, changes),
+        Plain::Fresh => fresh_state::fresh(cfg, records, debounce, memory, board, counts),
+        Plain::Tick => reporting::tick(
+            cfg, records, debounce, memory, board, k, bytes, present, counts,
         ),
-        Call::Tick => checked(
-            says,
-            run_tick(line, cfg, records, debounce, memory, board, counts, changes),
-        ),
-        Call::Moves(call) => checked(
-            says,
-            run_moving(call, cfg, records, debounce, memory, board, counts, changes),
-        ),
-        Call::Diagnose => run_diagnose(
-            line, says, cfg, records, debounce, memory, board, counts, changes,
-        ),
-        _ => nothing_run(board),
+        Plain::Start => cycles::start(cfg, records, debounce, memory, board, k),
+        Plain::Stop => cycles::stop(cfg, records, debounce, memory, board, k, counts),
+        Plain::Clear => clearing::clear(cfg, records, debounce, memory, board, k, counts),
+        Plain::Restore => image::restore(cfg, records, debounce, memory, board, bytes, counts),
     }
 }
 
@@ -755,43 +625,42 @@ fn run_call(
     memory: &mut [u8],
     board: Board,
     counts: &mut [u32],
-    changes: &mut [u8],
 ) -> Given {
     match call {
+        Call::Report => run_report(line, says, cfg, records, debounce, memory, board, counts),
+        Call::Diagnose => run_diagnose(line, says, cfg, records, debounce, memory, board, counts),
         Call::Reads(reading) => {
             run_reading(reading, line, says, cfg, records, debounce, memory, board)
         }
-        Call::ChangesPage => {
-            run_changes_page(line, says, cfg, records, debounce, memory, board, changes)
-        }
-        Call::Makes(making) => checked(
+        Call::Writes(plain) => checked(
             says,
-            run_making(making, line, cfg, records, debounce, memory, board, counts),
+            run_plain(plain, line, cfg, records, debounce, memory, board, counts),
         ),
-        _ => run_changing(
-            call, line, says, cfg, records, debounce, memory, board, counts, changes,
-        ),
+        Call::Unknown => Given {
+            agrees: false,
+            board,
+        },
     }
 }
 
-fn changing_call(line: &[u8]) -> Call {
-    if text::stands(line, 2, b"report ") {
-        return Call::Report;
+fn plain_call(line: &[u8]) -> Call {
+    if text::stands(line, 2, b"fresh") {
+        return Call::Writes(Plain::Fresh);
     }
     if text::stands(line, 2, b"tick ") {
-        return Call::Tick;
+        return Call::Writes(Plain::Tick);
     }
     if text::stands(line, 2, b"start ") {
-        return Call::Moves(Moving::Start(number_of(line, 2)));
+        return Call::Writes(Plain::Start);
     }
     if text::stands(line, 2, b"stop ") {
-        return Call::Moves(Moving::Stop(number_of(line, 2)));
+        return Call::Writes(Plain::Stop);
     }
     if text::stands(line, 2, b"clear ") {
-        return Call::Moves(Moving::Clear(number_of(line, 2)));
+        return Call::Writes(Plain::Clear);
     }
-    if text::stands(line, 2, b"diagnose ") {
-        return Call::Diagnose;
+    if text::stands(line, 2, b"restore ") {
+        return Call::Writes(Plain::Restore);
     }
     Call::Unknown
 }
@@ -821,19 +690,16 @@ fn reading_call(line: &[u8]) -> Call {
     if text::stands(line, 2, b"save ") {
         return Call::Reads(Reading::Save);
     }
-    changing_call(line)
+    plain_call(line)
 }
 
 // The call of a line that begins with >.
 fn call_of(line: &[u8]) -> Call {
-    if text::stands(line, 2, b"changes_page ") {
-        return Call::ChangesPage;
+    if text::stands(line, 2, b"report ") {
+        return Call::Report;
     }
-    if text::stands(line, 2, b"fresh") {
-        return Call::Makes(Making::Fresh);
-    }
-    if text::stands(line, 2, b"restore ") {
-        return Call::Makes(Making::Restore);
+    if text::stands(line, 2, b"diagnose ") {
+        return Call::Diagnose;
     }
     reading_call(line)
 }
@@ -854,7 +720,6 @@ fn nothing_lent() -> Lent {
         debounce: 0,
         memory: 0,
         counts: 0,
-        changes: 0,
         board: stopped(),
     }
 }
@@ -892,13 +757,11 @@ fn as_awaited(
     debounce: &[i32],
     memory: &[u8],
     counts: &[u32],
-    changes: &[u8],
 ) -> bool {
     let r = text::most_bytes(lent.records, records);
     let d = text::most_numbers(lent.debounce, debounce);
     let m = text::most_bytes(lent.memory, memory);
     let k = text::most_wide(lent.counts, counts);
-    let n = text::most_bytes(lent.changes, changes);
     let board = lent.board;
     same_state(
         want,
@@ -907,7 +770,6 @@ fn as_awaited(
         &memory[..m],
         board,
         &counts[..k],
-        &changes[..n],
     )
 }
 
@@ -928,14 +790,13 @@ fn close(
     debounce: &[i32],
     memory: &[u8],
     counts: &[u32],
-    changes: &[u8],
 ) -> Story {
     let case = now.case;
     if !case.open {
         return now;
     }
     let lent = now.lent;
-    let same = as_awaited(lent, want, records, debounce, memory, counts, changes);
+    let same = as_awaited(lent, want, records, debounce, memory, counts);
     let tally = now.tally;
     let mut after = now;
     after.tally = counted(tally, case, same);
@@ -961,14 +822,12 @@ fn run_on(
     debounce: &mut [i32],
     memory: &mut [u8],
     counts: &mut [u32],
-    changes: &mut [u8],
 ) -> Given {
     let call = call_of(line);
     let r = text::most_bytes(lent.records, records);
     let d = text::most_numbers(lent.debounce, debounce);
     let m = text::most_bytes(lent.memory, memory);
     let k = text::most_wide(lent.counts, counts);
-    let n = text::most_bytes(lent.changes, changes);
     let board = lent.board;
     run_call(
         call,
@@ -980,7 +839,6 @@ fn run_on(
         &mut memory[..m],
         board,
         &mut counts[..k],
-        &mut changes[..n],
     )
 }
 
@@ -996,7 +854,6 @@ fn lengths(line: &[u8], config: usize) -> Lent {
         debounce: events,
         memory: whole,
         counts: manual::COUNTS,
-        changes: events,
         board: stopped(),
     }
 }
@@ -1019,8 +876,7 @@ fn after_case(now: Story, lent: Lent, is_call: bool, given: Given) -> Story {
     after
 }
 
-// The line that begins with config: the fresh state in blocks of the lengths that it asks for. A fresh state fills no
-// change bytes: they are lent as zeros.
+// The line that begins with config: the fresh state in blocks of the lengths that it asks for.
 fn open_story(
     now: Story,
     line: &[u8],
@@ -1029,9 +885,7 @@ fn open_story(
     debounce: &mut [i32],
     memory: &mut [u8],
     counts: &mut [u32],
-    changes: &mut [u8],
 ) -> Story {
-    changes::none(changes);
     let n = text::read_numbers(line, 7, b' ', cfg);
     let lent = lengths(line, n);
     let given = run_on(
@@ -1043,7 +897,6 @@ fn open_story(
         debounce,
         memory,
         counts,
-        changes,
     );
     after_case(now, lent, false, given)
 }
@@ -1056,13 +909,11 @@ fn lend_state(
     debounce: &mut [i32],
     memory: &mut [u8],
     counts: &mut [u32],
-    changes: &mut [u8],
 ) -> Story {
     let r = text::read_bytes(line, text::word(line, 1), records);
     let d = text::read_numbers(line, text::word(line, 2), b',', debounce);
     let m = text::read_bytes(line, text::word(line, 3), memory);
     let k = text::read_wide(line, text::word(line, 6), b',', counts);
-    let n = text::read_bytes(line, text::word(line, 7), changes);
     let before = now.lent;
     let lent = Lent {
         config: before.config,
@@ -1070,7 +921,6 @@ fn lend_state(
         debounce: d,
         memory: m,
         counts: k,
-        changes: n,
         board: read_board(line),
     };
     let mut after = now;
@@ -1108,13 +958,10 @@ fn run_case<'a>(
     debounce: &mut [i32],
     memory: &mut [u8],
     counts: &mut [u32],
-    changes: &mut [u8],
 ) -> Story {
     let lent = now.lent;
     let config = lent_config(now, cfg, other);
-    let given = run_on(
-        lent, line, says, config, records, debounce, memory, counts, changes,
-    );
+    let given = run_on(lent, line, says, config, records, debounce, memory, counts);
     let mut after = after_case(now, lent, true, given);
     after.line = one_more(now.line);
     after
@@ -1131,14 +978,13 @@ fn take_other(
     debounce: &mut [i32],
     memory: &mut [u8],
     counts: &mut [u32],
-    changes: &mut [u8],
 ) -> Story {
     match text::byte_at(line, 0) {
-        b'c' => open_story(now, line, cfg, records, debounce, memory, counts, changes),
+        b'c' => open_story(now, line, cfg, records, debounce, memory, counts),
         b'~' => lend_config(now, line, other),
-        b'%' => lend_state(now, line, records, debounce, memory, counts, changes),
+        b'%' => lend_state(now, line, records, debounce, memory, counts),
         b'>' => run_case(
-            now, line, says, cfg, other, records, debounce, memory, counts, changes,
+            now, line, says, cfg, other, records, debounce, memory, counts,
         ),
         _ => now,
     }
@@ -1154,7 +1000,6 @@ fn settle(
     debounce: &[i32],
     memory: &[u8],
     counts: &[u32],
-    changes: &[u8],
 ) -> Story {
     let mut next = now;
     next.line = one_more(now.line);
@@ -1163,7 +1008,7 @@ fn settle(
         copy(line, want);
         return next;
     }
-    let closed = close(next, want, records, debounce, memory, counts, changes);
+    let closed = close(next, want, records, debounce, memory, counts);
     if text::byte_at(line, 0) == b'%' {
         copy(line, want);
     }
@@ -1184,12 +1029,11 @@ fn take_line(
     debounce: &mut [i32],
     memory: &mut [u8],
     counts: &mut [u32],
-    changes: &mut [u8],
 ) -> Story {
     let n = text::most_bytes(n, line);
     let k = text::most_bytes(k, says);
     let line = &line[..n];
-    let next = settle(now, line, want, records, debounce, memory, counts, changes);
+    let next = settle(now, line, want, records, debounce, memory, counts);
     take_other(
         next,
         line,
@@ -1200,7 +1044,6 @@ fn take_line(
         debounce,
         memory,
         counts,
-        changes,
     )
 }
 
@@ -1225,12 +1068,11 @@ fn next_line(
     debounce: &mut [i32; 528],
     memory: &mut [u8; 4352],
     counts: &mut [u32; 16],
-    changes: &mut [u8; 528],
 ) -> Story {
     let n = text::read_line(fd, line);
     let k = read_answer(fd, line, says);
     take_line(
-        now, line, n, says, k, want, cfg, other, records, debounce, memory, counts, changes,
+        now, line, n, says, k, want, cfg, other, records, debounce, memory, counts,
     )
 }
 
@@ -1261,7 +1103,6 @@ fn run_lines(name: &[u8], fd: i32) -> Tally {
     let mut debounce = [0i32; 528];
     let mut memory = [0u8; 4352];
     let mut counts = [0u32; 16];
-    let mut changes = [0u8; 528];
     let mut now = begin();
     for _ in 0..1_000_000_000usize {
         now = next_line(
@@ -1276,7 +1117,6 @@ fn run_lines(name: &[u8], fd: i32) -> Tally {
             &mut debounce,
             &mut memory,
             &mut counts,
-            &mut changes,
         );
         let tally = now.tally;
         now.tally = tell(name, tally);
@@ -1306,7 +1146,6 @@ fn run_file(name: &[u8]) {
 
 fn main() {
     run_file(b"calls.txt");
-    run_file(b"changes.txt");
     run_file(b"counts.txt");
     run_file(b"document.txt");
     run_file(b"states.txt");

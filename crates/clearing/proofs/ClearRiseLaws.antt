@@ -1,21 +1,19 @@
 -- Laws of what a clear adds to the counts: the entries that are gone after it, and whether that carries a count past
--- its limit; then of the call, which also fills the change bytes.
+-- its limit.
 use mathlib.Core.Path.{◌≡◌, refl, sym, ap, ◌∙◌}
 use mathlib.Core.Bool.{Bool, true, false}
 use mathlib.Core.List.{List, [], ◌∷◌}
-use Prim.Native.Nat.{ℕ, ◌-◌, ◌*◌, ◌≤◌}
+use Prim.Native.Nat.{ℕ, ◌-◌, ◌≤◌}
 use native.Mathlib.Omega.{arith}
 use lib.ListN.{length, get_or}
-use borrow.Author.Tests.{eqb-true, not-false}
-use Rattle.history.proofs.WordsLaws.{and_left, and_right}
+use borrow.Author.Tests.{not-false}
 use Rattle.manual.specs.declared.Refusal.{Refusal}
 use Rattle.manual.specs.Configuration.{Configuration, events, entry_frames, config_ok, most_places}
-use Rattle.manual.specs.State.{State, record_width}
+use Rattle.manual.specs.State.{State}
 use Rattle.manual.specs.Memory.{entry_count}
 use Rattle.manual.specs.WellFormed.{entries, well_formed}
-use Rattle.manual.specs.Answers.{lent_both, done, Rule, ◌if◌, first_that_applies, number_of}
+use Rattle.manual.specs.Answers.{lent_counts, done, Rule, ◌if◌, first_that_applies, number_of}
 use Rattle.manual.specs.Counts.{count_of, rise_of, raised, past, carries_past, with_rise, counts_fit}
-use Rattle.manual.specs.Changes.{changes_of, changes_fit, both_fit, changed_to}
 use Rattle.manual.specs.Calls.{begins, unknown_code, cleared, clear_log, clear_rules}
 use Rattle.manual.proofs.AnswersLaws.{none_applies, three_passed}
 use Rattle.manual.proofs.ConfigurationLaws.{config_tells}
@@ -26,20 +24,17 @@ use Rattle.manual.proofs.RiseIsTheEntriesGone.{clear_rise}
 use Rattle.memory.proofs.PlacesLaws.{entries_are_count}
 use Rattle.counts.specs.Near.{AreFive, some_near}
 use Rattle.counts.proofs.NearLaws.{are_five, far_from_past}
-use Rattle.changes.specs.Marks.{statuses, told_since}
-use Rattle.changes.proofs.MarksLaws.{noted_and_told}
 use Rattle.judgement.specs.declared.Check.{Check}
 use Rattle.judgement.specs.declared.Check.TheVariants.{Go, Stop}
 use Rattle.judgement.specs.Checks.{check_number}
 use Rattle.judgement.proofs.JudgedLaws.{passed_by}
 use Rattle.rehearsal.proofs.LastLaws.{last_judged, stopped_before}
-use Rattle.clearing.specs.Accepted.{MayClear, clear_done}
 
--- what the work of a clear may count on
-abbrev pub InOrder : Configuration → State → Type 0
-InOrder cfg s = (config_ok cfg ≡ true) × (well_formed cfg s ≡ true)
+-- what a clear may count on
+abbrev pub MayClear : Configuration → State → Type 0
+MayClear cfg s = (config_ok cfg ≡ true) × (well_formed cfg s ≡ true)
 
-module _ (cfg : Configuration) (s : State) (code : ℕ) (m : InOrder cfg s) where
+module _ (cfg : Configuration) (s : State) (code : ℕ) (m : MayClear cfg s) where
   -- ---- the entries that are gone
 
   pub few : entry_count s.memory ≤ most_places
@@ -85,82 +80,57 @@ module _ (cfg : Configuration) (s : State) (code : ℕ) (m : InOrder cfg s) wher
 
 -- ---- the judge: 2, 3, 4, then 12
 
-module _ (cfg : Configuration) (s : State) (code : ℕ) (counts changes : List ℕ) where
-  abbrev fit : Bool
-  fit = both_fit cfg (lent_both counts changes)
-
+module _ (cfg : Configuration) (s : State) (code : ℕ) (counts : List ℕ) where
   abbrev before : List Rule
-  before = begins cfg s fit ((4 if unknown_code cfg code) ∷ [])
+  before = begins cfg s (counts_fit counts) ((4 if unknown_code cfg code) ∷ [])
 
   abbrev last : List Rule
   last = (12 if carries_past (clear_log cfg code s) counts) ∷ []
 
-  module _ {fits : Bool} (f : fits ≡ fit) where
+  module _ {fits : Bool} (f : fits ≡ counts_fit counts) where
     as_found : {number : ℕ} → number ≡ first_that_applies (begins cfg s fits ((4 if unknown_code cfg code) ∷ []))
         → number ≡ first_that_applies before
     as_found e = e ∙ (λ i. first_that_applies (begins cfg s (f i) ((4 if unknown_code cfg code) ∷ [])))
 
     module _ {check : Check}
         (e : check_number check ≡ first_that_applies (begins cfg s fits ((4 if unknown_code cfg code) ∷ []))) where
-      pub may_be_limited : check ≡ Go → InOrder cfg s × AreFive counts
+      pub may_be_limited : check ≡ Go → MayClear cfg s × AreFive counts
       may_be_limited g =
           let z = passed_by before (as_found e) g in
-          let three = three_passed fit (well_formed cfg s) (none_applies before z refl 1) in (
-            (not-false (config_ok cfg) (none_applies before z refl 0), three.1),
-            are_five counts (and_left (counts_fit counts) (changes_fit cfg changes) three.0),
-          )
+          let three = three_passed (counts_fit counts) (well_formed cfg s) (none_applies before z refl 1) in
+          ((not-false (config_ok cfg) (none_applies before z refl 0), three.1), are_five counts three.0)
 
       pub then_limit : check ≡ Go → {past : Bool} → past ≡ carries_past (clear_log cfg code s) counts → {number : ℕ}
           → number ≡ first_that_applies ((12 if past) ∷ [])
-          → number ≡ first_that_applies (clear_rules cfg code (lent_both counts changes) s)
+          → number ≡ first_that_applies (clear_rules cfg code (lent_counts counts) s)
       unfolding clear_rules
       then_limit g q n =
           last_judged before last refl (as_found e) g (n ∙ ap (λ (p : Bool). first_that_applies ((12 if p) ∷ [])) q)
 
       pub not_so_far : (r : Refusal) → check ≡ Stop r
-          → number_of r ≡ first_that_applies (clear_rules cfg code (lent_both counts changes) s)
+          → number_of r ≡ first_that_applies (clear_rules cfg code (lent_counts counts) s)
       unfolding clear_rules
       not_so_far r g = stopped_before before last refl (as_found e) r g
 
-  -- ---- what a clear that nothing refuses may count on
+-- ---- what a clear that nothing refuses may count on, and what it leaves
 
-  pub may_clear : first_that_applies (clear_rules cfg code (lent_both counts changes) s) ≡ 0
-      → MayClear cfg code counts changes s
+module _ (cfg : Configuration) (s : State) (code : ℕ) (counts : List ℕ)
+    (z : first_that_applies (clear_rules cfg code (lent_counts counts) s) ≡ 0) where
+  pub may_clear : MayClear cfg s
   unfolding clear_rules
-  may_clear z =
-      let none = none_applies _ z refl in
-      let three = three_passed fit (well_formed cfg s) (none 1) in
-      record {
-        configured = not-false (config_ok cfg) (none 0);
-        formed = three.1;
-        five = are_five counts (and_left (counts_fit counts) (changes_fit cfg changes) three.0);
-        within = none 3;
-        n_changes = eqb-true _ _ (and_right (counts_fit counts) (changes_fit cfg changes) three.0);
-      }
+  may_clear = (
+    not-false (config_ok cfg) (none_applies _ z refl 0),
+    (three_passed (counts_fit counts) (well_formed cfg s) (none_applies _ z refl 1)).1,
+  )
 
-  -- ---- and what it leaves
+  module _ {rise : List ℕ} (p : rise ≡ rise_of (clear_log cfg code s)) where
+    pub may_raise : AreFive counts × (past (raised rise counts) ≡ false)
+    unfolding clear_rules
+    may_raise = (
+      are_five counts (three_passed (counts_fit counts) (well_formed cfg s) (none_applies _ z refl 1)).0,
+      ap (λ (l : List ℕ). past (raised l counts)) p ∙ none_applies _ z refl 3,
+    )
 
-  module _ (m : MayClear cfg code counts changes s) where
-    pub in_order : InOrder cfg s
-    in_order = (m.configured, m.formed)
-
-    -- each change byte has its event's record
-    pub may_note : record_width * length changes ≤ length s.records
-    may_note = omega (arith, m.n_changes, (state_tells cfg s m.formed).lengths.records)
-
-    module _ {rise : List ℕ} (p : rise ≡ rise_of (clear_log cfg code s)) where
-      pub may_raise : AreFive counts × (past (raised rise counts) ≡ false)
-      may_raise = (m.five, ap (λ (l : List ℕ). past (raised l counts)) p ∙ m.within)
-
-      pub leaves_done : {t : State} → t ≡ cleared cfg code s → {noted told after : List ℕ}
-          → noted ≡ statuses (length changes) s → told ≡ told_since (length noted) noted t
-          → length noted ≡ length changes → after ≡ raised rise counts
-          → done (lent_both after told) t ≡ clear_done cfg code (lent_both counts changes) s
-      leaves_done {t} q {noted} {told} {after} n o k r =
-          let as_noted : noted ≡ statuses (events cfg) s = n ∙ ap (λ (l : ℕ). statuses l s) m.n_changes in
-          let as_told : told ≡ changes_of cfg s t =
-          o ∙ (λ i. told_since ((k ∙ m.n_changes) i) (as_noted i) t) ∙ noted_and_told cfg s t in
-          let as_raised : after ≡ raised (rise_of (clear_log cfg code s)) counts =
-          r ∙ ap (λ (l : List ℕ). raised l counts) p in
-          (λ i. done (lent_both (as_raised i) (as_told i)) t)
-          ∙ ap (λ (u : State). changed_to cfg s (with_rise (clear_log cfg code s) (lent_both counts changes)) u) q
+    pub leaves_done : {t : State} → t ≡ cleared cfg code s → {after : List ℕ} → after ≡ raised rise counts
+        → done (lent_counts after) t ≡ done (with_rise (clear_log cfg code s) (lent_counts counts)) (cleared cfg code s)
+    leaves_done q r = λ i. done (lent_counts ((r ∙ ap (λ (l : List ℕ). raised l counts) p) i)) (q i)

@@ -1,10 +1,10 @@
-// Document 01, "Clear, by one trouble code or FFFFFFh for all, in any cycle state". Document 02, W8: what it changes.
+// Document 01, "Clear, by one trouble code or FFFFFFh for all, in any cycle state".
 ghost use Rattle.std.specs.Prelude.{◌≡◌, true, List, [], ◌∷◌, ℕ, ◌*◌, ◌<◌, ℤ, length};
 ghost use Rattle.manual.specs.Words.{for_below};
 ghost use Rattle.manual.specs.Configuration.{Configuration, events, config_ok};
 ghost use Rattle.manual.specs.State.{record_width, lent};
 ghost use Rattle.manual.specs.WellFormed.{well_formed};
-ghost use Rattle.manual.specs.Answers.{lent_both, done, ◌if◌, first_that_applies, of_answer, leaves};
+ghost use Rattle.manual.specs.Answers.{lent_counts, ◌if◌, first_that_applies, of_answer, leaves};
 ghost use Rattle.manual.specs.Counts.{rise_of, numbers, carries_past};
 ghost use Rattle.manual.specs.Calls.{begins, covers, unknown_code, overflow_cleared, cleared, clear_log, clear_rules};
 ghost use Rattle.manual.specs.Calls.{clear_code};
@@ -15,7 +15,6 @@ ghost use Rattle.one_event.specs.Ready.{EventFits};
 ghost use Rattle.one_event.specs.Steps.{resetting};
 ghost use Rattle.rehearsal.specs.Copies.{AsLong};
 ghost use Rattle.clearing.specs.Covered.{clears_covered};
-ghost use Rattle.clearing.specs.Accepted.{MayClear, clear_done};
 
 use config::CodeSearch;
 use judgement::Check;
@@ -159,9 +158,9 @@ fn clear_events(
     clear_each(cfg, records, debounce, memory, board, code)
 }
 
-// The work of a clear, on the lent blocks or on copies. It stores nothing: the entries that are gone after it were
-// cleared.
-fn clear_covered(
+// The work of a clear, on the lent blocks or on copies; a diagnostic request does the same. It stores nothing: the
+// entries that are gone after it were cleared.
+pub fn clear_covered(
     cfg: &[i32],
     records: &mut [u8],
     debounce: &mut [i32],
@@ -323,14 +322,13 @@ fn judge(
     board: Board,
     code: u32,
     counts: &[u32],
-    changes: &[u8],
 ) -> Check
     ensures { check_number result
         ≡ first_that_applies
-        (clear_rules cfg.now code (lent_both counts.now changes.now)
+        (clear_rules cfg.now code (lent_counts counts.now)
         (lent records.now debounce.now memory.now board)) }
 {
-    let fits = changes::both_fit(cfg, counts, changes);
+    let fits = counts::fit(counts);
     match judge_known(cfg, records, debounce, memory, board, fits, code) {
         Check::Go => {
             let past = carries_past(cfg, records, debounce, memory, board, code, counts);
@@ -340,34 +338,8 @@ fn judge(
     }
 }
 
-// A clear that nothing refuses, with all that is lent to it: the counts rise by the entries that leave, and the change
-// bytes say what became of each status. A diagnostic request that clears does the same.
-pub fn accept(
-    cfg: &[i32],
-    records: &mut [u8],
-    debounce: &mut [i32],
-    memory: &mut [u8],
-    board: Board,
-    code: u32,
-    counts: &mut [u32],
-    changes: &mut [u8],
-) -> Board
-    requires { MayClear cfg.now code counts.old changes.old
-        (lent records.old debounce.old memory.old board) }
-    ensures { done (lent_both counts.new changes.new)
-        (lent records.new debounce.new memory.new result)
-        ≡ clear_done cfg.now code (lent_both counts.old changes.old)
-        (lent records.old debounce.old memory.old board) }
-{
-    changes::note(records, changes);
-    let after = clear_covered(cfg, records, debounce, memory, board, code);
-    changes::tell(records, changes);
-    counts::raise(counts, after.rise);
-    after.board
-}
-
 // "Clear, by one trouble code or FFFFFFh for all, in any cycle state: each covered event gets status 50h, K = h = g = D
-// = 0, its entry leaves; clearing all also clears overflow."
+// = 0, its entry leaves; clearing all also clears overflow." The counts rise by the entries that leave.
 pub fn clear(
     cfg: &[i32],
     records: &mut [u8],
@@ -376,16 +348,17 @@ pub fn clear(
     board: Board,
     code: u32,
     counts: &mut [u32],
-    changes: &mut [u8],
 ) -> Returned
-    ensures { leaves (of_answer result.answer) [] (lent_both counts.new changes.new)
+    ensures { leaves (of_answer result.answer) [] (lent_counts counts.new)
         (lent records.new debounce.new memory.new result.board)
-        ≡ clear_code cfg.now code (lent_both counts.old changes.old)
+        ≡ clear_code cfg.now code (lent_counts counts.old)
         (lent records.old debounce.old memory.old board) }
 {
-    match judge(cfg, records, debounce, memory, board, code, counts, changes) {
+    match judge(cfg, records, debounce, memory, board, code, counts) {
         Check::Go => {
-            let board_after = accept(cfg, records, debounce, memory, board, code, counts, changes);
+            let after = clear_covered(cfg, records, debounce, memory, board, code);
+            counts::raise(counts, after.rise);
+            let board_after = after.board;
             Returned {
                 answer: Answer::Done,
                 board: board_after,

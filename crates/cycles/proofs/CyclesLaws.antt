@@ -1,19 +1,18 @@
--- Laws of the start and the stop of a cycle: what a passed judgement gives, and the change bytes that they fill.
-use mathlib.Core.Path.{◌≡◌, refl, sym, ap, ◌∙◌}
+-- Laws of the start and the stop of a cycle: what a passed judgement gives.
+use mathlib.Core.Path.{◌≡◌, refl}
 use mathlib.Core.Bool.{Bool, true}
 use mathlib.Core.List.{List}
 use Prim.Native.Nat.{ℕ, ◌+◌, ◌*◌, ◌≤◌, ◌<◌}
 use native.Mathlib.Omega.{arith}
 use lib.Dec.{ltb}
 use lib.ListN.{length}
-use borrow.Author.Tests.{eqb-true, ltb-false, not-false}
+use borrow.Author.Tests.{ltb-false, not-false}
 use Rattle.manual.specs.Words.{for_below}
 use Rattle.manual.specs.Configuration.{Configuration, events, config_ok}
 use Rattle.manual.specs.State.{State, record_width}
 use Rattle.manual.specs.WellFormed.{well_formed}
 use Rattle.manual.specs.OneEvent.{stops}
-use Rattle.manual.specs.Answers.{Beside, with_changes, done, first_that_applies}
-use Rattle.manual.specs.Changes.{changes_of, changes_fit, changed_to}
+use Rattle.manual.specs.Answers.{first_that_applies}
 use Rattle.manual.specs.Calls.{begins, of_cycle}
 use Rattle.manual.proofs.AnswersLaws.{none_applies, three_passed}
 use Rattle.manual.proofs.ConfigurationLaws.{config_tells}
@@ -21,28 +20,10 @@ use Rattle.manual.proofs.WellFormedLaws.{state_tells}
 use Rattle.manual.proofs.StaysWellFormed.{stops_keep}
 use Rattle.config.specs.Rows.{RowWithin}
 use Rattle.config.proofs.PartLaws.{row_within}
-use Rattle.changes.specs.Marks.{statuses, told_since}
-use Rattle.changes.proofs.MarksLaws.{noted_and_told}
 use Rattle.judgement.specs.Fits.{RecordsFor}
 use Rattle.one_event.specs.Ready.{EventFits}
 use Rattle.cycles.specs.Cycles.{four_five, MayStop}
 use Rattle.one_event.proofs.TurnsLaws.{turn, ready_at_turn}
-
--- ---- n change bytes: the statuses before, and then what became of each
-
-module _ (cfg : Configuration) (s : State) (changes : List ℕ) (n : length changes ≡ events cfg) where
-  -- each has its event's record
-  pub may_note : well_formed cfg s ≡ true → record_width * length changes ≤ length s.records
-  may_note formed = omega (arith, n, (state_tells cfg s formed).lengths.records)
-
-  pub changed : (b : Beside) {t after : State} → t ≡ after → {noted told : List ℕ}
-      → noted ≡ statuses (length changes) s → told ≡ told_since (length noted) noted t → length noted ≡ length changes
-      → done (with_changes told b) t ≡ changed_to cfg s b after
-  changed b {t} p {noted} {told} q o k =
-      let as_noted : noted ≡ statuses (events cfg) s = q ∙ ap (λ (l : ℕ). statuses l s) n in
-      let as_told : told ≡ changes_of cfg s t =
-      o ∙ (λ i. told_since ((k ∙ n) i) (as_noted i) t) ∙ noted_and_told cfg s t in
-      ap (λ (l : List ℕ). done (with_changes l b) t) as_told ∙ ap (changed_to cfg s b) p
 
 -- ---- what a passed judgement gives
 
@@ -58,13 +39,6 @@ module _ (cfg : Configuration) (s : State) (c : ℕ) (fits wrong : Bool)
   -- what is lent beside the state has its length
   pub is_fit : fits ≡ true
   is_fit = (three_passed fits (well_formed cfg s) (none_applies _ z refl 1)).0
-
-  pub n_changes : (changes : List ℕ) → fits ≡ changes_fit cfg changes → length changes ≡ events cfg
-  n_changes changes q = eqb-true _ _ (sym q ∙ is_fit)
-
-  pub may_note_start : (changes : List ℕ) → fits ≡ changes_fit cfg changes
-      → record_width * length changes ≤ length s.records
-  may_note_start changes q = may_note cfg s changes (n_changes changes q) may_stop.formed
 
   pub may_start : RecordsFor cfg s.records × (c < 4)
   may_start = (

@@ -1,22 +1,20 @@
 -- Laws of what a stop adds to the counts: the entries that are gone after it, and whether that carries a count past
--- its limit; then of the call, which also fills the change bytes.
+-- its limit.
 use mathlib.Core.Path.{◌≡◌, refl, sym, ap, ◌∙◌}
 use mathlib.Core.Bool.{Bool, true, false, not}
 use mathlib.Core.List.{List, [], ◌∷◌}
-use Prim.Native.Nat.{ℕ, ◌-◌, ◌*◌, ◌≤◌, ◌<◌}
+use Prim.Native.Nat.{ℕ, ◌-◌, ◌≤◌, ◌<◌}
 use native.Mathlib.Omega.{arith}
 use lib.Dec.{ltb}
 use lib.ListN.{length, get_or}
-use borrow.Author.Tests.{eqb-true, not-false, ltb-false}
-use Rattle.history.proofs.WordsLaws.{and_left, and_right}
+use borrow.Author.Tests.{not-false, ltb-false}
 use Rattle.manual.specs.declared.Refusal.{Refusal}
 use Rattle.manual.specs.Configuration.{Configuration, events, entry_frames, config_ok, most_places}
-use Rattle.manual.specs.State.{State, record_width, runs}
+use Rattle.manual.specs.State.{State, runs}
 use Rattle.manual.specs.Memory.{entry_count}
 use Rattle.manual.specs.WellFormed.{entries, well_formed}
-use Rattle.manual.specs.Answers.{lent_both, done, Rule, ◌if◌, first_that_applies, number_of}
+use Rattle.manual.specs.Answers.{lent_counts, done, Rule, ◌if◌, first_that_applies, number_of}
 use Rattle.manual.specs.Counts.{count_of, rise_of, raised, past, carries_past, with_rise, counts_fit}
-use Rattle.manual.specs.Changes.{changes_fit, both_fit, changed_to}
 use Rattle.manual.specs.Calls.{begins, stop_log, stop_rules}
 use Rattle.manual.proofs.AnswersLaws.{none_applies, three_passed}
 use Rattle.manual.proofs.ConfigurationLaws.{config_tells}
@@ -27,14 +25,13 @@ use Rattle.manual.proofs.RiseIsTheEntriesGone.{stop_rise}
 use Rattle.memory.proofs.PlacesLaws.{entries_are_count}
 use Rattle.counts.specs.Near.{AreFive, some_near}
 use Rattle.counts.proofs.NearLaws.{are_five, far_from_past}
-use Rattle.changes.specs.Marks.{statuses, told_since}
 use Rattle.judgement.specs.declared.Check.{Check}
 use Rattle.judgement.specs.declared.Check.TheVariants.{Go, Stop}
 use Rattle.judgement.specs.Checks.{check_number}
 use Rattle.judgement.proofs.JudgedLaws.{passed_by}
 use Rattle.rehearsal.proofs.LastLaws.{last_judged, stopped_before}
 use Rattle.cycles.specs.Cycles.{four_five, MayStop, stopped}
-use Rattle.cycles.proofs.CyclesLaws.{may_stop, is_fit, may_note, changed}
+use Rattle.cycles.proofs.CyclesLaws.{may_stop, is_fit}
 
 module _ (cfg : Configuration) (s : State) (c : ℕ) (m : MayStop cfg s c) where
   -- ---- the entries that are gone
@@ -86,23 +83,14 @@ module _ (cfg : Configuration) (s : State) (c : ℕ) (m : MayStop cfg s c) where
 
 -- ---- the judge of a stop: 2, 3, 4, 5 by the check that a start begins with too, then 12
 
-module _ (cfg : Configuration) (s : State) (c : ℕ) (counts changes : List ℕ) where
-  abbrev fit : Bool
-  fit = both_fit cfg (lent_both counts changes)
-
-  are_fit : fit ≡ true → AreFive counts × (length changes ≡ events cfg)
-  are_fit h = (
-    are_five counts (and_left (counts_fit counts) (changes_fit cfg changes) h),
-    eqb-true _ _ (and_right (counts_fit counts) (changes_fit cfg changes) h),
-  )
-
+module _ (cfg : Configuration) (s : State) (c : ℕ) (counts : List ℕ) where
   abbrev before : List Rule
-  before = begins cfg s fit (four_five (ltb 3 c) (not (runs s.board c)))
+  before = begins cfg s (counts_fit counts) (four_five (ltb 3 c) (not (runs s.board c)))
 
   abbrev last : List Rule
   last = (12 if carries_past (stop_log cfg c s) counts) ∷ []
 
-  module _ {fits wrong : Bool} (f : fits ≡ fit) (w : wrong ≡ not (runs s.board c)) where
+  module _ {fits wrong : Bool} (f : fits ≡ counts_fit counts) (w : wrong ≡ not (runs s.board c)) where
     as_found : {number : ℕ} → number ≡ first_that_applies (begins cfg s fits (four_five (ltb 3 c) wrong))
         → number ≡ first_that_applies before
     as_found e = e ∙ (λ i. first_that_applies (begins cfg s (f i) (four_five (ltb 3 c) (w i))))
@@ -112,49 +100,41 @@ module _ (cfg : Configuration) (s : State) (c : ℕ) (counts changes : List ℕ)
       pub may_be_limited : check ≡ Go → MayStop cfg s c × AreFive counts
       may_be_limited g =
           let z = passed_by before (as_found e) g in
-          (may_stop cfg s c fit _ z, (are_fit (is_fit cfg s c fit _ z)).0)
+          (may_stop cfg s c (counts_fit counts) _ z, are_five counts (is_fit cfg s c (counts_fit counts) _ z))
 
       pub then_limit : check ≡ Go → {past : Bool} → past ≡ carries_past (stop_log cfg c s) counts → {number : ℕ}
           → number ≡ first_that_applies ((12 if past) ∷ [])
-          → number ≡ first_that_applies (stop_rules cfg c (lent_both counts changes) s)
+          → number ≡ first_that_applies (stop_rules cfg c (lent_counts counts) s)
       unfolding stop_rules
       then_limit g q n =
           last_judged before last refl (as_found e) g (n ∙ ap (λ (p : Bool). first_that_applies ((12 if p) ∷ [])) q)
 
       pub not_so_far : (r : Refusal) → check ≡ Stop r
-          → number_of r ≡ first_that_applies (stop_rules cfg c (lent_both counts changes) s)
+          → number_of r ≡ first_that_applies (stop_rules cfg c (lent_counts counts) s)
       unfolding stop_rules
       not_so_far r g = stopped_before before last refl (as_found e) r g
 
-  -- ---- what a stop that nothing refuses may count on, and what it leaves
+-- ---- what a stop that nothing refuses may count on, and what it leaves
 
-  module _ (z : first_that_applies (stop_rules cfg c (lent_both counts changes) s) ≡ 0) where
-    three : (fit ≡ true) × (well_formed cfg s ≡ true)
+module _ (cfg : Configuration) (s : State) (c : ℕ) (counts : List ℕ)
+    (z : first_that_applies (stop_rules cfg c (lent_counts counts) s) ≡ 0) where
+  pub accepted : MayStop cfg s c
+  unfolding stop_rules
+  accepted = record {
+    configured = not-false (config_ok cfg) (none_applies _ z refl 0);
+    formed = (three_passed (counts_fit counts) (well_formed cfg s) (none_applies _ z refl 1)).1;
+    is_cycle = let h = ltb-false 3 c (none_applies _ z refl 2) in omega arith;
+  }
+
+  module _ {rise : List ℕ} (p : rise ≡ rise_of (stop_log cfg c s)) where
+    pub may_raise : AreFive counts × (past (raised rise counts) ≡ false)
     unfolding stop_rules
-    three = three_passed fit (well_formed cfg s) (none_applies _ z refl 1)
+    may_raise = (
+      are_five counts (three_passed (counts_fit counts) (well_formed cfg s) (none_applies _ z refl 1)).0,
+      ap (λ (l : List ℕ). past (raised l counts)) p ∙ none_applies _ z refl 4,
+    )
 
-    pub accepted : MayStop cfg s c
-    unfolding stop_rules
-    accepted = record {
-      configured = not-false (config_ok cfg) (none_applies _ z refl 0);
-      formed = three.1;
-      is_cycle = let h = ltb-false 3 c (none_applies _ z refl 2) in omega arith;
-    }
-
-    pub may_note_stop : record_width * length changes ≤ length s.records
-    may_note_stop = may_note cfg s changes (are_fit three.0).1 three.1
-
-    module _ {rise : List ℕ} (p : rise ≡ rise_of (stop_log cfg c s)) where
-      pub may_raise : AreFive counts × (past (raised rise counts) ≡ false)
-      unfolding stop_rules
-      may_raise =
-          ((are_fit three.0).0, ap (λ (l : List ℕ). past (raised l counts)) p ∙ none_applies _ z refl 4)
-
-      pub leaves_done : {t : State} → t ≡ stopped cfg c s → {noted told after : List ℕ}
-          → noted ≡ statuses (length changes) s → told ≡ told_since (length noted) noted t
-          → length noted ≡ length changes → after ≡ raised rise counts
-          → done (lent_both after told) t
-          ≡ changed_to cfg s (with_rise (stop_log cfg c s) (lent_both counts changes)) (stopped cfg c s)
-      leaves_done {t} q {noted} {told} n o k r =
-          ap (λ (l : List ℕ). done (lent_both l told) t) (r ∙ ap (λ (l : List ℕ). raised l counts) p)
-          ∙ changed cfg s changes (are_fit three.0).1 (with_rise (stop_log cfg c s) (lent_both counts changes)) q n o k
+    pub leaves_done : {t : State} → t ≡ stopped cfg c s → {after : List ℕ} → after ≡ raised rise counts
+        → done (lent_counts after) t ≡ done (with_rise (stop_log cfg c s) (lent_counts counts)) (stopped cfg c s)
+    leaves_done q r =
+        λ i. done (lent_counts ((r ∙ ap (λ (l : List ℕ). raised l counts) p) i)) (q i)

@@ -1,11 +1,11 @@
-// Document 01, "Status byte": the calls that start and stop a cycle. Document 02, W8: what they change.
+// Document 01, "Status byte": the calls that start and stop a cycle.
 ghost use Rattle.std.specs.Prelude.{◌≡◌, true, cond, List, [], ℕ, ◌+◌, ◌*◌, ◌≤◌, ◌<◌, ltb, ℤ, length};
 ghost use Rattle.history.specs.History.{start};
 ghost use Rattle.manual.specs.declared.Board.{Board};
 ghost use Rattle.manual.specs.State.{record_width, lent, with_cycle};
 ghost use Rattle.manual.specs.OneEvent.{happens, stops, for_those};
-ghost use Rattle.manual.specs.Answers.{Beside, lent_changes, lent_both, refused, done, first_that_applies, number_of};
-ghost use Rattle.manual.specs.Answers.{of_answer, leaves};
+ghost use Rattle.manual.specs.Answers.{Beside, alone, lent_counts, refused, done, first_that_applies, number_of, of_answer};
+ghost use Rattle.manual.specs.Answers.{leaves};
 ghost use Rattle.manual.specs.Counts.{rise_of, numbers, carries_past};
 ghost use Rattle.manual.specs.Calls.{begins, of_cycle, start_cycle, stop_log, stop_rules, stop_cycle};
 ghost use Rattle.config.specs.Rows.{RowWithin};
@@ -140,7 +140,7 @@ fn accept_start(cfg: &[i32], records: &mut [u8], board: Board, cycle: usize) -> 
     turned(board, cycle, true)
 }
 
-// The call that starts a cycle; "5 | … start, cycle running". The change bytes say what became of each status.
+// The call that starts a cycle; "5 | … start, cycle running".
 pub fn start(
     cfg: &[i32],
     records: &mut [u8],
@@ -148,22 +148,15 @@ pub fn start(
     memory: &[u8],
     board: Board,
     cycle: u32,
-    changes: &mut [u8],
 ) -> Returned
-    ensures { leaves (of_answer result.answer) [] (lent_changes changes.new)
+    ensures { leaves (of_answer result.answer) [] alone
         (lent records.new debounce.now memory.now result.board)
-        ≡ start_cycle cfg.now cycle (lent_changes changes.old)
+        ≡ start_cycle cfg.now cycle alone
         (lent records.old debounce.now memory.now board) }
 {
     let wrong = judgement::runs(board, cycle as usize);
-    let fits = changes::fit(cfg, changes);
-    match judge(cfg, records, debounce, memory, board, fits, cycle, wrong) {
-        Check::Go => {
-            changes::note(records, changes);
-            let after = accept_start(cfg, records, board, cycle as usize);
-            changes::tell(records, changes);
-            done(after)
-        }
+    match judge(cfg, records, debounce, memory, board, true, cycle, wrong) {
+        Check::Go => done(accept_start(cfg, records, board, cycle as usize)),
         Check::Stop(refusal) => refused(refusal, board),
     }
 }
@@ -339,16 +332,15 @@ fn judge_stop(
     board: Board,
     cycle: u32,
     counts: &[u32],
-    changes: &[u8],
 ) -> Check
     ensures { check_number result
         ≡ first_that_applies
-        (stop_rules cfg.now cycle (lent_both counts.now changes.now)
+        (stop_rules cfg.now cycle (lent_counts counts.now)
         (lent records.now debounce.now memory.now board)) }
 {
     let c = cycle as usize;
     let wrong = !judgement::runs(board, c);
-    let fits = changes::both_fit(cfg, counts, changes);
+    let fits = counts::fit(counts);
     match judge(cfg, records, debounce, memory, board, fits, cycle, wrong) {
         Check::Go => rehearsal::limit_test(carries_past(
             cfg, records, debounce, memory, board, c, counts,
@@ -357,8 +349,7 @@ fn judge_stop(
     }
 }
 
-// The call that stops a cycle; "5 | … stop, cycle stopped". The counts rise by the entries that age; the change bytes
-// say what became of each status.
+// The call that stops a cycle; "5 | … stop, cycle stopped". The counts rise by the entries that age.
 pub fn stop(
     cfg: &[i32],
     records: &mut [u8],
@@ -367,20 +358,15 @@ pub fn stop(
     board: Board,
     cycle: u32,
     counts: &mut [u32],
-    changes: &mut [u8],
 ) -> Returned
-    ensures { leaves (of_answer result.answer) [] (lent_both counts.new changes.new)
+    ensures { leaves (of_answer result.answer) [] (lent_counts counts.new)
         (lent records.new debounce.new memory.new result.board)
-        ≡ stop_cycle cfg.now cycle (lent_both counts.old changes.old)
+        ≡ stop_cycle cfg.now cycle (lent_counts counts.old)
         (lent records.old debounce.old memory.old board) }
 {
-    match judge_stop(
-        cfg, records, debounce, memory, board, cycle, counts, changes,
-    ) {
+    match judge_stop(cfg, records, debounce, memory, board, cycle, counts) {
         Check::Go => {
-            changes::note(records, changes);
             let after = accept_stop(cfg, records, debounce, memory, board, cycle as usize);
-            changes::tell(records, changes);
             counts::raise(counts, after.rise);
             done(after.board)
         }

@@ -7,26 +7,21 @@ use mathlib.Core.Option.{Option, none, some, some-injective, none-ne-some}
 use Prim.Native.Nat.{ℕ, ◌≤◌}
 use native.Mathlib.Omega.{arith}
 use lib.Dec.{eqb, ltb}
-use lib.ListN.{length, get_or, replicate}
-use borrow.Author.Tests.{eq-eqb, ne_eqb, eqb-true, ltb-false, not-false}
-use Rattle.history.proofs.WordsLaws.{and_left, and_right}
+use lib.ListN.{length, get_or}
+use borrow.Author.Tests.{eq-eqb, ne_eqb, ltb-false, not-false}
 use Rattle.manual.specs.declared.Refusal.{Refusal}
 use Rattle.manual.specs.declared.LengthAnswer.TheVariants.{Written}
 use Rattle.manual.specs.Words.{three_at}
-use Rattle.manual.specs.Configuration.{Configuration, events, config_ok}
+use Rattle.manual.specs.Configuration.{Configuration, config_ok}
 use Rattle.manual.specs.State.{State}
 use Rattle.manual.specs.WellFormed.{well_formed}
-use Rattle.manual.specs.Answers.{Beside, lent_all, lent_room, lent_both, with_room, with_changes, Outcome, done}
-use Rattle.manual.specs.Answers.{Rule, ◌if◌, first_that_applies, number_of, Answered, of_length, leaves}
-use Rattle.manual.specs.Counts.{rise_of, raised, carries_past, counts_fit}
-use Rattle.manual.specs.Changes.{changes_of, changes_fit, both_fit}
+use Rattle.manual.specs.Answers.{lent_room, lent_both, with_counts, Outcome, Rule, ◌if◌, first_that_applies, number_of}
+use Rattle.manual.specs.Answers.{of_length, leaves}
+use Rattle.manual.specs.Counts.{rise_of, raised, past, carries_past, counts_fit}
 use Rattle.manual.specs.Calls.{begins, unknown_code, cleared, clear_log}
-use Rattle.manual.specs.Diagnostics.{positive, negative, reply_bytes, Served, served, service19}
-use Rattle.manual.specs.Diagnostics.{service14, served_by, sent, replied, asks_clear, counts_after, beside_after}
-use Rattle.manual.specs.Diagnostics.{request_rules}
-use Rattle.manual.proofs.AnswersLaws.{none_applies, three_passed, beside_by}
-use Rattle.manual.proofs.ChangesLaws.{nothing_changed}
-use Rattle.manual.proofs.RepliesLaws.{counts_stay, counts_rise}
+use Rattle.manual.specs.Diagnostics.{positive, negative, reply_bytes, served, service19}
+use Rattle.manual.specs.Diagnostics.{service14, served_by, sent, replied, asks_clear, counts_after, request_rules}
+use Rattle.manual.proofs.AnswersLaws.{none_applies, three_passed}
 use Rattle.writing.specs.Writing.{written, append}
 use Rattle.writing.proofs.WritingLaws.{append_next}
 use Rattle.counts.specs.Near.{AreFive}
@@ -36,9 +31,7 @@ use Rattle.judgement.specs.declared.Check.TheVariants.{Go, Stop}
 use Rattle.judgement.specs.Checks.{check_number}
 use Rattle.judgement.proofs.JudgedLaws.{passed_by}
 use Rattle.rehearsal.proofs.LastLaws.{last_judged, stopped_before}
-use Rattle.clearing.specs.Accepted.{clear_done}
-use Rattle.diagnostics.specs.Replies.{sent_is, Accepted, service_is, clears14, code_where, left_to_clear, clears_past}
-use Rattle.diagnostics.specs.Replies.{MayFinish, replying, finished}
+use Rattle.diagnostics.specs.Replies.{sent_is, service_is, clears14, code_where, clears_past, MayAnswer, answered}
 use Rattle.diagnostics.specs.declared.Service.{Service}
 use Rattle.diagnostics.specs.declared.Service.TheVariants.{Replied, Clear}
 use Rattle.diagnostics.proofs.RepliesLaws.{written_is_sent}
@@ -140,6 +133,10 @@ module _ (cfg : Configuration) (request : List ℕ) where
       not_asked : asks_clear cfg request ≡ false
       not_asked = asked_none (asks_clear cfg request) (three_at 1 request) p
 
+      pub counts_stay : (room : List ℕ) → counts ≡ counts_after cfg request (lent_both room counts) s
+      unfolding counts_after
+      counts_stay room = rw not_asked
+
       -- it is never 12
       pub no_limit : 0 ≡ first_that_applies ((12 if clears_past cfg request counts s) ∷ [])
       unfolding first_that_applies
@@ -160,151 +157,103 @@ module _ (cfg : Configuration) (request : List ℕ) where
           → number ≡ first_that_applies ((12 if clears_past cfg request counts s) ∷ [])
       limit_is q n = n ∙ ap (λ (b : Bool). first_that_applies ((12 if b) ∷ [])) (q ∙ past_is)
 
--- ---- what is left to do once the reply is written
+      module _ {rise : List ℕ} (q : rise ≡ rise_of (clear_log cfg code s)) where
+        pub may_raise : AreFive counts → clears_past cfg request counts s ≡ false
+            → AreFive counts × (past (raised rise counts) ≡ false)
+        may_raise five z = (five, ap (λ (l : List ℕ). past (raised l counts)) q ∙ past_is ∙ z)
 
-module _ (cfg : Configuration) (b : Beside) (s : State) {left : Service} where
-  pub nothing_left : (size : ℕ) {changes : List ℕ} → length b.changes ≡ events cfg → left ≡ Replied size
-      → changes ≡ replicate (length b.changes) 0
-      → leaves (of_length (Written size)) [] (with_changes changes b) s ≡ finished cfg left b s
-  nothing_left size n e r =
-      let none = r ∙ ap (λ (k : ℕ). replicate k 0) n ∙ sym (nothing_changed cfg s) in
-      ap (λ (l : List ℕ). replying size (done (with_changes l b) s)) none
-      ∙ ap (λ (k : Service). finished cfg k b s) (sym e)
-
-  pub clear_left : (code : ℕ) {b' : Beside} {t : State} → left ≡ Clear code → done b' t ≡ clear_done cfg code b s
-      → leaves (of_length (Written 1)) [] b' t ≡ finished cfg left b s
-  clear_left code e d = ap (replying 1) d ∙ ap (λ (k : Service). finished cfg k b s) (sym e)
+        pub counts_rise : (room : List ℕ) {after : List ℕ} → after ≡ raised rise counts
+            → after ≡ counts_after cfg request (lent_both room counts) s
+        unfolding counts_after
+        counts_rise room h =
+            rw asked
+            (h ∙ ap (λ (l : List ℕ). raised l counts) (q ∙ ap (λ (k : ℕ). rise_of (clear_log cfg k s)) is_code))
 
 -- ---- the call
 
--- an outcome beside which these counts and change bytes are lent
-abbrev lending : List ℕ → List ℕ → Outcome → Outcome
-lending counts changes o = beside_by (λ b. lent_all b.room counts changes) o
+-- an outcome beside which these counts are lent
+abbrev counting : List ℕ → Outcome → Outcome
+counting counts o = record {
+  answer = o.answer;
+  verdict = o.verdict;
+  value = o.value;
+  part = o.part;
+  beside = with_counts counts o.beside;
+  state = o.state;
+}
 
--- what is lent beside the state: the room for its reply, the counts and the change bytes
-module _ (cfg : Configuration) (request : List ℕ) (b : Beside) (s : State) where
-  abbrev its_service : Served
-  its_service = served_by cfg request (length b.room) s
-
-  -- what a request that nothing refuses may count on
-  pub record MayAnswer : Type 0 where
-    pub accepted : Accepted cfg b.room
-    pub formed : well_formed cfg s ≡ true
-    pub five : AreFive b.counts
-    pub n_changes : length b.changes ≡ events cfg
-    pub not_past : clears_past cfg request b.counts s ≡ false
-
-  -- and what it leaves
-  abbrev pub answered : Outcome
-  answered = replied cfg (get_or request 0 0) (beside_after cfg request b s) its_service
-
-  -- a reply sees neither the counts nor the change bytes
-  sent_lending : (counts changes bytes : List ℕ) (t : State)
-      → lending counts changes (sent cfg bytes (lent_room b.room) t)
-      ≡ sent cfg bytes (lent_all b.room counts changes) t
+module _ (cfg : Configuration) (request room : List ℕ) (s : State) where
+  -- a reply does not see the counts
+  sent_counting : (counts bytes : List ℕ) (t : State)
+      → counting counts (sent cfg bytes (lent_room room) t) ≡ sent cfg bytes (lent_both room counts) t
   unfolding sent
-  sent_lending counts changes bytes t = refl
+  sent_counting counts bytes t = refl
 
-  state_after : {o : Outcome} → Serves cfg request b.room s o → o.state ≡ its_service.state
-  unfolding sent
-  state_after p = ap (λ (o : Outcome). o.state) p
+  pub with_counts_lem : (counts : List ℕ) {o : Outcome} {after : List ℕ}
+      → after ≡ counts_after cfg request (lent_both room counts) s → Serves cfg request room s o
+      → counting after o ≡ answered cfg request room counts s
+  with_counts_lem counts {after} q p =
+      ap (counting after) p
+      ∙ sent_counting after (reply_bytes (get_or request 0 0) (served_by cfg request (length room) s).reply)
+      (served_by cfg request (length room) s).state
+      ∙ (λ i. replied cfg (get_or request 0 0) (lent_both room (q i)) (served_by cfg request (length room) s))
 
-  -- the outcome of serving the request, with the counts and the change bytes that it leaves
-  with_lent : (o : Outcome) {counts : List ℕ} → counts ≡ counts_after cfg request b s
-      → Serves cfg request b.room s o → lending counts (changes_of cfg s o.state) o ≡ answered
-  with_lent o {counts} q p =
-      let told = ap (changes_of cfg s) (state_after p) in
-      ap (lending counts (changes_of cfg s o.state)) p
-      ∙ sent_lending counts (changes_of cfg s o.state) (reply_bytes (get_or request 0 0) its_service.reply)
-      its_service.state
-      ∙ (λ i. replied cfg (get_or request 0 0) (lent_all b.room (q i) (told i)) its_service)
+  -- a request that nothing refuses: its reply
+  pub replied_is : {after : List ℕ} (size : ℕ) {service : Service} → service ≡ Replied size
+      → Serves cfg request room s (service_is cfg service after s)
+      → Serves cfg request room s (leaves (of_length (Written size)) [] (lent_room after) s)
+  replied_is {after} size e p = ap (λ (k : Service). service_is cfg k after s) (sym e) ∙ p
 
-  counts_cleared : {code : ℕ} → Asks cfg request (some code)
-      → raised (rise_of (clear_log cfg code s)) b.counts ≡ counts_after cfg request b s
-  counts_cleared p =
-      ap (λ (k : ℕ). raised (rise_of (clear_log cfg k s)) b.counts) (is_code cfg request b.counts s p)
-      ∙ sym (counts_rise cfg request b s (asked cfg request b.counts s p))
-
-  -- serving it, and then what is left to do
-  finished_is : (left : Service) {room : List ℕ} → Asks cfg request (left_to_clear cfg left)
-      → Serves cfg request b.room s (service_is cfg left room s)
-      → beside_by (with_room room) (finished cfg left (lent_both b.counts b.changes) s) ≡ answered
-  finished_is (Replied size) {room} a p =
-      with_lent (sent_is size room s)
-      (sym (counts_stay cfg request b s (not_asked cfg request b.counts s a))) p
-  finished_is (Clear code) {room} a p = with_lent (sent_is 1 room (cleared cfg code s)) (counts_cleared a) p
-
-  module _ (left : Service) (asks : Asks cfg request (left_to_clear cfg left)) where
-    pub may_finish : MayAnswer → MayFinish cfg left (lent_both b.counts b.changes) s
-    may_finish may = record {
-      n_changes = may.n_changes;
-      may_clear = λ code e. record {
-        configured = may.accepted.config;
-        formed = may.formed;
-        five = may.five;
-        within = past_is cfg request b.counts s (ap (left_to_clear cfg) (sym e) ∙ asks) ∙ may.not_past;
-        n_changes = may.n_changes;
-      };
-    }
-
-    pub is_answered : {a : Answered} {room counts changes : List ℕ} {t : State}
-        → Serves cfg request b.room s (service_is cfg left room s)
-        → leaves a [] (lent_both counts changes) t ≡ finished cfg left (lent_both b.counts b.changes) s
-        → leaves a [] (lent_all room counts changes) t ≡ answered
-    is_answered {room} p d = ap (beside_by (with_room room)) d ∙ finished_is left asks p
+  -- and the clear that service 14 asks for
+  pub cleared_is : {after : List ℕ} (code : ℕ) {service : Service} {t : State} → service ≡ Clear code
+      → t ≡ cleared cfg code s → Serves cfg request room s (service_is cfg service after s)
+      → Serves cfg request room s (leaves (of_length (Written 1)) [] (lent_room after) t)
+  cleared_is {after} code e q p = ap (sent_is 1 after) q ∙ ap (λ (k : Service). service_is cfg k after s) (sym e) ∙ p
 
 -- ---- the judge: 2, 3, 7, 1, then 12
 
--- the counts and the change bytes have their lengths
-both_tell : (cfg : Configuration) (b : Beside) → both_fit cfg b ≡ true
-    → AreFive b.counts × (length b.changes ≡ events cfg)
-both_tell cfg b h = (
-  are_five b.counts (and_left (counts_fit b.counts) (changes_fit cfg b.changes) h),
-  eqb-true _ _ (and_right (counts_fit b.counts) (changes_fit cfg b.changes) h),
-)
-
-module _ (cfg : Configuration) (request : List ℕ) (b : Beside) (s : State) where
+module _ (cfg : Configuration) (request room counts : List ℕ) (s : State) where
   abbrev sizes : List Rule
-  sizes = (7 if ltb (length b.room) 3) ∷ (1 if eqb (length request) 0) ∷ []
+  sizes = (7 if ltb (length room) 3) ∷ (1 if eqb (length request) 0) ∷ []
 
   abbrev before : List Rule
-  before = begins cfg s (both_fit cfg b) sizes
+  before = begins cfg s (counts_fit counts) sizes
 
   abbrev last : List Rule
-  last = (12 if clears_past cfg request b.counts s) ∷ []
+  last = (12 if clears_past cfg request counts s) ∷ []
 
-  module _ {fits : Bool} (f : fits ≡ both_fit cfg b) where
+  module _ {fits : Bool} (f : fits ≡ counts_fit counts) where
     as_found : {number : ℕ} → number ≡ first_that_applies (begins cfg s fits sizes) → number ≡ first_that_applies before
     as_found e = e ∙ (λ i. first_that_applies (begins cfg s (f i) sizes))
 
     module _ {check : Check} (e : check_number check ≡ first_that_applies (begins cfg s fits sizes)) where
-      pub may_be_limited : check ≡ Go → ((config_ok cfg ≡ true) × (well_formed cfg s ≡ true)) × AreFive b.counts
+      pub may_be_limited : check ≡ Go → ((config_ok cfg ≡ true) × (well_formed cfg s ≡ true)) × AreFive counts
       may_be_limited g =
           let z = passed_by before (as_found e) g in
-          let three = three_passed (both_fit cfg b) (well_formed cfg s) (none_applies before z refl 1) in
-          ((not-false (config_ok cfg) (none_applies before z refl 0), three.1), (both_tell cfg b three.0).0)
+          let three = three_passed (counts_fit counts) (well_formed cfg s) (none_applies before z refl 1) in
+          ((not-false (config_ok cfg) (none_applies before z refl 0), three.1), are_five counts three.0)
 
       pub then_limit : check ≡ Go → {number : ℕ} → number ≡ first_that_applies last
-          → number ≡ first_that_applies (request_rules cfg request b s)
+          → number ≡ first_that_applies (request_rules cfg request (lent_both room counts) s)
       unfolding request_rules
       then_limit g n = last_judged before last refl (as_found e) g n
 
       pub not_so_far : (r : Refusal) → check ≡ Stop r
-          → number_of r ≡ first_that_applies (request_rules cfg request b s)
+          → number_of r ≡ first_that_applies (request_rules cfg request (lent_both room counts) s)
       unfolding request_rules
       not_so_far r g = stopped_before before last refl (as_found e) r g
 
-  pub may_answer : first_that_applies (request_rules cfg request b s) ≡ 0 → MayAnswer cfg request b s
+  -- what a request that nothing refuses may count on
+  pub may_answer : first_that_applies (request_rules cfg request (lent_both room counts) s) ≡ 0
+      → MayAnswer cfg request room counts s
   unfolding request_rules
   may_answer z =
-      let three = three_passed (both_fit cfg b) (well_formed cfg s) (none_applies _ z refl 1) in
-      let fit = both_tell cfg b three.0 in record {
+      let three = three_passed (counts_fit counts) (well_formed cfg s) (none_applies _ z refl 1) in record {
         accepted = record {
           config = not-false (config_ok cfg) (none_applies _ z refl 0);
-          room_least = ltb-false (length b.room) 3 (none_applies _ z refl 2);
+          room_least = ltb-false (length room) 3 (none_applies _ z refl 2);
         };
         formed = three.1;
-        five = fit.0;
-        n_changes = fit.1;
+        five = are_five counts three.0;
         not_past = none_applies _ z refl 4;
       }

@@ -7,14 +7,14 @@ use Rattle.manual.specs.declared.Verdict.TheVariants.{None}
 use Rattle.manual.specs.Words.{three_at}
 use Rattle.manual.specs.Configuration.{Configuration, events, config_ok}
 use Rattle.manual.specs.State.{State, lent, all_stopped, status_byte}
-use Rattle.manual.specs.Answers.{Beside, lent_room, Outcome}
+use Rattle.manual.specs.WellFormed.{well_formed}
+use Rattle.manual.specs.Answers.{lent_room, lent_both, Outcome}
 use Rattle.manual.specs.Counts.{carries_past}
-use Rattle.manual.specs.Changes.{changed_to}
 use Rattle.manual.specs.Calls.{unknown_code, cleared, clear_log}
 use Rattle.manual.specs.Diagnostics.{Reply, positive, negative, Served, served, SubFunction, sub_function}
 use Rattle.manual.specs.Diagnostics.{matches, line, lines, is_near, counter_byte, suppresses, sub_function_reply, replied}
-use Rattle.manual.specs.Diagnostics.{asks_clear}
-use Rattle.clearing.specs.Accepted.{MayClear, clear_done}
+use Rattle.manual.specs.Diagnostics.{served_by, asks_clear, counts_after}
+use Rattle.counts.specs.Near.{AreFive}
 use Rattle.diagnostics.specs.declared.Asked.{Asked}
 use Rattle.diagnostics.specs.declared.Asked.TheVariants.{All, Matching, Near}
 use Rattle.diagnostics.specs.declared.LineByte.{LineByte}
@@ -39,10 +39,6 @@ holding records debounce = lent records debounce [] (record { running = all_stop
 -- a reply of this length was sent, and the room and the state are these
 abbrev pub sent_is : ℕ → List ℕ → State → Outcome
 sent_is size room s = record { answer = 0; verdict = None; value = size; part = []; beside = lent_room room; state = s }
-
--- a call that is done, with a reply of this length
-abbrev pub replying : ℕ → Outcome → Outcome
-replying size o = record { answer = 0; verdict = None; value = size; part = []; beside = o.beside; state = o.state }
 
 module _ (cfg : Configuration) where
   -- ---- the events that a reply lists or counts
@@ -146,17 +142,18 @@ module _ (cfg : Configuration) where
   abbrev pub clears_past : List ℕ → List ℕ → State → Bool
   clears_past request counts s = asks_clear cfg request && carries_past (clear_log cfg (three_at 1 request) s) counts
 
-  -- ---- what is left to do once the reply is written
+  -- what a request that nothing refuses may count on
+  pub record MayAnswer (request room counts : List ℕ) (s : State) : Type 0 where
+    pub accepted : Accepted room
+    pub formed : well_formed cfg s ≡ true
+    pub five : AreFive counts
+    pub not_past : clears_past request counts s ≡ false
 
-  -- what it may count on
-  pub record MayFinish (left : Service) (b : Beside) (s : State) : Type 0 where
-    pub n_changes : length b.changes ≡ events cfg
-    pub may_clear : (code : ℕ) → left ≡ Service.Clear code → MayClear cfg code b.counts b.changes s
-
-  -- what the request leaves; document 02, W8: without a clear no event has changed
-  abbrev pub finished : Service → Beside → State → Outcome
-  finished (Replied size) b s = replying size (changed_to cfg s b s)
-  finished (Service.Clear code) b s = replying 1 (clear_done cfg code b s)
+  -- and what it leaves
+  abbrev pub answered : List ℕ → List ℕ → List ℕ → State → Outcome
+  answered request room counts s =
+      replied cfg (get_or request 0 0) (lent_both room (counts_after cfg request (lent_both room counts) s))
+      (served_by cfg request (length room) s)
 
 -- the reply in this turn, where these are the bytes of the positive one
 abbrev pub turn_is : Turn → List ℕ → Reply

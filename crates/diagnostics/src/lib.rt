@@ -4,7 +4,7 @@ ghost use Rattle.manual.specs.Words.{count_below, three_at, between, twos_comple
 ghost use Rattle.manual.specs.Configuration.{Configuration, most_events, events, entry_frames, config_ok};
 ghost use Rattle.manual.specs.State.{State, lent, status_byte};
 ghost use Rattle.manual.specs.WellFormed.{well_formed};
-ghost use Rattle.manual.specs.Answers.{lent_room, lent_both, lent_all, ◌if◌, first_that_applies, of_length, leaves};
+ghost use Rattle.manual.specs.Answers.{lent_room, lent_both, ◌if◌, first_that_applies, of_length, leaves};
 ghost use Rattle.manual.specs.Calls.{begins};
 ghost use Rattle.manual.specs.Diagnostics.{negative, reply_bytes, served, sub_function, line, mask_of, suppresses};
 ghost use Rattle.manual.specs.Diagnostics.{matches, is_near, counter_byte, number_by_mask, list_by_mask, list_events, list_near};
@@ -24,7 +24,7 @@ ghost use Rattle.diagnostics.specs.Replies.{TurnBy};
 ghost use Rattle.diagnostics.specs.Showing.{remembering, number_of, tells, told_length, shown_length, shows_one};
 ghost use Rattle.diagnostics.specs.Showing.{MayTell, MayShow, MayRead, shown_reply};
 ghost use Rattle.diagnostics.specs.Replies.{clear_request_is, service_is, clears14, code_where, code_of14};
-ghost use Rattle.diagnostics.specs.Replies.{left_to_clear, clears_past, MayFinish, finished};
+ghost use Rattle.diagnostics.specs.Replies.{left_to_clear, clears_past, MayAnswer, answered};
 
 use config::CodeSearch;
 use judgement::Check;
@@ -826,37 +826,38 @@ fn serve(
     }
 }
 
-// What is left to do once the reply is written: the clear where the request asks for one, and the counts rise by the
-// entries that it takes out. Without one no event changes.
-fn finish(
+// A request that nothing refuses: its reply, then the clear where it asks for one. The counts rise by the entries that
+// the clear takes out.
+fn accept(
     cfg: &[i32],
     records: &mut [u8],
     debounce: &mut [i32],
     memory: &mut [u8],
     board: Board,
-    left: Service,
+    request: &[u8],
+    room: &mut [u8],
     counts: &mut [u32],
-    changes: &mut [u8],
 ) -> RequestReturned
-    requires { MayFinish cfg.now left (lent_both counts.old changes.old)
+    requires { MayAnswer cfg.now request.now room.old counts.old
         (lent records.old debounce.old memory.old board) }
-    ensures { leaves (of_length result.answer) [] (lent_both counts.new changes.new)
+    ensures { leaves (of_length result.answer) [] (lent_both room.new counts.new)
         (lent records.new debounce.new memory.new result.board)
-        ≡ finished cfg.now left (lent_both counts.old changes.old)
+        ≡ answered cfg.now request.now room.old counts.old
         (lent records.old debounce.old memory.old board) }
 {
-    match left {
+    match serve(cfg, records, debounce, memory, request, room) {
         Service::Replied(size) => {
-            changes::none(changes);
             let answer = LengthAnswer::Written(size);
             RequestReturned { answer, board }
         }
         Service::Clear(code) => {
-            let answer = LengthAnswer::Written(1);
-            let board = clearing::accept(
-                cfg, records, debounce, memory, board, code, counts, changes,
-            );
-            RequestReturned { answer, board }
+            let after = clearing::clear_covered(cfg, records, debounce, memory, board, code);
+            counts::raise(counts, after.rise);
+            let board_after = after.board;
+            RequestReturned {
+                answer: LengthAnswer::Written(1),
+                board: board_after,
+            }
         }
     }
 }
@@ -876,8 +877,7 @@ fn judge_sizes(request: &[u8], room: &[u8]) -> Check
     Check::Go
 }
 
-// "Every call begins 2, 3. Then: … diagnostic request 7, 1." `fits` says whether what is lent beside the state has the
-// right length.
+// "Every call begins 2, 3. Then: … diagnostic request 7, 1." `fits` says whether the counts have the right length.
 fn judge_begin(
     cfg: &[i32],
     records: &[u8],
@@ -943,23 +943,20 @@ fn judge(
     request: &[u8],
     room: &[u8],
     counts: &[u32],
-    changes: &[u8],
 ) -> Check
     ensures { check_number result
         ≡ first_that_applies
-        (request_rules cfg.now request.now
-        (lent_all room.now counts.now changes.now)
+        (request_rules cfg.now request.now (lent_both room.now counts.now)
         (lent records.now debounce.now memory.now board)) }
 {
-    let fits = changes::both_fit(cfg, counts, changes);
+    let fits = counts::fit(counts);
     match judge_begin(cfg, records, debounce, memory, board, fits, request, room) {
         Check::Go => judge_limit(cfg, records, debounce, memory, board, request, counts),
         Check::Stop(refusal) => Check::Stop(refusal),
     }
 }
 
-// The diagnostic request: writes the reply at the front of the room, and answers its length. The change bytes say what
-// became of each status.
+// The diagnostic request: writes the reply at the front of the room, and answers its length.
 pub fn request(
     cfg: &[i32],
     records: &mut [u8],
@@ -969,22 +966,15 @@ pub fn request(
     request: &[u8],
     room: &mut [u8],
     counts: &mut [u32],
-    changes: &mut [u8],
 ) -> RequestReturned
-    ensures { leaves (of_length result.answer) []
-        (lent_all room.new counts.new changes.new)
+    ensures { leaves (of_length result.answer) [] (lent_both room.new counts.new)
         (lent records.new debounce.new memory.new result.board)
         ≡ request_reply cfg.now request.now
-        (lent_all room.old counts.old changes.old)
+        (lent_both room.old counts.old)
         (lent records.old debounce.old memory.old board) }
 {
-    match judge(
-        cfg, records, debounce, memory, board, request, room, counts, changes,
-    ) {
-        Check::Go => {
-            let left = serve(cfg, records, debounce, memory, request, room);
-            finish(cfg, records, debounce, memory, board, left, counts, changes)
-        }
+    match judge(cfg, records, debounce, memory, board, request, room, counts) {
+        Check::Go => accept(cfg, records, debounce, memory, board, request, room, counts),
         Check::Stop(refusal) => RequestReturned {
             answer: LengthAnswer::Refused(refusal),
             board,

@@ -1,19 +1,18 @@
--- The statement of each of the seventeen calls allows one outcome only: one result, and of every block, the room, the
--- counts and the change bytes, where the call may write them, one content, to the last byte.
+-- The statement of each of the sixteen calls allows one outcome only: one result, and of every block, the room and the
+-- counts, where the call may write them, one content, to the last byte.
 use mathlib.Core.Path.{◌≡◌, refl, ap}
-use mathlib.Core.List.{List, []}
+use mathlib.Core.List.{List}
 use Prim.Native.Nat.{ℕ}
 use lib.IntN.{ℤ}
 use Rattle.manual.specs.Configuration.{Configuration}
 use Rattle.manual.specs.State.{State, lent}
-use Rattle.manual.specs.Answers.{Beside, lent_all, lent_room, lent_counts, lent_changes, lent_both, alone}
+use Rattle.manual.specs.Answers.{Beside, lent_room, lent_counts, lent_both, alone}
 use Rattle.manual.specs.Calls.{fresh, report, tick, start_cycle, stop_cycle, clear_code, read_status}
 use Rattle.manual.specs.Counter.{counter_read}
 use Rattle.manual.specs.Missing.{missing_read}
 use Rattle.manual.specs.Untested.{table_read, paint_read, list_grey}
 use Rattle.manual.specs.Image.{save, restore}
 use Rattle.manual.specs.Diagnostics.{request_reply}
-use Rattle.manual.specs.ChangesPage.{changes_page}
 use Rattle.manual.proofs.OneOutcomeOnly.{one_outcome}
 use Rattle.queries.specs.Reading.{frame_read}
 use Rattle.grelpicado.specs.declared.PanelBoard.{PanelBoard}
@@ -47,21 +46,11 @@ same_beside p q = one_outcome (λ (y : Crossing). y.beside) refl refl p q
 same_room : {o y y' : Crossing} → y ≡ o → y' ≡ o → y.beside.room ≡ y'.beside.room
 same_room p q = ap (λ (b : Beside). b.room) (same_beside p q)
 
-same_changes : {o y y' : Crossing} → y ≡ o → y' ≡ o → y.beside.changes ≡ y'.beside.changes
-same_changes p q = ap (λ (b : Beside). b.changes) (same_beside p q)
-
 -- the blocks and the counts
 same_lent : {o y y' : Crossing} → y ≡ o → y' ≡ o
     → ((y.records ≡ y'.records) × ((y.debounce ≡ y'.debounce) × (y.memory ≡ y'.memory)))
     × (y.beside.counts ≡ y'.beside.counts)
 same_lent p q = (same_blocks p q, ap (λ (b : Beside). b.counts) (same_beside p q))
-
--- and the change bytes
-same_told : {o y y' : Crossing} → y ≡ o → y' ≡ o
-    → (((y.records ≡ y'.records) × ((y.debounce ≡ y'.debounce) × (y.memory ≡ y'.memory)))
-    × (y.beside.counts ≡ y'.beside.counts))
-    × (y.beside.changes ≡ y'.beside.changes)
-same_told p q = (same_lent p q, same_changes p q)
 
 abbrev answer_in : Crossing → PanelAnswer
 answer_in x = record { number = x.number; board = x.board }
@@ -111,6 +100,30 @@ module _ (cfg : Configuration) (records₀ : List ℕ) (debounce₀ : List ℤ) 
           → (r ≡ r') × (((records ≡ records') × ((debounce ≡ debounce') × (memory ≡ memory'))) × (counts ≡ counts'))
       one_fresh p q = (one_outcome answer_in refl refl p q, same_lent p q)
 
+      pub one_tick : (ms : ℕ) (frame : List ℕ) (present : ℕ)
+          → with_answer records debounce memory (lent_counts counts) r
+          ≡ crosses (tick cfg ms frame present (lent_counts counts₀) given) board
+          → with_answer records' debounce' memory' (lent_counts counts') r'
+          ≡ crosses (tick cfg ms frame present (lent_counts counts₀) given) board
+          → (r ≡ r') × (((records ≡ records') × ((debounce ≡ debounce') × (memory ≡ memory'))) × (counts ≡ counts'))
+      one_tick ms frame present p q = (one_outcome answer_in refl refl p q, same_lent p q)
+
+      pub one_stop : (cycle : ℕ)
+          → with_answer records debounce memory (lent_counts counts) r
+          ≡ crosses (stop_cycle cfg cycle (lent_counts counts₀) given) board
+          → with_answer records' debounce' memory' (lent_counts counts') r'
+          ≡ crosses (stop_cycle cfg cycle (lent_counts counts₀) given) board
+          → (r ≡ r') × (((records ≡ records') × ((debounce ≡ debounce') × (memory ≡ memory'))) × (counts ≡ counts'))
+      one_stop cycle p q = (one_outcome answer_in refl refl p q, same_lent p q)
+
+      pub one_clear : (code : ℕ)
+          → with_answer records debounce memory (lent_counts counts) r
+          ≡ crosses (clear_code cfg code (lent_counts counts₀) given) board
+          → with_answer records' debounce' memory' (lent_counts counts') r'
+          ≡ crosses (clear_code cfg code (lent_counts counts₀) given) board
+          → (r ≡ r') × (((records ≡ records') × ((debounce ≡ debounce') × (memory ≡ memory'))) × (counts ≡ counts'))
+      one_clear code p q = (one_outcome answer_in refl refl p q, same_lent p q)
+
       pub one_restore : (image : List ℕ)
           → with_answer records debounce memory (lent_counts counts) r
           ≡ crosses (restore cfg image (lent_counts counts₀) given) board
@@ -119,73 +132,33 @@ module _ (cfg : Configuration) (records₀ : List ℕ) (debounce₀ : List ℤ) 
           → (r ≡ r') × (((records ≡ records') × ((debounce ≡ debounce') × (memory ≡ memory'))) × (counts ≡ counts'))
       one_restore image p q = (one_outcome answer_in refl refl p q, same_lent p q)
 
-    -- ---- and the change bytes
+    pub one_report : (event code : ℕ) (frame : List ℕ) (present : ℕ) (r r' : PanelReport)
+        → with_report records debounce memory (lent_counts counts) r
+        ≡ crosses (report cfg event code frame present (lent_counts counts₀) given) board
+        → with_report records' debounce' memory' (lent_counts counts') r'
+        ≡ crosses (report cfg event code frame present (lent_counts counts₀) given) board
+        → (r ≡ r') × (((records ≡ records') × ((debounce ≡ debounce') × (memory ≡ memory'))) × (counts ≡ counts'))
+    one_report event code frame present r r' p q = (one_outcome report_in refl refl p q, same_lent p q)
 
-    module _ (changes₀ changes changes' : List ℕ) where
-      module _ (r r' : PanelAnswer) where
-        pub one_tick : (ms : ℕ) (frame : List ℕ) (present : ℕ)
-            → with_answer records debounce memory (lent_both counts changes) r
-            ≡ crosses (tick cfg ms frame present (lent_both counts₀ changes₀) given) board
-            → with_answer records' debounce' memory' (lent_both counts' changes') r'
-            ≡ crosses (tick cfg ms frame present (lent_both counts₀ changes₀) given) board
-            → (r ≡ r')
-            × ((((records ≡ records') × ((debounce ≡ debounce') × (memory ≡ memory'))) × (counts ≡ counts'))
-            × (changes ≡ changes'))
-        one_tick ms frame present p q = (one_outcome answer_in refl refl p q, same_told p q)
+    -- the room too
+    pub one_request : (request before room room' : List ℕ) (r r' : PanelRequest)
+        → with_request records debounce memory (lent_both room counts) r
+        ≡ crosses (request_reply cfg request (lent_both before counts₀) given) board
+        → with_request records' debounce' memory' (lent_both room' counts') r'
+        ≡ crosses (request_reply cfg request (lent_both before counts₀) given) board
+        → (r ≡ r')
+        × ((((records ≡ records') × ((debounce ≡ debounce') × (memory ≡ memory'))) × (counts ≡ counts'))
+        × (room ≡ room'))
+    one_request request before room room' r r' p q =
+        (one_outcome request_in refl refl p q, (same_lent p q, same_room p q))
 
-        pub one_stop : (cycle : ℕ)
-            → with_answer records debounce memory (lent_both counts changes) r
-            ≡ crosses (stop_cycle cfg cycle (lent_both counts₀ changes₀) given) board
-            → with_answer records' debounce' memory' (lent_both counts' changes') r'
-            ≡ crosses (stop_cycle cfg cycle (lent_both counts₀ changes₀) given) board
-            → (r ≡ r')
-            × ((((records ≡ records') × ((debounce ≡ debounce') × (memory ≡ memory'))) × (counts ≡ counts'))
-            × (changes ≡ changes'))
-        one_stop cycle p q = (one_outcome answer_in refl refl p q, same_told p q)
+  -- ---- start may write the records alone
 
-        pub one_clear : (code : ℕ)
-            → with_answer records debounce memory (lent_both counts changes) r
-            ≡ crosses (clear_code cfg code (lent_both counts₀ changes₀) given) board
-            → with_answer records' debounce' memory' (lent_both counts' changes') r'
-            ≡ crosses (clear_code cfg code (lent_both counts₀ changes₀) given) board
-            → (r ≡ r')
-            × ((((records ≡ records') × ((debounce ≡ debounce') × (memory ≡ memory'))) × (counts ≡ counts'))
-            × (changes ≡ changes'))
-        one_clear code p q = (one_outcome answer_in refl refl p q, same_told p q)
-
-      pub one_report : (event code : ℕ) (frame : List ℕ) (present : ℕ) (r r' : PanelReport)
-          → with_report records debounce memory (lent_both counts changes) r
-          ≡ crosses (report cfg event code frame present (lent_both counts₀ changes₀) given) board
-          → with_report records' debounce' memory' (lent_both counts' changes') r'
-          ≡ crosses (report cfg event code frame present (lent_both counts₀ changes₀) given) board
-          → (r ≡ r')
-          × ((((records ≡ records') × ((debounce ≡ debounce') × (memory ≡ memory'))) × (counts ≡ counts'))
-          × (changes ≡ changes'))
-      one_report event code frame present r r' p q = (one_outcome report_in refl refl p q, same_told p q)
-
-      -- the room too
-      pub one_request : (request before room room' : List ℕ) (r r' : PanelRequest)
-          → with_request records debounce memory (lent_all room counts changes) r
-          ≡ crosses (request_reply cfg request (lent_all before counts₀ changes₀) given) board
-          → with_request records' debounce' memory' (lent_all room' counts' changes') r'
-          ≡ crosses (request_reply cfg request (lent_all before counts₀ changes₀) given) board
-          → (r ≡ r')
-          × (((((records ≡ records') × ((debounce ≡ debounce') × (memory ≡ memory'))) × (counts ≡ counts'))
-          × (changes ≡ changes'))
-          × (room ≡ room'))
-      one_request request before room room' r r' p q =
-          (one_outcome request_in refl refl p q, (same_told p q, same_room p q))
-
-  -- ---- start may write the records and the change bytes alone
-
-  pub one_start : (cycle : ℕ) (records records' changes₀ changes changes' : List ℕ) (r r' : PanelAnswer)
-      → with_answer records debounce₀ memory₀ (lent_changes changes) r
-      ≡ crosses (start_cycle cfg cycle (lent_changes changes₀) given) board
-      → with_answer records' debounce₀ memory₀ (lent_changes changes') r'
-      ≡ crosses (start_cycle cfg cycle (lent_changes changes₀) given) board
-      → (r ≡ r') × ((records ≡ records') × (changes ≡ changes'))
-  one_start cycle records records' changes₀ changes changes' r r' p q =
-      (one_outcome answer_in refl refl p q, ((same_blocks p q).0, same_changes p q))
+  pub one_start : (cycle : ℕ) (records records' : List ℕ) (r r' : PanelAnswer)
+      → with_answer records debounce₀ memory₀ alone r ≡ crosses (start_cycle cfg cycle alone given) board
+      → with_answer records' debounce₀ memory₀ alone r' ≡ crosses (start_cycle cfg cycle alone given) board
+      → (r ≡ r') × (records ≡ records')
+  one_start cycle records records' r r' p q = (one_outcome answer_in refl refl p q, (same_blocks p q).0)
 
   -- ---- calls that may write no block of the state, and hand back no board
 
@@ -231,27 +204,18 @@ module _ (cfg : Configuration) (records₀ : List ℕ) (debounce₀ : List ℤ) 
 
   -- save writes the room
   pub one_save : (before room room' : List ℕ) (r r' : PanelLength)
-      → with_length records₀ debounce₀ memory₀ (lent_room room) board r
+      → with_length records₀ debounce₀ memory₀ room board r
       ≡ crosses_without_board (save cfg (lent_room before) given) board
-      → with_length records₀ debounce₀ memory₀ (lent_room room') board r'
+      → with_length records₀ debounce₀ memory₀ room' board r'
       ≡ crosses_without_board (save cfg (lent_room before) given) board
       → (r ≡ r') × (room ≡ room')
   one_save before room room' r r' p q = (one_outcome length_in refl refl p q, same_room p q)
 
   -- list grey writes the list
   pub one_list_grey : (before list list' : List ℕ) (r r' : PanelLength)
-      → with_length records₀ debounce₀ memory₀ (lent_room list) board r
+      → with_length records₀ debounce₀ memory₀ list board r
       ≡ crosses_without_board (list_grey cfg (lent_room before) given) board
-      → with_length records₀ debounce₀ memory₀ (lent_room list') board r'
+      → with_length records₀ debounce₀ memory₀ list' board r'
       ≡ crosses_without_board (list_grey cfg (lent_room before) given) board
       → (r ≡ r') × (list ≡ list')
   one_list_grey before list list' r r' p q = (one_outcome length_in refl refl p q, same_room p q)
-
-  -- changes page writes the room
-  pub one_changes_page : (changes before room room' : List ℕ) (r r' : PanelLength)
-      → with_length records₀ debounce₀ memory₀ (lent_all room [] changes) board r
-      ≡ crosses_without_board (changes_page cfg (lent_all before [] changes) given) board
-      → with_length records₀ debounce₀ memory₀ (lent_all room' [] changes) board r'
-      ≡ crosses_without_board (changes_page cfg (lent_all before [] changes) given) board
-      → (r ≡ r') × (room ≡ room')
-  one_changes_page changes before room room' r r' p q = (one_outcome length_in refl refl p q, same_room p q)

@@ -9,7 +9,7 @@ use Rattle.manual.specs.declared.Which.TheVariants.{First, Latest}
 use Rattle.manual.specs.declared.Verdict.{Verdict}
 use Rattle.manual.specs.declared.Verdict.TheVariants.{None, Passed, Failed}
 use Rattle.manual.specs.State.{runs}
-use Rattle.manual.specs.Answers.{Beside, alone, Outcome}
+use Rattle.manual.specs.Answers.{Beside, lent_room, alone, Outcome}
 use Rattle.manual.specs.Counter.{CounterRead}
 use Rattle.manual.specs.Missing.{MissingRead}
 use Rattle.manual.specs.Untested.{TableRead, PaintRead}
@@ -72,7 +72,7 @@ paint_number Live = 2
 
 -- All that crosses, back to the caller: the answer's number; a report's verdict; the status, paint or length; where the
 -- frame part starts; every lent block as the call leaves it; what was lent beside them, the output room and document
--- 02's counts and change bytes; the board.
+-- 02's counts; the board.
 pub record Crossing : Type 0 where
   pub number : ℕ
   pub verdict : ℕ
@@ -187,9 +187,9 @@ module _ (records : List ℕ) (debounce : List ℤ) (memory : List ℕ) where
   abbrev pub with_frame : PanelBoard → PanelFrame → Crossing
   with_frame board r = made r.number 0 r.length r.start records debounce memory alone board
 
-  -- save, list grey and changes page: the value is the length, the board the caller's
-  abbrev pub with_length : Beside → PanelBoard → PanelLength → Crossing
-  with_length b board r = made r.number 0 r.length 0 records debounce memory b board
+  -- save and list grey: the value is the length, the board the caller's
+  abbrev pub with_length : List ℕ → PanelBoard → PanelLength → Crossing
+  with_length room board r = made r.number 0 r.length 0 records debounce memory (lent_room room) board
 
   -- a diagnostic request: the value is the length
   abbrev pub with_request : Beside → PanelRequest → Crossing

@@ -1,8 +1,8 @@
-// The seventeen calls for a caller in C, as grelpicado.h declares them. Each reads the board's bytes, makes the call,
-// and hands back its numbers and the board. Those of replies over CAN stand in can.rt.
+// The sixteen calls for a caller in C, as grelpicado.h declares them. Each reads the board's bytes, makes the call, and
+// hands back its numbers and the board. Those of replies over CAN stand in can.rt.
 ghost use Rattle.std.specs.Prelude.{◌≡◌, cond, List, [], ℕ, eqb, ℤ};
 ghost use Rattle.manual.specs.State.{State, lent};
-ghost use Rattle.manual.specs.Answers.{Beside, lent_all, lent_room, lent_counts, lent_changes, lent_both, alone};
+ghost use Rattle.manual.specs.Answers.{Beside, lent_counts, lent_both, alone, lent_room};
 ghost use Rattle.manual.specs.Answers.{of_answer, of_report, of_status, of_length, leaves};
 ghost use Rattle.manual.specs.Calls.{fresh, report, tick, start_cycle, stop_cycle, clear_code, read_status};
 ghost use Rattle.manual.specs.Counter.{counter_read};
@@ -10,7 +10,6 @@ ghost use Rattle.manual.specs.Missing.{missing_read};
 ghost use Rattle.manual.specs.Untested.{table_read, paint_read, list_grey};
 ghost use Rattle.manual.specs.Image.{save, restore};
 ghost use Rattle.manual.specs.Diagnostics.{request_reply};
-ghost use Rattle.manual.specs.ChangesPage.{changes_page};
 ghost use Rattle.queries.specs.Reading.{tells, tells_missing, start_in, length_in, says, frame_read};
 ghost use Rattle.untested.specs.Page.{table_told, paint_told};
 ghost use Rattle.grelpicado.specs.Panel.{yes, flag_byte, which_of, board_of, bytes_of, verdict_number, crosses};
@@ -104,8 +103,7 @@ pub struct PanelFrame {
     pub length: usize,
 }
 
-// The answer of save, of list grey and of changes page: how many bytes of the room, or numbers of the list, were
-// written.
+// The answer of save and of list grey: how many bytes of the room, or numbers of the list, were written.
 #[repr(C)]
 #[derive(Drop)]
 pub struct PanelLength {
@@ -360,11 +358,11 @@ pub(crate) fn frame_of(answer: FrameAnswer) -> PanelFrame
     }
 }
 
-// Save, list grey and changes page hand back no board.
+// Save and list grey hand back no board.
 pub(crate) fn length_of(answer: LengthAnswer) -> PanelLength
-    ensures { (s : State) (b : Beside) (found : PanelBoard)
-        → with_length s.records s.debounce s.memory b found result
-        ≡ crosses_without_board (leaves (of_length answer) [] b s) found }
+    ensures { (s : State) (room : List ℕ) (found : PanelBoard)
+        → with_length s.records s.debounce s.memory room found result
+        ≡ crosses_without_board (leaves (of_length answer) [] (lent_room room) s) found }
 {
     PanelLength {
         number: answers::length_number(answer),
@@ -372,7 +370,7 @@ pub(crate) fn length_of(answer: LengthAnswer) -> PanelLength
     }
 }
 
-// ---- the seventeen calls
+// ---- the sixteen calls
 
 // "Fresh: status 50h, K = h = g = 0, D = 0, memory empty (all bytes 0), cycles stopped, overflow clear."
 #[unsafe(no_mangle)]
@@ -409,13 +407,11 @@ pub extern "C" fn grelpicado_report(
     frame: &[u8],
     present: u32,
     counts: &mut [u32],
-    changes: &mut [u8],
 ) -> PanelReport
     ensures { with_report records.new debounce.new memory.new
-        (lent_both counts.new changes.new) result
+        (lent_counts counts.new) result
         ≡ crosses
-        (report cfg.now event code frame.now present
-        (lent_both counts.old changes.old)
+        (report cfg.now event code frame.now present (lent_counts counts.old)
         (lent records.old debounce.old memory.old (board_of board)))
         board }
 {
@@ -431,7 +427,6 @@ pub extern "C" fn grelpicado_report(
         frame,
         present,
         counts,
-        changes,
     );
     report_of(returned, board)
 }
@@ -448,18 +443,17 @@ pub extern "C" fn grelpicado_tick(
     frame: &[u8],
     present: u32,
     counts: &mut [u32],
-    changes: &mut [u8],
 ) -> PanelAnswer
     ensures { with_answer records.new debounce.new memory.new
-        (lent_both counts.new changes.new) result
+        (lent_counts counts.new) result
         ≡ crosses
-        (tick cfg.now ms frame.now present (lent_both counts.old changes.old)
+        (tick cfg.now ms frame.now present (lent_counts counts.old)
         (lent records.old debounce.old memory.old (board_of board)))
         board }
 {
     let given = board_of(board);
     let returned = reporting::tick(
-        cfg, records, debounce, memory, given, ms, frame, present, counts, changes,
+        cfg, records, debounce, memory, given, ms, frame, present, counts,
     );
     answer_of(returned, board)
 }
@@ -473,17 +467,15 @@ pub extern "C" fn grelpicado_start(
     memory: &[u8],
     board: PanelBoard,
     cycle: u32,
-    changes: &mut [u8],
 ) -> PanelAnswer
-    ensures { with_answer records.new debounce.now memory.now
-        (lent_changes changes.new) result
+    ensures { with_answer records.new debounce.now memory.now alone result
         ≡ crosses
-        (start_cycle cfg.now cycle (lent_changes changes.old)
+        (start_cycle cfg.now cycle alone
         (lent records.old debounce.now memory.now (board_of board)))
         board }
 {
     let given = board_of(board);
-    let returned = cycles::start(cfg, records, debounce, memory, given, cycle, changes);
+    let returned = cycles::start(cfg, records, debounce, memory, given, cycle);
     answer_of(returned, board)
 }
 
@@ -497,19 +489,16 @@ pub extern "C" fn grelpicado_stop(
     board: PanelBoard,
     cycle: u32,
     counts: &mut [u32],
-    changes: &mut [u8],
 ) -> PanelAnswer
     ensures { with_answer records.new debounce.new memory.new
-        (lent_both counts.new changes.new) result
+        (lent_counts counts.new) result
         ≡ crosses
-        (stop_cycle cfg.now cycle (lent_both counts.old changes.old)
+        (stop_cycle cfg.now cycle (lent_counts counts.old)
         (lent records.old debounce.old memory.old (board_of board)))
         board }
 {
     let given = board_of(board);
-    let returned = cycles::stop(
-        cfg, records, debounce, memory, given, cycle, counts, changes,
-    );
+    let returned = cycles::stop(cfg, records, debounce, memory, given, cycle, counts);
     answer_of(returned, board)
 }
 
@@ -523,17 +512,16 @@ pub extern "C" fn grelpicado_clear(
     board: PanelBoard,
     code: u32,
     counts: &mut [u32],
-    changes: &mut [u8],
 ) -> PanelAnswer
     ensures { with_answer records.new debounce.new memory.new
-        (lent_both counts.new changes.new) result
+        (lent_counts counts.new) result
         ≡ crosses
-        (clear_code cfg.now code (lent_both counts.old changes.old)
+        (clear_code cfg.now code (lent_counts counts.old)
         (lent records.old debounce.old memory.old (board_of board)))
         board }
 {
     let given = board_of(board);
-    let returned = clearing::clear(cfg, records, debounce, memory, given, code, counts, changes);
+    let returned = clearing::clear(cfg, records, debounce, memory, given, code, counts);
     answer_of(returned, board)
 }
 
@@ -654,8 +642,7 @@ pub extern "C" fn grelpicado_list_grey(
     board: PanelBoard,
     list: &mut [u16],
 ) -> PanelLength
-    ensures { with_length records.now debounce.now memory.now
-        (lent_room list.new) board result
+    ensures { with_length records.now debounce.now memory.now list.new board result
         ≡ crosses_without_board
         (list_grey cfg.now (lent_room list.old)
         (lent records.now debounce.now memory.now (board_of board)))
@@ -663,30 +650,6 @@ pub extern "C" fn grelpicado_list_grey(
 {
     let given = board_of(board);
     let answer = untested::list_grey(cfg, records, debounce, memory, given, list);
-    length_of(answer)
-}
-
-// Document 02, W8: "the changed events, rising, each once, in 4 bytes (event number high first, old, new), into a lent
-// room".
-#[unsafe(no_mangle)]
-pub extern "C" fn grelpicado_changes_page(
-    cfg: &[i32],
-    records: &[u8],
-    debounce: &[i32],
-    memory: &[u8],
-    board: PanelBoard,
-    changes: &[u8],
-    room: &mut [u8],
-) -> PanelLength
-    ensures { with_length records.now debounce.now memory.now
-        (lent_all room.new [] changes.now) board result
-        ≡ crosses_without_board
-        (changes_page cfg.now (lent_all room.old [] changes.now)
-        (lent records.now debounce.now memory.now (board_of board)))
-        board }
-{
-    let given = board_of(board);
-    let answer = changes_page::changes_page(cfg, records, debounce, memory, given, changes, room);
     length_of(answer)
 }
 
@@ -731,8 +694,7 @@ pub extern "C" fn grelpicado_save(
     board: PanelBoard,
     room: &mut [u8],
 ) -> PanelLength
-    ensures { with_length records.now debounce.now memory.now
-        (lent_room room.new) board result
+    ensures { with_length records.now debounce.now memory.now room.new board result
         ≡ crosses_without_board
         (save cfg.now (lent_room room.old)
         (lent records.now debounce.now memory.now (board_of board)))
@@ -777,19 +739,17 @@ pub extern "C" fn grelpicado_request(
     request: &[u8],
     room: &mut [u8],
     counts: &mut [u32],
-    changes: &mut [u8],
 ) -> PanelRequest
     ensures { with_request records.new debounce.new memory.new
-        (lent_all room.new counts.new changes.new) result
+        (lent_both room.new counts.new) result
         ≡ crosses
-        (request_reply cfg.now request.now
-        (lent_all room.old counts.old changes.old)
+        (request_reply cfg.now request.now (lent_both room.old counts.old)
         (lent records.old debounce.old memory.old (board_of board)))
         board }
 {
     let given = board_of(board);
     let returned = diagnostics::request(
-        cfg, records, debounce, memory, given, request, room, counts, changes,
+        cfg, records, debounce, memory, given, request, room, counts,
     );
     request_of(returned, board)
 }

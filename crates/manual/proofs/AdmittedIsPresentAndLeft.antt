@@ -16,11 +16,10 @@ use Rattle.manual.specs.Configuration.{Configuration, places, entry_frames}
 use Rattle.manual.specs.State.{State}
 use Rattle.manual.specs.Memory.{Entry, memory_length, entry_count, entries_from, entries_of}
 use Rattle.manual.specs.WellFormed.{entries}
-use Rattle.manual.specs.Answers.{Beside, with_counts, Outcome}
+use Rattle.manual.specs.Answers.{Beside, lent_both, Outcome}
 use Rattle.manual.specs.Counter.{read_counter}
 use Rattle.manual.specs.Missing.{read_missing}
 use Rattle.manual.specs.Untested.{read_table, read_paint, list_grey}
-use Rattle.manual.specs.ChangesPage.{changes_page}
 use Rattle.manual.specs.Calls.{fresh_state, fresh, report, tick, start_cycle, stop_cycle, clear_code, clear_log}
 use Rattle.manual.specs.Calls.{read_status, read_frame}
 use Rattle.manual.specs.Image.{state_of, save, restore}
@@ -28,8 +27,7 @@ use Rattle.manual.specs.Diagnostics.{asks_clear, counts_after, sent, request_rep
 use Rattle.manual.specs.Counts.{Happening, present_log, rise_of, raised, present_of, admissions_of, leavings_of}
 use Rattle.manual.specs.Counts.{Accounts}
 use Rattle.manual.specs.Sequences.{Query, ReadStatus, ReadFrame, ReadCounter, ReadMissing, ReadTable, ReadPaint}
-use Rattle.manual.specs.Sequences.{ChangesPage, ListGrey, Save, Call, Fresh, Report, Tick, Start, Stop, Clear}
-use Rattle.manual.specs.Sequences.{Read, Restore}
+use Rattle.manual.specs.Sequences.{ListGrey, Save, Call, Fresh, Report, Tick, Start, Stop, Clear, Read, Restore}
 use Rattle.manual.specs.Sequences.{Request, begins_anew, answer_to, outcome, log_of, log_at, carries_on}
 use Rattle.manual.specs.Tallies.{Tally, tally_of, counting, aside, anew, Tallied, begun, called, passed_by}
 use Rattle.manual.proofs.WordsLaws.{clash, by}
@@ -51,7 +49,7 @@ module _ (cfg : Configuration) where
     raises l = ap (raised (rise_of l)) of-log ∙ sym (rise_append l log)
 
     query_counts : (q : Query) → (answer_to cfg q b s).answer ≡ 0 → (answer_to cfg q b s).beside.counts ≡ b.counts
-    unfolding read_status read_frame read_counter read_missing read_table read_paint list_grey changes_page save
+    unfolding read_status read_frame read_counter read_missing read_table read_paint list_grey save
     query_counts (ReadStatus k) z = ap counts_in (accepted _ b s _ z).1
     query_counts (ReadFrame k which) z = ap counts_in (accepted _ b s _ z).1
     query_counts (ReadCounter k) z = ap counts_in (accepted _ b s _ z).1
@@ -59,7 +57,6 @@ module _ (cfg : Configuration) where
     query_counts ReadTable z = ap counts_in (accepted _ b s _ z).1
     query_counts (ReadPaint k) z = ap counts_in (accepted _ b s _ z).1
     query_counts ListGrey z = ap counts_in (accepted _ b s _ z).1
-    query_counts ChangesPage z = ap counts_in (accepted _ b s _ z).1
     query_counts Save z = ap counts_in (accepted _ b s _ z).1
 
     request_counts : (bytes : List ℕ) → (request_reply cfg bytes b s).answer ≡ 0
@@ -175,9 +172,9 @@ module _ (cfg : Configuration) where
 
   whole : {t : Tally} → Tallied cfg t → Whole t
   whole (begun c b s g) = whole_anew c b s g
-  whole (called {t} r c b) =
-      by (carries_on cfg c (with_counts t.counts b) t.state) Whole
-      (λ g. whole_on c (with_counts t.counts b) t refl g (whole r)) (λ g. whole_anew c _ t.state g)
+  whole (called {t} r c room) =
+      by (carries_on cfg c (lent_both room t.counts) t.state) Whole
+      (λ g. whole_on c (lent_both room t.counts) t refl g (whole r)) (λ g. whole_anew c _ t.state g)
   whole (passed_by {t} r c b f) = whole_aside c b t f (whole r)
 
   -- ---- the theorem

@@ -1,6 +1,6 @@
 -- Every call answers k exactly when k's test is the first of the call's list that holds, and 0 exactly when none does;
--- and a refused call leaves every block, the board, the room, the counts and the change bytes as found, and answers no
--- verdict, value or part.
+-- and a refused call leaves every block, the board, the room and the counts as found, and answers no verdict, value or
+-- part.
 use mathlib.Core.Path.{◌≡◌, refl, sym, ap, subst, ◌∙◌}
 use mathlib.Core.Logic.{◌≢◌, ◌↔◌}
 use mathlib.Core.Bool.{Bool, true, false, ◌||◌, cond}
@@ -16,12 +16,11 @@ use Rattle.manual.specs.Answers.{judged, Given, done_by, refusal_by}
 use Rattle.manual.specs.Counter.{read_counter}
 use Rattle.manual.specs.Missing.{read_missing}
 use Rattle.manual.specs.Untested.{read_table, read_paint, list_grey}
-use Rattle.manual.specs.ChangesPage.{changes_page}
 use Rattle.manual.specs.Calls.{fresh, report, tick, start_cycle, stop_cycle, clear_code, read_status, read_frame}
 use Rattle.manual.specs.Image.{save, restore}
 use Rattle.manual.specs.Diagnostics.{sent, request_reply}
 use Rattle.manual.specs.Sequences.{Query, ReadStatus, ReadFrame, ReadCounter, ReadMissing, ReadTable, ReadPaint}
-use Rattle.manual.specs.Sequences.{ChangesPage, ListGrey, Save, Call, Fresh, Report, Tick}
+use Rattle.manual.specs.Sequences.{ListGrey, Save, Call, Fresh, Report, Tick}
 use Rattle.manual.specs.Sequences.{Start, Stop, Clear, Read, Restore, Request, outcome, rules_of}
 use Rattle.manual.proofs.AnswersLaws.{left_alone}
 use Rattle.manual.proofs.WordsLaws.{clash}
@@ -74,7 +73,7 @@ module _ (cfg : Configuration) where
     is : outcome cfg c b s ≡ judged (rules_of cfg c b s) b s accepts
 
   judges_query : (q : Query) (b : Beside) (s : State) → Judged (Read q) b s
-  unfolding read_status read_frame read_counter read_missing read_table read_paint list_grey changes_page save
+  unfolding read_status read_frame read_counter read_missing read_table read_paint list_grey save
   judges_query (ReadStatus k) b s = record { accepts = _; zero = refl; is = refl }
   judges_query (ReadFrame k which) b s = record { accepts = _; zero = refl; is = refl }
   judges_query (ReadCounter k) b s = record { accepts = _; zero = refl; is = refl }
@@ -82,7 +81,6 @@ module _ (cfg : Configuration) where
   judges_query ReadTable b s = record { accepts = _; zero = refl; is = refl }
   judges_query (ReadPaint k) b s = record { accepts = _; zero = refl; is = refl }
   judges_query ListGrey b s = record { accepts = _; zero = refl; is = refl }
-  judges_query ChangesPage b s = record { accepts = _; zero = refl; is = refl }
   judges_query Save b s = record { accepts = _; zero = refl; is = refl }
 
   judges : (c : Call) (b : Beside) (s : State) → Judged c b s

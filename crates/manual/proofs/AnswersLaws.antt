@@ -128,27 +128,3 @@ module _ (rules : List Rule) (b : Beside) (s : State) (o : Outcome) where
   pub stops_with : (r : Refusal) → number_of r ≡ first_that_applies rules → refused (number_of r) b s ≡ judged rules b s o
   unfolding judged
   stops_with r e = let n : eqb (first_that_applies rules) 0 ≡ false = ne_eqb _ _ (λ z. never_done r (e ∙ z)) in rw (n, e)
-
--- ---- with something else lent beside
-
-abbrev pub beside_by : (Beside → Beside) → Outcome → Outcome
-beside_by f o = record {
-  answer = o.answer;
-  verdict = o.verdict;
-  value = o.value;
-  part = o.part;
-  beside = f o.beside;
-  state = o.state;
-}
-
--- where the rules do not look at it, it is left
-pub judged_beside : (f : Beside → Beside) (rules : List Rule) (b : Beside) (s : State) (o : Outcome)
-    → judged rules (f b) s (beside_by f o) ≡ beside_by f (judged rules b s o)
-unfolding judged
-judged_beside f rules b s o = go (eqb (first_that_applies rules) 0)
-  where
-    go : (t : Bool)
-        → cond t (beside_by f o) (refused (first_that_applies rules) (f b) s)
-        ≡ beside_by f (cond t o (refused (first_that_applies rules) b s))
-    go true = refl
-    go false = refl

@@ -7,47 +7,61 @@ use Prim.Native.Nat.{ℕ}
 use lib.Dec.{eqb}
 use Rattle.manual.specs.Configuration.{Configuration}
 use Rattle.manual.specs.State.{State}
-use Rattle.manual.specs.Answers.{Beside, with_counts, Outcome}
+use Rattle.manual.specs.Answers.{Beside, with_counts, Outcome, refused, Rule, first_that_applies, judged}
 use Rattle.manual.specs.Counter.{read_counter}
 use Rattle.manual.specs.Missing.{read_missing}
-use Rattle.manual.specs.ChangesPage.{changes_page_rules, changes_page}
 use Rattle.manual.specs.Untested.{read_table, read_paint, list_grey, list_grey_rules}
-use Rattle.manual.specs.Calls.{start_rules, start_cycle, read_status, read_frame}
+use Rattle.manual.specs.Calls.{start_cycle, read_status, read_frame}
 use Rattle.manual.specs.Image.{save, save_rules}
 use Rattle.manual.specs.Counts.{Happening}
 use Rattle.manual.specs.Sequences.{Query, ReadStatus, ReadFrame, ReadCounter, ReadMissing, ReadTable, ReadPaint}
-use Rattle.manual.specs.Sequences.{ListGrey, ChangesPage, Save, Call, Fresh, Report, Tick, Start, Stop, Clear}
-use Rattle.manual.specs.Sequences.{Read, Restore, Request, answer_to, outcome, log_at, carries_on}
+use Rattle.manual.specs.Sequences.{ListGrey, Save, Call, Fresh, Report, Tick, Start, Stop, Clear, Read, Restore}
+use Rattle.manual.specs.Sequences.{Request, answer_to, outcome, log_at, carries_on}
 use Rattle.manual.specs.Tallies.{takes_counts, counting}
 use Rattle.manual.proofs.WordsLaws.{clash}
-use Rattle.manual.proofs.AnswersLaws.{beside_by, judged_beside}
 
 -- the same outcome, with other counts beside
 abbrev pub recounted : List ℕ → Outcome → Outcome
-recounted k = beside_by (with_counts k)
+recounted k o = record {
+  answer = o.answer;
+  verdict = o.verdict;
+  value = o.value;
+  part = o.part;
+  beside = with_counts k o.beside;
+  state = o.state;
+}
+
+judged_recounted : (k : List ℕ) (rules : List Rule) (b : Beside) (s : State) (o : Outcome)
+    → judged rules (with_counts k b) s (recounted k o) ≡ recounted k (judged rules b s o)
+unfolding judged
+judged_recounted k rules b s o = go (eqb (first_that_applies rules) 0)
+  where
+    go : (t : Bool)
+        → cond t (recounted k o) (refused (first_that_applies rules) (with_counts k b) s)
+        ≡ recounted k (cond t o (refused (first_that_applies rules) b s))
+    go true = refl
+    go false = refl
 
 module _ (cfg : Configuration) where
   query_recounted : (q : Query) (k : List ℕ) (b : Beside) (s : State)
       → answer_to cfg q (with_counts k b) s ≡ recounted k (answer_to cfg q b s)
-  unfolding read_status read_frame read_counter read_missing read_table read_paint list_grey list_grey_rules changes_page
-      changes_page_rules save save_rules
-  query_recounted (ReadStatus e) k b s = judged_beside (with_counts k) _ b s _
-  query_recounted (ReadFrame e which) k b s = judged_beside (with_counts k) _ b s _
-  query_recounted (ReadCounter e) k b s = judged_beside (with_counts k) _ b s _
-  query_recounted (ReadMissing e present) k b s = judged_beside (with_counts k) _ b s _
-  query_recounted ReadTable k b s = judged_beside (with_counts k) _ b s _
-  query_recounted (ReadPaint e) k b s = judged_beside (with_counts k) _ b s _
-  query_recounted ListGrey k b s = judged_beside (with_counts k) _ b s _
-  query_recounted ChangesPage k b s = judged_beside (with_counts k) _ b s _
-  query_recounted Save k b s = judged_beside (with_counts k) _ b s _
+  unfolding read_status read_frame read_counter read_missing read_table read_paint list_grey list_grey_rules save save_rules
+  query_recounted (ReadStatus e) k b s = judged_recounted k _ b s _
+  query_recounted (ReadFrame e which) k b s = judged_recounted k _ b s _
+  query_recounted (ReadCounter e) k b s = judged_recounted k _ b s _
+  query_recounted (ReadMissing e present) k b s = judged_recounted k _ b s _
+  query_recounted ReadTable k b s = judged_recounted k _ b s _
+  query_recounted (ReadPaint e) k b s = judged_recounted k _ b s _
+  query_recounted ListGrey k b s = judged_recounted k _ b s _
+  query_recounted Save k b s = judged_recounted k _ b s _
 
   pub counts_not_looked_at : (c : Call) → takes_counts c ≡ false → (k : List ℕ) (b : Beside) (s : State)
       → outcome cfg c (with_counts k b) s ≡ recounted k (outcome cfg c b s)
-  unfolding start_cycle start_rules
+  unfolding start_cycle
   counts_not_looked_at Fresh t k b s = clash true refl t
   counts_not_looked_at (Report e code frame present) t k b s = clash true refl t
   counts_not_looked_at (Tick ms frame present) t k b s = clash true refl t
-  counts_not_looked_at (Start c) t k b s = judged_beside (with_counts k) _ b s _
+  counts_not_looked_at (Start c) t k b s = judged_recounted k _ b s _
   counts_not_looked_at (Stop c) t k b s = clash true refl t
   counts_not_looked_at (Clear code) t k b s = clash true refl t
   counts_not_looked_at (Read q) t k b s = query_recounted q k b s

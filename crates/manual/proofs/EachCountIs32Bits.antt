@@ -14,7 +14,7 @@ use Rattle.manual.specs.Configuration.{Configuration, most_places, config_ok}
 use Rattle.manual.specs.State.{State}
 use Rattle.manual.specs.Memory.{Entry}
 use Rattle.manual.specs.WellFormed.{entries, well_formed}
-use Rattle.manual.specs.Answers.{Beside, with_counts, Outcome}
+use Rattle.manual.specs.Answers.{Beside, lent_both, Outcome}
 use Rattle.manual.specs.Calls.{fresh, fresh_rules, report, report_rules, tick, tick_rules, stop_cycle, stop_rules}
 use Rattle.manual.specs.Calls.{clear_code, clear_rules, clear_log}
 use Rattle.manual.specs.Image.{restore, restore_rules}
@@ -118,8 +118,8 @@ module _ (cfg : Configuration) where
 
   pub each_count_is_32_bits : {t : Tally} → Tallied cfg t → past t.counts ≡ false
   each_count_is_32_bits (begun c b s g) = anew_not_past c b s g
-  each_count_is_32_bits (called {t} r c b) =
-      by (carries_on cfg c (with_counts t.counts b) t.state) (λ (u : Tally). past u.counts ≡ false)
-      (λ g. call_not_past (with_counts t.counts b) t.state (each_count_is_32_bits r) c g)
+  each_count_is_32_bits (called {t} r c room) =
+      by (carries_on cfg c (lent_both room t.counts) t.state) (λ (u : Tally). past u.counts ≡ false)
+      (λ g. call_not_past (lent_both room t.counts) t.state (each_count_is_32_bits r) c g)
       (λ g. anew_not_past c _ t.state g)
   each_count_is_32_bits (passed_by r c b f) = each_count_is_32_bits r

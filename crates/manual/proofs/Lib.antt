@@ -24,9 +24,6 @@ pub mod EntriesInACallLaws
 pub mod CountsLaws
 pub mod RepliesLaws
 pub mod BelowLaws
-pub mod RisingLaws
-pub mod XorLaws
-pub mod ChangesLaws
 pub mod ListedRepliesLaws
 pub mod UntestedLaws
 pub mod AnswerIsFirstThatApplies
@@ -44,10 +41,8 @@ pub mod RepliesFitTheRoom
 pub mod RoomForEveryReply
 pub mod RepliesAgree
 pub mod MatchingIsASharedBit
-pub mod ChangesCompose
 pub mod Service14IsClear
 pub mod CallsWithoutCounts
-pub mod CallsWithoutChanges
 pub mod AdmittedIsPresentAndLeft
 pub mod EachCountIs32Bits
 pub mod SequencesAreTallied
@@ -64,7 +59,6 @@ pub mod ByteIsReadingInEverySequence
 pub mod NoCallLeftOut
 pub mod TheTableCountsEachEvent
 pub mod TheGreyListIsComplete
-pub mod ThePageListsTheChanged
 pub mod PaintIsReadOffTheHistory
 pub mod Examples
 pub mod ExamplesAreASequence

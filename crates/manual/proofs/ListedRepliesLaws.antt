@@ -9,14 +9,12 @@ use lib.Dec.{ltb}
 use lib.ListN.{length, drop}
 use lib.Seq.{take_at}
 use borrow.Author.Tests.{ltb-true, ltb-false}
-use Rattle.history.proofs.WordsLaws.{and_left, and_right}
 use Rattle.manual.specs.Words.{those, two, three}
 use Rattle.manual.specs.Configuration.{Configuration, events, code_of, config_ok}
 use Rattle.manual.specs.State.{State, status_byte}
 use Rattle.manual.specs.WellFormed.{well_formed}
 use Rattle.manual.specs.Answers.{Beside, Outcome}
 use Rattle.manual.specs.Counts.{counts_fit}
-use Rattle.manual.specs.Changes.{both_fit}
 use Rattle.manual.specs.Diagnostics.{request_reply}
 use Rattle.manual.specs.Replies.{rising, shares_bit, number_by, list_by, list_events, fours, lines_in, Tells, second_byte}
 use Rattle.manual.specs.Replies.{Due, sends, refused_with, length_of_01, length_of_02, length_of_0a}
@@ -42,12 +40,11 @@ module _ (cfg : Configuration) (s : State) (configured : config_ok cfg ≡ true)
     plain : second_byte cfg request s < 128
 
   module _ {request bytes : List ℕ} (w : Wants request bytes) (b : Beside)
-      (fit : both_fit cfg b ≡ true) (least : 3 ≤ length b.room) where
+      (five : counts_fit b.counts ≡ true) (least : 3 ≤ length b.room) where
     answered : (ask request b).answer ≡ 0
     answered = accepted_told cfg request b s (record {
       configuration = configured;
-      five_counts = and_left (counts_fit b.counts) _ fit;
-      n_changes = and_right (counts_fit b.counts) _ fit;
+      five_counts = five;
       formed = formed;
       room_least = least;
       not_empty_lem = w.asked;
@@ -82,7 +79,7 @@ module _ (cfg : Configuration) (s : State) (configured : config_ok cfg ≡ true)
   cut e l = refl
 
   module _ (request : List ℕ) (x y z : ℕ) (es : List ℕ) (w : Wants request (x ∷ y ∷ z ∷ flat_map line es))
-      (b : Beside) (five : both_fit cfg b ≡ true) where
+      (b : Beside) (five : counts_fit b.counts ≡ true) where
     its_length : length (x ∷ y ∷ z ∷ flat_map line es) ≡ 3 + 4 * length es
     its_length = let h = flat_length line 4 (λ e. refl) es in omega arith
 
@@ -124,11 +121,11 @@ module _ (cfg : Configuration) (s : State) (configured : config_ok cfg ≡ true)
       plain = omega arith;
     }
 
-    pub number_sent : (b : Beside) → both_fit cfg b ≡ true → 6 ≤ length b.room
+    pub number_sent : (b : Beside) → counts_fit b.counts ≡ true → 6 ≤ length b.room
         → ask (number_by mask) b ≡ sends cfg (number_by mask) s b number_bytes s
     number_sent b five h = sent_all number_wants b five (omega arith) h
 
-    pub number_14 : (b : Beside) → both_fit cfg b ≡ true → 3 ≤ length b.room → length b.room < 6
+    pub number_14 : (b : Beside) → counts_fit b.counts ≡ true → 3 ≤ length b.room → length b.room < 6
         → TooLong (number_by mask) b
     number_14 = sent_14 number_wants
 
@@ -144,15 +141,15 @@ module _ (cfg : Configuration) (s : State) (configured : config_ok cfg ≡ true)
       plain = omega arith;
     }
 
-    pub by_mask_value : (b : Beside) → both_fit cfg b ≡ true → 3 + 4 * length matched ≤ length b.room
+    pub by_mask_value : (b : Beside) → counts_fit b.counts ≡ true → 3 + 4 * length matched ≤ length b.room
         → (ask (list_by mask) b).value ≡ 3 + 4 * length matched
     by_mask_value = list_value (list_by mask) 0x59 0x02 0xFF matched by_mask_wants
 
-    pub by_mask_14 : (b : Beside) → both_fit cfg b ≡ true → 3 ≤ length b.room
+    pub by_mask_14 : (b : Beside) → counts_fit b.counts ≡ true → 3 ≤ length b.room
         → length b.room < 3 + 4 * length matched → TooLong (list_by mask) b
     by_mask_14 = list_14 (list_by mask) 0x59 0x02 0xFF matched by_mask_wants
 
-    pub by_mask_lines : (b : Beside) → both_fit cfg b ≡ true → 3 ≤ length b.room → ¬ TooLong (list_by mask) b
+    pub by_mask_lines : (b : Beside) → counts_fit b.counts ≡ true → 3 ≤ length b.room → ¬ TooLong (list_by mask) b
         → lines_in (ask (list_by mask) b) ≡ map line matched
     by_mask_lines = list_lines (list_by mask) 0x59 0x02 0xFF matched by_mask_wants
 
@@ -171,14 +168,14 @@ module _ (cfg : Configuration) (s : State) (configured : config_ok cfg ≡ true)
     plain = omega arith;
   }
 
-  pub all_value : (b : Beside) → both_fit cfg b ≡ true → 3 + 4 * length every ≤ length b.room
+  pub all_value : (b : Beside) → counts_fit b.counts ≡ true → 3 + 4 * length every ≤ length b.room
       → (ask list_events b).value ≡ 3 + 4 * length every
   all_value = list_value list_events 0x59 0x0A 0xFF every all_wants
 
-  pub all_14 : (b : Beside) → both_fit cfg b ≡ true → 3 ≤ length b.room
+  pub all_14 : (b : Beside) → counts_fit b.counts ≡ true → 3 ≤ length b.room
       → length b.room < 3 + 4 * length every → TooLong list_events b
   all_14 = list_14 list_events 0x59 0x0A 0xFF every all_wants
 
-  pub all_lines : (b : Beside) → both_fit cfg b ≡ true → 3 ≤ length b.room → ¬ TooLong list_events b
+  pub all_lines : (b : Beside) → counts_fit b.counts ≡ true → 3 ≤ length b.room → ¬ TooLong list_events b
       → lines_in (ask list_events b) ≡ map line every
   all_lines = list_lines list_events 0x59 0x0A 0xFF every all_wants

@@ -1,4 +1,4 @@
--- No call is left out of the sequences: from a state that calls lead to, any of the seventeen calls with any arguments
+-- No call is left out of the sequences: from a state that calls lead to, any of the sixteen calls with any arguments
 -- leads to such a state again, with the tokens that it gave; but for an accepted fresh, with which a sequence begins,
 -- and an accepted restore, which leads on where the image was saved in the sequence.
 use mathlib.Core.Path.{◌≡◌, refl, sym}

@@ -13,13 +13,13 @@ use lib.Seq.{get_or-set_same, get_or-set_other}
 use lib.IntN.{ℤ, pos}
 use borrow.Author.Tests.{eqb-true, eqb-false}
 use Rattle.history.specs.StatusByte.{fresh_failure, ages_at_stop}
-use Rattle.history.specs.History.{Token, passed, failed, stop, clear, step}
+use Rattle.history.specs.History.{Token, stop, clear, step}
 use Rattle.manual.specs.declared.Verdict.{Verdict}
 use Rattle.manual.specs.declared.Verdict.TheVariants.{None, Passed, Failed}
 use Rattle.manual.specs.Words.{for_below}
 use Rattle.manual.specs.Configuration.{Configuration, events, limits_of}
 use Rattle.manual.specs.State.{State, record_width, Stored, opened, stored, stored_at}
-use Rattle.manual.specs.State.{status_byte, record_of, D, with_d, with_memory, with_overflow}
+use Rattle.manual.specs.State.{record_of, D, with_d, with_memory, with_overflow}
 use Rattle.manual.specs.Debouncing.{Debounced}
 use Rattle.manual.specs.OneEvent.{happens, entry_leaves, keeps, memory_told, fails}
 use Rattle.manual.specs.OneEvent.{qualifies, stops, clears, for_those}
@@ -252,27 +252,6 @@ module _ (cfg : Configuration) (frame : List ℕ) (k : ℕ) where
   applied_other_d d s e h =
       ap (λ (l : List ℤ). get_or l e (pos 0)) (beside_qualifies d.verdict (with_d k d.number s)).debounce
       ∙ get_or-set_other s.debounce k e d.number (pos 0) h
-
-  happens_other : (t : Token) (s : State) (e : ℕ) → e ≢ k → status_byte (happens cfg t k s) e ≡ status_byte s e
-  happens_other t s e h = ap (λ (v : View). v.stored.status) ((acts_happens cfg t).other k e s h)
-
-  fails_other : (s : State) (e : ℕ) → e ≢ k → status_byte (fails cfg frame k s) e ≡ status_byte s e
-  unfolding fails memory_told keeps
-  fails_other s e h =
-      by (fresh_failure (record_of s k)) (λ (t : State). status_byte t e ≡ status_byte s e)
-      (λ q. happens_other failed s e h) (λ q. happens_other failed s e h)
-
-  qualifies_other : (w : Verdict) (s : State) (e : ℕ) → e ≢ k
-      → status_byte (qualifies cfg frame k w s) e ≡ status_byte s e
-  qualifies_other None s e h = refl
-  qualifies_other Passed s e h = happens_other passed s e h
-  qualifies_other Failed s e h = fails_other s e h
-
-  -- a verdict changes the status of no other event
-  pub applied_other_status : (d : Debounced) (s : State) (e : ℕ) → e ≢ k
-      → status_byte (applied cfg frame k d s) e ≡ status_byte s e
-  unfolding applied
-  applied_other_status d s e h = qualifies_other d.verdict (with_d k d.number s) e h
 
 pub ticks_running : (cfg : Configuration) (ms : ℕ) (frame : List ℕ) (p : ℕ → Bool) (s : State)
     → (for_those cfg p (ticks cfg ms frame) s).board.running ≡ s.board.running

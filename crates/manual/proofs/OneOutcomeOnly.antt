@@ -122,9 +122,6 @@ same_room p q = ap (λ (b : Beside). b.room) (same_beside p q)
 pub same_counts : {o y y' : Outcome} → y ≡ o → y' ≡ o → y.beside.counts ≡ y'.beside.counts
 same_counts p q = ap (λ (b : Beside). b.counts) (same_beside p q)
 
-pub same_changes : {o y y' : Outcome} → y ≡ o → y' ≡ o → y.beside.changes ≡ y'.beside.changes
-same_changes p q = ap (λ (b : Beside). b.changes) (same_beside p q)
-
 -- the answer, which its numbers give back
 module _ {A : Type 0} (of : A → Answered) (from : Answered → A) (back : (a : A) → from (of a) ≡ a) where
   same_numbers : {o : Outcome} {part part' : List ℕ} {b b' : Beside} {s s' : State} (a a' : A)

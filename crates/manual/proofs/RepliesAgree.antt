@@ -13,7 +13,7 @@ use Rattle.manual.specs.Configuration.{Configuration, events, config_ok}
 use Rattle.manual.specs.State.{State}
 use Rattle.manual.specs.WellFormed.{well_formed}
 use Rattle.manual.specs.Answers.{Beside, Outcome}
-use Rattle.manual.specs.Changes.{both_fit}
+use Rattle.manual.specs.Counts.{counts_fit}
 use Rattle.manual.specs.Diagnostics.{request_reply}
 use Rattle.manual.specs.Replies.{shares_bit, number_by, list_by, list_events, reply_in, lines_in}
 use Rattle.manual.specs.Replies.{status_in, number_in, Tells, refused_with}
@@ -41,7 +41,7 @@ module _ (cfg : Configuration) (s : State) (configured : config_ok cfg ≡ true)
     matched = Laws.matched cfg s configured formed mask
 
     -- the number takes 6 bytes of room, two of them its own
-    pub number_in_two_bytes : (b : Beside) → both_fit cfg b ≡ true → 6 ≤ length b.room
+    pub number_in_two_bytes : (b : Beside) → counts_fit b.counts ≡ true → 6 ≤ length b.room
         → ((ask (number_by mask) b).value ≡ 6)
         × (get_or (reply_in (ask (number_by mask) b)) 4 0 < 256)
         × (get_or (reply_in (ask (number_by mask) b)) 5 0 < 256)
@@ -49,11 +49,11 @@ module _ (cfg : Configuration) (s : State) (configured : config_ok cfg ≡ true)
         let most = Laws.matched_most cfg s configured formed mask in
         rw (Laws.number_sent cfg s configured formed mask b five six) (refl, omega arith, omega arith)
 
-    pub number_too_long : (b : Beside) → both_fit cfg b ≡ true → 3 ≤ length b.room → length b.room < 6
+    pub number_too_long : (b : Beside) → counts_fit b.counts ≡ true → 3 ≤ length b.room → length b.room < 6
         → TooLong (number_by mask) b
     number_too_long = Laws.number_14 cfg s configured formed mask
 
-    module _ (b₁ b₂ : Beside) (five₁ : both_fit cfg b₁ ≡ true) (five₂ : both_fit cfg b₂ ≡ true)
+    module _ (b₁ b₂ : Beside) (five₁ : counts_fit b₁.counts ≡ true) (five₂ : counts_fit b₂.counts ≡ true)
         (six : 6 ≤ length b₁.room) where
       abbrev told : ℕ
       told = number_in (ask (number_by mask) b₁)
@@ -75,7 +75,7 @@ module _ (cfg : Configuration) (s : State) (configured : config_ok cfg ≡ true)
 
   -- ---- `19 0A`
 
-  module _ (b : Beside) (five : both_fit cfg b ≡ true) where
+  module _ (b : Beside) (five : counts_fit b.counts ≡ true) where
     pub all_is_length : 3 + 4 * events cfg ≤ length b.room → (ask list_events b).value ≡ 3 + 4 * events cfg
     all_is_length = rw (rising_length (events cfg)) at (Laws.all_value cfg s configured formed b five)
 
@@ -100,7 +100,7 @@ module _ (cfg : Configuration) (s : State) (configured : config_ok cfg ≡ true)
 
   -- ---- `19 02 mask` and `19 0A`
 
-  module _ (mask : ℕ) (b₁ b₂ : Beside) (five₁ : both_fit cfg b₁ ≡ true) (five₂ : both_fit cfg b₂ ≡ true)
+  module _ (mask : ℕ) (b₁ b₂ : Beside) (five₁ : counts_fit b₁.counts ≡ true) (five₂ : counts_fit b₂.counts ≡ true)
       (least₁ : 3 ≤ length b₁.room) (least₂ : 3 ≤ length b₂.room) where
     abbrev shares : List ℕ → Bool
     shares l = shares_bit (status_in l) mask

@@ -16,10 +16,8 @@ use Rattle.manual.specs.State.{State}
 use Rattle.manual.specs.Memory.{Entry, entry_for}
 use Rattle.manual.specs.WellFormed.{entries}
 use Rattle.manual.specs.Answers.{Beside, with_counts, Outcome}
-use Rattle.manual.specs.Changes.{filled}
 use Rattle.manual.specs.Calls.{unknown_code, cleared}
-use Rattle.manual.specs.Diagnostics.{beside_after, Reply, Served, served, SubFunction, sub_function, fitted}
-use Rattle.manual.specs.Diagnostics.{lines, number_by_mask}
+use Rattle.manual.specs.Diagnostics.{Reply, Served, served, SubFunction, sub_function, fitted, lines, number_by_mask}
 use Rattle.manual.specs.Diagnostics.{list_by_mask, list_events, list_near, is_near, counter_byte}
 use Rattle.manual.specs.Diagnostics.{is_record, shown_event, event_asked, frame_told, details_told}
 use Rattle.manual.specs.Diagnostics.{behind_status, shown_bytes, showing, show_frame, show_details}
@@ -92,9 +90,9 @@ module _ (cfg : Configuration) (request : List ℕ) (b : Beside) (s : State) whe
   abbrev here : Served
   here = served_by cfg request (length b.room) s
 
-  -- what is lent beside the state, with the counts and change bytes that the request leaves
+  -- what is lent beside the state, with the counts that the request leaves
   abbrev left : Beside
-  left = beside_after cfg request b s
+  left = with_counts (counts_after cfg request b s) b
 
   -- a reply as the request and the room let it go
   abbrev fitting : Reply → Reply
@@ -161,7 +159,7 @@ module _ (cfg : Configuration) (request : List ℕ) (b : Beside) (s : State) whe
 
   -- what this leaves is said
   abbrev SaidOf : Served → Type 0
-  SaidOf r = Said (replied cfg service (filled cfg s r.state b) r)
+  SaidOf r = Said (replied cfg service b r)
 
   abbrev Said19 : Reply → Type 0
   Said19 reply = SaidOf (served reply s)

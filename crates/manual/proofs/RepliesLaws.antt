@@ -19,10 +19,8 @@ use Rattle.manual.specs.State.{State}
 use Rattle.manual.specs.WellFormed.{well_formed}
 use Rattle.manual.specs.Answers.{Beside, with_counts, Outcome, first_that_applies}
 use Rattle.manual.specs.Counts.{rise_of, raised, carries_past, counts_fit}
-use Rattle.manual.specs.Changes.{both_fit}
 use Rattle.manual.specs.Calls.{unknown_code, clear_log}
-use Rattle.manual.specs.Diagnostics.{beside_after, asks_clear, counts_after, served_by, sent, replied, request_rules}
-use Rattle.manual.specs.Diagnostics.{request_reply}
+use Rattle.manual.specs.Diagnostics.{asks_clear, counts_after, served_by, sent, replied, request_rules, request_reply}
 use Rattle.manual.specs.Replies.{rising, fours, Clearing, Accepted}
 use Rattle.manual.proofs.AnswersLaws.{none_applies, three_passed, accepted, goes_through}
 
@@ -169,9 +167,8 @@ module _ (cfg : Configuration) (request : List ℕ) (b : Beside) (s : State) whe
       let none = none_applies _ (accepted _ b s _ z).0 refl in
       record {
         configuration = not-false _ (none 0);
-        five_counts = and_left _ _ (three_passed (both_fit cfg b) (well_formed cfg s) (none 1)).0;
-        n_changes = and_right (counts_fit b.counts) _ (three_passed (both_fit cfg b) (well_formed cfg s) (none 1)).0;
-        formed = (three_passed (both_fit cfg b) (well_formed cfg s) (none 1)).1;
+        five_counts = (three_passed (counts_fit b.counts) (well_formed cfg s) (none 1)).0;
+        formed = (three_passed (counts_fit b.counts) (well_formed cfg s) (none 1)).1;
         room_least = ltb-false _ _ (none 2);
         not_empty_lem = eqb-false _ _ (none 3);
         not_past = λ c. rw (asks_clear_lem c) at (none 4);
@@ -179,7 +176,7 @@ module _ (cfg : Configuration) (request : List ℕ) (b : Beside) (s : State) whe
 
   pub accepted_is : (request_reply cfg request b s).answer ≡ 0
       → request_reply cfg request b s
-      ≡ replied cfg (get_or request 0 0) (beside_after cfg request b s)
+      ≡ replied cfg (get_or request 0 0) (with_counts (counts_after cfg request b s) b)
       (served_by cfg request (length b.room) s)
   unfolding request_reply
   accepted_is z = (accepted _ b s _ z).1
@@ -191,7 +188,6 @@ module _ (cfg : Configuration) (request : List ℕ) (b : Beside) (s : State) whe
       rw (
         a.configuration,
         a.five_counts,
-        a.n_changes,
         a.formed,
         le-ltb _ _ a.room_least,
         ne_eqb _ _ a.not_empty_lem,

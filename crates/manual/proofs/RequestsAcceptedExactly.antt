@@ -1,7 +1,7 @@
--- A diagnostic request is accepted exactly where the configuration and the state are good, five counts and n change
--- bytes are lent, the room holds 3 bytes, the request is not empty and, where it clears, carries no count past the
--- limit. In a room of fewer than 3 bytes it is refused with 7, also where it is empty; an empty one in a room of 3
--- bytes with 1. None but a clearing one is refused with 12.
+-- A diagnostic request is accepted exactly where the configuration and the state are good, five counts are lent, the
+-- room holds 3 bytes, the request is not empty and, where it clears, carries no count past the limit. In a room of
+-- fewer than 3 bytes it is refused with 7, also where it is empty; an empty one in a room of 3 bytes with 1. None but
+-- a clearing one is refused with 12.
 use mathlib.Core.Path.{◌≡◌, refl, sym, ◌∙◌}
 use mathlib.Core.Logic.{◌≢◌, ◌↔◌}
 use mathlib.Core.Bool.{Bool, true, false}
@@ -14,7 +14,7 @@ use Rattle.manual.specs.Configuration.{Configuration, config_ok}
 use Rattle.manual.specs.State.{State}
 use Rattle.manual.specs.WellFormed.{well_formed}
 use Rattle.manual.specs.Answers.{Beside, ◌if◌, first_that_applies}
-use Rattle.manual.specs.Changes.{both_fit}
+use Rattle.manual.specs.Counts.{counts_fit}
 use Rattle.manual.specs.Sequences.{Request}
 use Rattle.manual.specs.Diagnostics.{asks_clear, request_rules, request_reply}
 use Rattle.manual.specs.Replies.{Clearing, Accepted}
@@ -35,7 +35,7 @@ module _ (cfg : Configuration) (request : List ℕ) (b : Beside) (s : State) whe
   accepted_exactly = (accepted_tells cfg request b s, accepted_told cfg request b s)
 
   module _ (configured : config_ok cfg ≡ true) (formed : well_formed cfg s ≡ true)
-      (five : both_fit cfg b ≡ true) where
+      (five : counts_fit b.counts ≡ true) where
     seven : length b.room < 3 → first_that_applies (request_rules cfg request b s) ≡ 7
     unfolding request_rules first_that_applies
     seven h = rw (configured, five, formed, lt-ltb _ _ h)

@@ -8,7 +8,7 @@ use lib.ListN.{length, get_or}
 use Rattle.manual.specs.Configuration.{Configuration}
 use Rattle.manual.specs.State.{State}
 use Rattle.manual.specs.WellFormed.{entries}
-use Rattle.manual.specs.Answers.{Beside, with_counts}
+use Rattle.manual.specs.Answers.{Beside, lent_both}
 use Rattle.manual.specs.Image.{save}
 use Rattle.manual.specs.Sequences.{Call, Fresh, Restore, saved_image, outcome, log_at, carries_on, Reached}
 use Rattle.manual.specs.Tallies.{Tally, tally_of, counting, aside, after, Tallied, begun, called, passed_by}
@@ -29,8 +29,8 @@ module _ (cfg : Configuration) where
       next : Tallied cfg (after cfg c b s t.log)
       next =
           subst (λ (u : State). Tallied cfg (after cfg c b u t.log)) a.state
-          (subst (λ (l : List ℕ). Tallied cfg (after cfg c (with_counts l b) t.state t.log)) (sym left)
-          (called a.tallied c b))
+          (subst (λ (l : List ℕ). Tallied cfg (after cfg c (lent_both b.room l) t.state t.log)) (sym left)
+          (called a.tallied c b.room))
 
   goes_aside : (c : Call) (b : Beside) (s : State) (t : Tally) → counting cfg c b s ≡ false → Among s t
       → Among (outcome cfg c b s).state (aside cfg c b s t)

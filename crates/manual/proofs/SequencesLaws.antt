@@ -24,12 +24,11 @@ use Rattle.manual.specs.Calls.{unknown_code}
 use Rattle.manual.specs.Calls.{cleared, clear_log, clear_rules, clear_code, read_status, read_frame}
 use Rattle.manual.specs.Counts.{carries_past}
 use Rattle.manual.specs.Untested.{read_table, read_paint, list_grey}
-use Rattle.manual.specs.ChangesPage.{changes_page}
 use Rattle.manual.specs.Image.{save, restore}
 use Rattle.manual.specs.Diagnostics.{positive, negative, Served, served, service14}
 use Rattle.manual.specs.Diagnostics.{asks_clear, served_by, sent, request_rules, request_reply}
 use Rattle.manual.specs.Sequences.{Query, ReadStatus, ReadFrame, ReadCounter, ReadMissing, ReadTable, ReadPaint}
-use Rattle.manual.specs.Sequences.{ChangesPage, ListGrey, Save}
+use Rattle.manual.specs.Sequences.{ListGrey, Save}
 use Rattle.manual.specs.Sequences.{Call, Fresh, Report, Tick, Start, Stop}
 use Rattle.manual.specs.Sequences.{Clear, Read, Restore, Request, answer_to, only_if, outcome, gives}
 use Rattle.manual.specs.Sequences.{tokens, tokens_at, carries_on}
@@ -87,7 +86,7 @@ module _ (cfg : Configuration) where
         → Does b s (Report k code frame present) (applied cfg frame k (debounced_by cfg k code s) s)
     a_tick : (ms : ℕ) (frame : List ℕ) (present : ℕ) → first_that_applies (tick_rules cfg ms frame present b s) ≡ 0
         → Does b s (Tick ms frame present) (for_those cfg (tick_moves cfg present s.board) (ticks cfg ms frame) s)
-    a_start : (c : ℕ) → first_that_applies (start_rules cfg c b s) ≡ 0
+    a_start : (c : ℕ) → first_that_applies (start_rules cfg c s) ≡ 0
         → Does b s (Start c) (with_cycle c true (for_those cfg (of_cycle cfg c) (happens cfg start) s))
     a_stop : (c : ℕ) → first_that_applies (stop_rules cfg c b s) ≡ 0
         → Does b s (Stop c) (with_cycle c false (for_those cfg (of_cycle cfg c) (stops cfg) s))
@@ -99,7 +98,7 @@ module _ (cfg : Configuration) where
     a_reading : (c : Call) → only_reads c ≡ true → Does b s c s
 
   -- service 14 clears a known code, and nothing else changes the state
-  pub served_state : (bytes : List ℕ) (room : ℕ) (s : State)
+  served_state : (bytes : List ℕ) (room : ℕ) (s : State)
       → (served_by cfg bytes room s).state ≡ cond (asks_clear cfg bytes) (cleared cfg (three_at 1 bytes) s) s
   unfolding served_by service14
   served_state bytes room s = go (eqb (get_or bytes 0 0) 0x14) refl
@@ -176,7 +175,7 @@ module _ (cfg : Configuration) where
 
   -- a call that only reads leaves the state as it was, accepted or refused
   pub query_leaves : (q : Query) (b : Beside) (s : State) → (answer_to cfg q b s).state ≡ s
-  unfolding read_status read_frame read_counter read_missing read_table read_paint list_grey changes_page save
+  unfolding read_status read_frame read_counter read_missing read_table read_paint list_grey save
   query_leaves (ReadStatus k) b s = judged_leaves _ b s _ refl
   query_leaves (ReadFrame k which) b s = judged_leaves _ b s _ refl
   query_leaves (ReadCounter k) b s = judged_leaves _ b s _ refl
@@ -184,7 +183,6 @@ module _ (cfg : Configuration) where
   query_leaves ReadTable b s = judged_leaves _ b s _ refl
   query_leaves (ReadPaint k) b s = judged_leaves _ b s _ refl
   query_leaves ListGrey b s = judged_leaves _ b s _ refl
-  query_leaves ChangesPage b s = judged_leaves _ b s _ refl
   query_leaves Save b s = judged_leaves _ b s _ refl
 
   query_does : (q : Query) (b : Beside) (s : State) → Either (Does b s (Read q)) s (answer_to cfg q b s)
@@ -223,7 +221,7 @@ module _ (cfg : Configuration) where
         → Q (applied cfg frame k (debounced_by cfg k code s) s) (given (Report k code frame present) s H)
     pub tick : (ms : ℕ) (frame : List ℕ) (present : ℕ) → first_that_applies (tick_rules cfg ms frame present b s) ≡ 0
         → Q (for_those cfg (tick_moves cfg present s.board) (ticks cfg ms frame) s) (given (Tick ms frame present) s H)
-    pub start : (c : ℕ) → first_that_applies (start_rules cfg c b s) ≡ 0
+    pub start : (c : ℕ) → first_that_applies (start_rules cfg c s) ≡ 0
         → Q (with_cycle c true (for_those cfg (of_cycle cfg c) (happens cfg start) s)) (given (Start c) s H)
     pub stop : (c : ℕ) → first_that_applies (stop_rules cfg c b s) ≡ 0
         → Q (with_cycle c false (for_those cfg (of_cycle cfg c) (stops cfg) s)) (given (Stop c) s H)

@@ -276,10 +276,10 @@ module _ (cfg : Configuration) where
     starts_keep c s =
         record { sound = λ k u h q r. starts_sound k u h; running = λ k u. (acts_happens cfg start).running k u }
 
-    start_sound : (c : ℕ) (b : Beside) (s : State) → Sound cfg s → first_that_applies (start_rules cfg c b s) ≡ 0
+    start_sound : (c : ℕ) (s : State) → Sound cfg s → first_that_applies (start_rules cfg c s) ≡ 0
         → Sound cfg (with_cycle c true (for_those cfg (of_cycle cfg c) (happens cfg start) s))
     unfolding start_rules
-    start_sound c b s o z =
+    start_sound c s o z =
         turned_sound c true s' g.sound
         (λ e h q. stopped_zero cfg s'.board e (D s' e) (off e q) (g.sound.events_good e h).number)
       where
@@ -358,7 +358,7 @@ module _ (cfg : Configuration) where
   does_sound _ b s _ (a_report k code frame present z) o =
       report_sound (judged_config _ _ z refl) k code frame present b s o z
   does_sound _ b s _ (a_tick ms frame present z) o = tick_sound (judged_config _ _ z refl) ms frame present b s o z
-  does_sound _ b s _ (a_start c z) o = start_sound (judged_config _ _ z refl) c b s o z
+  does_sound _ b s _ (a_start c z) o = start_sound (judged_config _ _ z refl) c s o z
   does_sound _ b s _ (a_stop c z) o = stop_sound (judged_config _ _ z refl) c s o
   does_sound _ b s _ (a_clear code z) o = cleared_sound (judged_config _ _ z refl) code s o
   does_sound _ b s _ (a_request bytes a z) o = cleared_sound (judged_config _ _ z refl) (three_at 1 bytes) s o

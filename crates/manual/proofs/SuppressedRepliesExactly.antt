@@ -1,19 +1,18 @@
 -- A reply has length 0 exactly where it would be positive and the top bit of the request's second byte is set; then the
--- room, the counts and the state are as found.
-use mathlib.Core.Path.{◌≡◌, ap, ◌∙◌}
+-- room and the state are as found.
+use mathlib.Core.Path.{◌≡◌, ap}
 use mathlib.Core.Logic.{◌↔◌}
 use mathlib.Core.List.{List, []}
 use Prim.Native.Nat.{ℕ, ◌≤◌}
 use native.Mathlib.Omega.{arith}
-use lib.ListN.{length, replicate}
-use Rattle.manual.specs.Configuration.{Configuration, events}
+use lib.ListN.{length}
+use Rattle.manual.specs.Configuration.{Configuration}
 use Rattle.manual.specs.State.{State}
-use Rattle.manual.specs.Answers.{Beside, with_changes, Outcome}
+use Rattle.manual.specs.Answers.{Beside, Outcome}
 use Rattle.manual.specs.Diagnostics.{request_reply}
 use Rattle.manual.specs.Replies.{Asks, Suppressed, sends, Replies, number_by_mask_lem, list_by_mask_lem}
 use Rattle.manual.specs.Replies.{list_all, list_near_lem, frame_of_entry, details_of_entry, frame_without_entry}
 use Rattle.manual.specs.Replies.{details_without_entry, negative, suppressed, positive, clears}
-use Rattle.manual.proofs.ChangesLaws.{nothing_changed}
 use Rattle.manual.proofs.RepliesFollowTheSentences.{reply_said, reply_is}
 
 module _ (cfg : Configuration) (request : List ℕ) (b : Beside) (s : State) where
@@ -47,11 +46,6 @@ module _ (cfg : Configuration) (request : List ℕ) (b : Beside) (s : State) whe
     pub suppressed_exactly : (outcome.value ≡ 0) ↔ Suppressed cfg request s
     suppressed_exactly = (told, λ q. ap (λ (o : Outcome). o.value) (silent q))
 
-    -- it leaves all as found but the change bytes, which are all 0
-    pub suppressed_changes_nothing : outcome.value ≡ 0
-        → (outcome.beside ≡ with_changes (replicate (events cfg) 0) b) × (outcome.state ≡ s)
-    suppressed_changes_nothing z =
-        let e = silent (told z) in (
-          ap (λ (o : Outcome). o.beside) e ∙ ap (λ (l : List ℕ). with_changes l b) (nothing_changed cfg s),
-          ap (λ (o : Outcome). o.state) e,
-        )
+    pub suppressed_leaves_all : outcome.value ≡ 0 → (outcome.beside ≡ b) × (outcome.state ≡ s)
+    suppressed_leaves_all z =
+        let e = silent (told z) in (ap (λ (o : Outcome). o.beside) e, ap (λ (o : Outcome). o.state) e)

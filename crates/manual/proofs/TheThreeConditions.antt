@@ -30,8 +30,6 @@ use Rattle.manual.specs.Diagnostics.{request_reply}
 use Rattle.manual.specs.Replies.{Replies}
 use Rattle.manual.specs.Sequences.{Query, Call, Report, Tick, answer_to, outcome, rules_of}
 use Rattle.manual.specs.Sequences.{tokens_at, log_at, carries_on, saved_image, Reached, restored}
-use Rattle.manual.specs.Changes.{changes_fit}
-use Rattle.manual.specs.ChangesAlong.{takes_changes}
 use Rattle.manual.specs.Tallies.{takes_counts, Tally, Tallied, Leaves}
 use Rattle.manual.specs.EntriesInACall.{Fate, Origin}
 use Rattle.manual.specs.MarkedExamples.{replayed, table}
@@ -182,12 +180,12 @@ module _ (cfg : Configuration) where
     no_event_twice = WellFormedInEverySequence.no_event_twice cfg reached
 
     -- the configuration and the state are in order: no call is refused with 2, nor with 3 where it takes no counts or
-    -- is lent five, and takes no change bytes or is lent n
+    -- is lent five
     pub never_refused_with_2 : (c : Call) (b : Beside) → (outcome cfg c b s).answer ≢ 2
     never_refused_with_2 = WellFormedInEverySequence.never_refused_with_2 cfg reached
 
     pub never_refused_with_3 : (c : Call) (b : Beside) → (takes_counts c ≡ true → counts_fit b.counts ≡ true)
-        → (takes_changes c ≡ true → changes_fit cfg b.changes ≡ true) → (outcome cfg c b s).answer ≢ 3
+        → (outcome cfg c b s).answer ≢ 3
     never_refused_with_3 = WellFormedInEverySequence.never_refused_with_3 cfg reached
 
     -- "any sequence of calls": every call leads on, with the tokens that it gives, but for an accepted fresh or restore

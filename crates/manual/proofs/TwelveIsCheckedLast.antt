@@ -16,12 +16,10 @@ use Rattle.manual.specs.Missing.{read_missing_rules}
 use Rattle.manual.specs.Calls.{fresh_rules, report_rules, tick_rules, start_rules, stop_rules, clear_rules}
 use Rattle.manual.specs.Calls.{read_status_rules, read_frame_rules}
 use Rattle.manual.specs.Untested.{read_table_rules, read_paint_rules, list_grey_rules}
-use Rattle.manual.specs.ChangesPage.{changes_page_rules}
 use Rattle.manual.specs.Image.{save_rules, restore_rules}
 use Rattle.manual.specs.Diagnostics.{request_rules}
 use Rattle.manual.specs.Sequences.{Query, ReadStatus, ReadFrame, ReadCounter, ReadMissing, ReadTable, ReadPaint}
-use Rattle.manual.specs.Sequences.{ChangesPage, ListGrey, Save, Call, Fresh, Report, Tick, Start, Stop, Clear}
-use Rattle.manual.specs.Sequences.{Read, Restore}
+use Rattle.manual.specs.Sequences.{ListGrey, Save, Call, Fresh, Report, Tick, Start, Stop, Clear, Read, Restore}
 use Rattle.manual.specs.Sequences.{Request, outcome, query_rules, rules_of}
 use Rattle.manual.proofs.AnswerIsFirstThatApplies.{answer_is}
 
@@ -59,7 +57,7 @@ none_else (r ∷ q ∷ rs) l e =
 module _ (cfg : Configuration) where
   query_last : (q : Query) (b : Beside) (s : State) → checked_last (query_rules cfg q b s) ≡ true
   unfolding read_status_rules read_frame_rules read_counter_rules read_missing_rules read_table_rules read_paint_rules list_grey_rules
-      changes_page_rules save_rules
+      save_rules
   query_last (ReadStatus e) b s = refl
   query_last (ReadFrame e which) b s = refl
   query_last (ReadCounter e) b s = refl
@@ -67,7 +65,6 @@ module _ (cfg : Configuration) where
   query_last ReadTable b s = refl
   query_last (ReadPaint e) b s = refl
   query_last ListGrey b s = refl
-  query_last ChangesPage b s = refl
   query_last Save b s = refl
 
   checked_last_lem : (c : Call) (b : Beside) (s : State) → checked_last (rules_of cfg c b s) ≡ true

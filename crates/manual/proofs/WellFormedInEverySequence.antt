@@ -13,7 +13,6 @@ use Rattle.manual.specs.Configuration.{Configuration, events, limits_of, config_
 use Rattle.manual.specs.State.{State, stored, stored_at}
 use Rattle.manual.specs.Answers.{Beside, Outcome, Rule, ◌if◌, first_that_applies}
 use Rattle.manual.specs.Counts.{counts_fit}
-use Rattle.manual.specs.Changes.{changes_fit, both_fit}
 use Rattle.manual.specs.Memory.{no_twice}
 use Rattle.manual.specs.WellFormed.{entries, well_formed}
 use Rattle.manual.specs.Counter.{read_counter_rules}
@@ -21,14 +20,12 @@ use Rattle.manual.specs.Missing.{read_missing_rules}
 use Rattle.manual.specs.Calls.{fresh_rules, fresh, fresh_state, report_rules, tick_rules, start_rules}
 use Rattle.manual.specs.Calls.{stop_rules, clear_rules, read_status_rules, read_frame_rules}
 use Rattle.manual.specs.Untested.{read_table_rules, read_paint_rules, list_grey_rules}
-use Rattle.manual.specs.ChangesPage.{changes_page_rules}
 use Rattle.manual.specs.Image.{save_rules, restore_rules}
 use Rattle.manual.specs.Diagnostics.{request_rules}
 use Rattle.manual.specs.Sequences.{Query, ReadStatus, ReadFrame, ReadCounter, ReadMissing, ReadTable, ReadPaint}
-use Rattle.manual.specs.Sequences.{ChangesPage, ListGrey, Save, Call, Fresh, Report, Tick}
+use Rattle.manual.specs.Sequences.{ListGrey, Save, Call, Fresh, Report, Tick}
 use Rattle.manual.specs.Sequences.{Start, Stop, Clear, Read, Restore, Request, outcome, query_rules}
 use Rattle.manual.specs.Sequences.{rules_of, tokens_at, carries_on, Reached, begun, called, restored}
-use Rattle.manual.specs.ChangesAlong.{takes_changes}
 use Rattle.manual.specs.Tallies.{takes_counts}
 use Rattle.manual.proofs.AnswersLaws.{none_applies, accepted, lacks, never_given}
 use Rattle.manual.proofs.WellFormedLaws.{state_tells, well_formed_lengths}
@@ -52,13 +49,10 @@ unfolding first_that_applies
 not_3 fits a b rules f p q l = rw (f, p, q) (never_given 3 (λ z. omega arith) rules l)
 
 module _ (cfg : Configuration) where
-  fit_both : (b : Beside) → counts_fit b.counts ≡ true → changes_fit cfg b.changes ≡ true → both_fit cfg b ≡ true
-  fit_both b f g = rw (f, g)
-
   query_not_2 : (q : Query) (b : Beside) (s : State) → config_ok cfg ≡ true
       → first_that_applies (query_rules cfg q b s) ≢ 2
   unfolding read_status_rules read_frame_rules read_counter_rules read_missing_rules read_table_rules read_paint_rules list_grey_rules
-      changes_page_rules save_rules
+      save_rules
   query_not_2 (ReadStatus e) b s k = not_2 _ _ _ k refl
   query_not_2 (ReadFrame e which) b s k = not_2 _ _ _ k refl
   query_not_2 (ReadCounter e) b s k = not_2 _ _ _ k refl
@@ -66,23 +60,20 @@ module _ (cfg : Configuration) where
   query_not_2 ReadTable b s k = not_2 _ _ _ k refl
   query_not_2 (ReadPaint e) b s k = not_2 _ _ _ k refl
   query_not_2 ListGrey b s k = not_2 _ _ _ k refl
-  query_not_2 ChangesPage b s k = not_2 _ _ _ k refl
   query_not_2 Save b s k = not_2 _ _ _ k refl
 
-  query_not_3 : (q : Query) (b : Beside) (s : State)
-      → (takes_changes (Read q) ≡ true → changes_fit cfg b.changes ≡ true)
-      → config_ok cfg ≡ true → well_formed cfg s ≡ true → first_that_applies (query_rules cfg q b s) ≢ 3
+  query_not_3 : (q : Query) (b : Beside) (s : State) → config_ok cfg ≡ true → well_formed cfg s ≡ true
+      → first_that_applies (query_rules cfg q b s) ≢ 3
   unfolding read_status_rules read_frame_rules read_counter_rules read_missing_rules read_table_rules read_paint_rules list_grey_rules
-      changes_page_rules save_rules
-  query_not_3 (ReadStatus e) b s g k w = not_3 true _ _ _ refl k w refl
-  query_not_3 (ReadFrame e which) b s g k w = not_3 true _ _ _ refl k w refl
-  query_not_3 (ReadCounter e) b s g k w = not_3 true _ _ _ refl k w refl
-  query_not_3 (ReadMissing e present) b s g k w = not_3 true _ _ _ refl k w refl
-  query_not_3 ReadTable b s g k w = not_3 true _ _ _ refl k w refl
-  query_not_3 (ReadPaint e) b s g k w = not_3 true _ _ _ refl k w refl
-  query_not_3 ListGrey b s g k w = not_3 true _ _ _ refl k w refl
-  query_not_3 ChangesPage b s g k w = not_3 _ _ _ _ (g refl) k w refl
-  query_not_3 Save b s g k w = not_3 true _ _ _ refl k w refl
+      save_rules
+  query_not_3 (ReadStatus e) b s k w = not_3 true _ _ _ refl k w refl
+  query_not_3 (ReadFrame e which) b s k w = not_3 true _ _ _ refl k w refl
+  query_not_3 (ReadCounter e) b s k w = not_3 true _ _ _ refl k w refl
+  query_not_3 (ReadMissing e present) b s k w = not_3 true _ _ _ refl k w refl
+  query_not_3 ReadTable b s k w = not_3 true _ _ _ refl k w refl
+  query_not_3 (ReadPaint e) b s k w = not_3 true _ _ _ refl k w refl
+  query_not_3 ListGrey b s k w = not_3 true _ _ _ refl k w refl
+  query_not_3 Save b s k w = not_3 true _ _ _ refl k w refl
 
   call_not_2 : (c : Call) (b : Beside) (s : State) → config_ok cfg ≡ true → first_that_applies (rules_of cfg c b s) ≢ 2
   unfolding fresh_rules report_rules tick_rules start_rules stop_rules clear_rules restore_rules request_rules
@@ -97,18 +88,17 @@ module _ (cfg : Configuration) where
   call_not_2 (Request bytes) b s k = not_2 _ _ _ k refl
 
   call_not_3 : (c : Call) (b : Beside) (s : State) → (takes_counts c ≡ true → counts_fit b.counts ≡ true)
-      → (takes_changes c ≡ true → changes_fit cfg b.changes ≡ true) → config_ok cfg ≡ true → well_formed cfg s ≡ true
-      → first_that_applies (rules_of cfg c b s) ≢ 3
+      → config_ok cfg ≡ true → well_formed cfg s ≡ true → first_that_applies (rules_of cfg c b s) ≢ 3
   unfolding fresh_rules report_rules tick_rules start_rules stop_rules clear_rules restore_rules request_rules
-  call_not_3 Fresh b s f g k w = not_3 _ _ _ _ (f refl) k (well_formed_lengths cfg s w) refl
-  call_not_3 (Report e code frame present) b s f g k w = not_3 _ _ _ _ (fit_both b (f refl) (g refl)) k w refl
-  call_not_3 (Tick ms frame present) b s f g k w = not_3 _ _ _ _ (fit_both b (f refl) (g refl)) k w refl
-  call_not_3 (Start c) b s f g k w = not_3 _ _ _ _ (g refl) k w refl
-  call_not_3 (Stop c) b s f g k w = not_3 _ _ _ _ (fit_both b (f refl) (g refl)) k w refl
-  call_not_3 (Clear code) b s f g k w = not_3 _ _ _ _ (fit_both b (f refl) (g refl)) k w refl
-  call_not_3 (Read q) b s f g k w = query_not_3 q b s g k w
-  call_not_3 (Restore image) b s f g k w = not_3 _ _ _ _ (f refl) k (well_formed_lengths cfg s w) refl
-  call_not_3 (Request bytes) b s f g k w = not_3 _ _ _ _ (fit_both b (f refl) (g refl)) k w refl
+  call_not_3 Fresh b s f k w = not_3 _ _ _ _ (f refl) k (well_formed_lengths cfg s w) refl
+  call_not_3 (Report e code frame present) b s f k w = not_3 _ _ _ _ (f refl) k w refl
+  call_not_3 (Tick ms frame present) b s f k w = not_3 _ _ _ _ (f refl) k w refl
+  call_not_3 (Start c) b s f k w = not_3 true _ _ _ refl k w refl
+  call_not_3 (Stop c) b s f k w = not_3 _ _ _ _ (f refl) k w refl
+  call_not_3 (Clear code) b s f k w = not_3 _ _ _ _ (f refl) k w refl
+  call_not_3 (Read q) b s f k w = query_not_3 q b s k w
+  call_not_3 (Restore image) b s f k w = not_3 _ _ _ _ (f refl) k (well_formed_lengths cfg s w) refl
+  call_not_3 (Request bytes) b s f k w = not_3 _ _ _ _ (f refl) k w refl
 
   -- what holds of every state that calls lead to
   record Whole (s : State) (H : Histories) : Type 0 where
@@ -163,8 +153,8 @@ module _ (cfg : Configuration) where
     pub never_refused_with_2 : (c : Call) (b : Beside) → (outcome cfg c b s).answer ≢ 2
     never_refused_with_2 c b q = call_not_2 c b s config_accepted (sym (answer_is cfg c b s) ∙ q)
 
-    -- nor with 3, where it takes no counts or is lent five, and takes no change bytes or is lent n
+    -- nor with 3, where it takes no counts or is lent five
     pub never_refused_with_3 : (c : Call) (b : Beside) → (takes_counts c ≡ true → counts_fit b.counts ≡ true)
-        → (takes_changes c ≡ true → changes_fit cfg b.changes ≡ true) → (outcome cfg c b s).answer ≢ 3
-    never_refused_with_3 c b five n q =
-        call_not_3 c b s five n config_accepted well_formed_lem (sym (answer_is cfg c b s) ∙ q)
+        → (outcome cfg c b s).answer ≢ 3
+    never_refused_with_3 c b five q =
+        call_not_3 c b s five config_accepted well_formed_lem (sym (answer_is cfg c b s) ∙ q)

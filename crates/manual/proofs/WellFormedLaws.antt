@@ -17,7 +17,7 @@ use Rattle.manual.specs.Memory.{entry_width, memory_length, entry_count, bytes_i
 use Rattle.manual.specs.WellFormed.{record_ok, d_ok, event_ok, entry_ok, lengths_fit_with, entries_with}
 use Rattle.manual.specs.WellFormed.{zero_tail_with, memory_ok_with, well_formed_with, lengths_fit, well_formed}
 use Rattle.manual.specs.Answers.{Beside}
-use Rattle.manual.specs.Changes.{both_fit}
+use Rattle.manual.specs.Counts.{counts_fit}
 use Rattle.manual.proofs.WordsLaws.{all_below_at, all_below_lem, zeros_are}
 use Rattle.manual.proofs.AnswersLaws.{three_passed}
 
@@ -141,5 +141,5 @@ well_formed_lengths cfg s w = part _ w 0
 
 -- where refusal 3 does not apply the state is well formed
 pub judged_formed : (cfg : Configuration) (b : Beside) (s : State)
-    → not (both_fit cfg b && well_formed cfg s) ≡ false → well_formed cfg s ≡ true
-judged_formed cfg b s e = (three_passed (both_fit cfg b) (well_formed cfg s) e).1
+    → not (counts_fit b.counts && well_formed cfg s) ≡ false → well_formed cfg s ≡ true
+judged_formed cfg b s e = (three_passed (counts_fit b.counts) (well_formed cfg s) e).1

@@ -192,11 +192,6 @@ module _ {A : Type 0} where
       go true h t ih = clash true refl t
       go false h t ih = by (q x) (λ l. any_of p l ≡ false) (λ u. rw h (ih t)) (λ u. ih t)
 
-  pub all_mem : (P : A → Type 0) (xs : List A) → All P xs → (x : A) → Memᴰ x xs → P x
-  all_mem P [] a x m = absurd (Memᴰ.not-nil m)
-  all_mem P (y ∷ xs) a x m =
-      ⊎_elim (λ (q : x ≡ y). subst P (sym q) a.0) (λ t. all_mem P xs a.1 x t) (Memᴰ.cases_cons m)
-
   pub mem_those : (p : A → Bool) (xs : List A) (x : A) → p x ≡ true → Memᴰ x xs → Memᴰ x (those p xs)
   unfolding those
   mem_those p [] x h m = m

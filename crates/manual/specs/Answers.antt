@@ -28,41 +28,30 @@ use Rattle.manual.specs.declared.LengthAnswer.TheVariants.{Written}
 use Rattle.manual.specs.State.{State}
 
 -- What is lent beside the blocks and the board for a call to write: the output room, of bytes or, to list the grey
--- events, of 16-bit numbers; document 02's W7, "five counts, each 32 bits and lent as a slice of five"; and W8, "a lent
--- slice of n change bytes", which the changes page reads. A call that is not lent one of them does not look at it and
--- leaves it as it is.
+-- events, of 16-bit numbers; and document 02's W7, "five counts, each 32 bits and lent as a slice of five". A call that
+-- is not lent one of them does not look at it and leaves it as it is.
 pub record Beside : Type 0 where
   pub room : List ℕ
   pub counts : List ℕ
-  pub changes : List ℕ
-
-abbrev pub lent_all : List ℕ → List ℕ → List ℕ → Beside
-lent_all room counts changes = record { room = room; counts = counts; changes = changes }
-
-abbrev pub lent_room : List ℕ → Beside
-lent_room room = lent_all room [] []
-
-abbrev pub lent_counts : List ℕ → Beside
-lent_counts counts = lent_all [] counts []
-
-abbrev pub lent_changes : List ℕ → Beside
-lent_changes changes = lent_all [] [] changes
 
 abbrev pub lent_both : List ℕ → List ℕ → Beside
-lent_both counts changes = lent_all [] counts changes
+lent_both room counts = record { room = room; counts = counts }
+
+abbrev pub lent_room : List ℕ → Beside
+lent_room room = lent_both room []
+
+abbrev pub lent_counts : List ℕ → Beside
+lent_counts counts = lent_both [] counts
 
 -- nothing is lent beside the blocks and the board
 abbrev pub alone : Beside
-alone = lent_all [] [] []
+alone = lent_both [] []
 
 abbrev pub with_room : List ℕ → Beside → Beside
-with_room room b = lent_all room b.counts b.changes
+with_room room b = record { room = room; counts = b.counts }
 
 abbrev pub with_counts : List ℕ → Beside → Beside
-with_counts counts b = lent_all b.room counts b.changes
-
-abbrev pub with_changes : List ℕ → Beside → Beside
-with_changes changes b = lent_all b.room b.counts changes
+with_counts counts b = record { room = b.room; counts = counts }
 
 -- What a call answers and leaves: its number; a report's verdict; the status or length; the frame part; what was lent
 -- beside; the blocks and the board.

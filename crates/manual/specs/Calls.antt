@@ -21,7 +21,6 @@ use Rattle.manual.specs.OneEvent.{has_entry, happens, qualifies, qualifies_did, 
 use Rattle.manual.specs.Memory.{Entry, first_frame, latest_frame, memory_length, entry_for}
 use Rattle.manual.specs.Counts.{Happening, of_store, log_those, stops_log, clears_log, carries_past, with_rise}
 use Rattle.manual.specs.Counts.{counts_fit, no_counts}
-use Rattle.manual.specs.Changes.{changes_fit, both_fit, filled, changed_to}
 
 -- the bytes of n fresh records
 unfoldable pub fresh_records : ℕ → List ℕ
@@ -44,7 +43,7 @@ frame_of which F none = []
 
 module _ (cfg : Configuration) where
   -- "Every call begins 2, 3."; "a block has the wrong length": `fits` says whether what is lent beside the state has
-  -- the right one; document 02, W7: "A slice of another length is 3.", W8: "a wrong length is refusal 3"
+  -- the right one; document 02, W7: "A slice of another length is 3."
   abbrev pub begins : State → Bool → List Rule → List Rule
   begins s fits rules = (2 if not (config_ok cfg)) ∷ (3 if not (fits && well_formed cfg s)) ∷ rules
 
@@ -109,7 +108,7 @@ module _ (cfg : Configuration) where
 
   unfoldable pub report_rules : ℕ → ℕ → List ℕ → ℕ → Beside → State → List Rule
   report_rules e code frame present b s =
-      begins s (both_fit cfg b)
+      begins s (counts_fit b.counts)
       ((4 if no_such_event e)
       ∷ (1 if ltb 3 code)
       ∷ (6 if (is_internal cfg e && ltb 1 code))
@@ -125,7 +124,7 @@ module _ (cfg : Configuration) where
     verdict = (debounced_by e code s).verdict;
     value = 0;
     part = [];
-    beside = filled cfg s (applied frame e (debounced_by e code s) s) (with_rise (report_log e code frame s) b);
+    beside = with_rise (report_log e code frame s) b;
     state = applied frame e (debounced_by e code s) s;
   }
 
@@ -155,7 +154,7 @@ module _ (cfg : Configuration) where
 
   unfoldable pub tick_rules : ℕ → List ℕ → ℕ → Beside → State → List Rule
   tick_rules ms frame present b s =
-      begins s (both_fit cfg b)
+      begins s (counts_fit b.counts)
       ((1 if ltb 60000 ms)
       ∷ (9 if wrong_frame frame)
       ∷ (12 if carries_past (tick_log ms frame present s) b.counts)
@@ -164,7 +163,7 @@ module _ (cfg : Configuration) where
   unfoldable pub tick : ℕ → List ℕ → ℕ → Beside → State → Outcome
   tick ms frame present b s =
       judged (tick_rules ms frame present b s) b s
-      (changed_to cfg s (with_rise (tick_log ms frame present s) b)
+      (done (with_rise (tick_log ms frame present s) b)
       (for_those cfg (tick_moves present s.board) (ticks ms frame) s))
 
   -- ---- start and stop of a cycle: "start and stop 4, 5", and of a stop W7's 12
@@ -172,27 +171,25 @@ module _ (cfg : Configuration) where
   abbrev pub of_cycle : ℕ → ℕ → Bool
   of_cycle c e = eqb (cycle_of cfg e) c
 
-  unfoldable pub start_rules : ℕ → Beside → State → List Rule
-  start_rules c b s =
-      begins s (changes_fit cfg b.changes) ((4 if no_such_cycle c) ∷ (5 if runs s.board c) ∷ [])
+  unfoldable pub start_rules : ℕ → State → List Rule
+  start_rules c s = begins s true ((4 if no_such_cycle c) ∷ (5 if runs s.board c) ∷ [])
 
   unfoldable pub start_cycle : ℕ → Beside → State → Outcome
   start_cycle c b s =
-      judged (start_rules c b s) b s
-      (changed_to cfg s b (with_cycle c true (for_those cfg (of_cycle c) (happens cfg start) s)))
+      judged (start_rules c s) b s (done b (with_cycle c true (for_those cfg (of_cycle c) (happens cfg start) s)))
 
   unfoldable pub stop_log : ℕ → State → List Happening
   stop_log c s = log_those cfg (of_cycle c) (stops cfg) (stops_log cfg) s
 
   unfoldable pub stop_rules : ℕ → Beside → State → List Rule
   stop_rules c b s =
-      begins s (both_fit cfg b)
+      begins s (counts_fit b.counts)
       ((4 if no_such_cycle c) ∷ (5 if not (runs s.board c)) ∷ (12 if carries_past (stop_log c s) b.counts) ∷ [])
 
   unfoldable pub stop_cycle : ℕ → Beside → State → Outcome
   stop_cycle c b s =
       judged (stop_rules c b s) b s
-      (changed_to cfg s (with_rise (stop_log c s) b) (with_cycle c false (for_those cfg (of_cycle c) (stops cfg) s)))
+      (done (with_rise (stop_log c s) b) (with_cycle c false (for_those cfg (of_cycle c) (stops cfg) s)))
 
   -- ---- clear: "clear 4", and W7's 12
 
@@ -216,12 +213,11 @@ module _ (cfg : Configuration) where
 
   unfoldable pub clear_rules : ℕ → Beside → State → List Rule
   clear_rules code b s =
-      begins s (both_fit cfg b)
+      begins s (counts_fit b.counts)
       ((4 if unknown_code code) ∷ (12 if carries_past (clear_log code s) b.counts) ∷ [])
 
   unfoldable pub clear_code : ℕ → Beside → State → Outcome
-  clear_code code b s =
-      judged (clear_rules code b s) b s (changed_to cfg s (with_rise (clear_log code s) b) (cleared code s))
+  clear_code code b s = judged (clear_rules code b s) b s (done (with_rise (clear_log code s) b) (cleared code s))
 
   -- ---- read status: "read status 4"
 

@@ -9,8 +9,7 @@ use Rattle.manual.specs.State.{State, stored_at, status_byte}
 use Rattle.manual.specs.Memory.{Entry, entry_for}
 use Rattle.manual.specs.WellFormed.{entries}
 use Rattle.manual.specs.Answers.{Beside, with_room, with_counts, Outcome, Rule, ◌if◌, judged}
-use Rattle.manual.specs.Counts.{rise_of, raised, carries_past}
-use Rattle.manual.specs.Changes.{both_fit, filled}
+use Rattle.manual.specs.Counts.{rise_of, raised, carries_past, counts_fit}
 use Rattle.manual.specs.Calls.{begins, unknown_code, cleared, clear_log}
 use Rattle.manual.specs.Counter.{counter_in}
 
@@ -215,16 +214,11 @@ module _ (cfg : Configuration) where
   counts_after request b s =
       cond (asks_clear request) (raised (rise_of (clear_log cfg (three_at 1 request) s)) b.counts) b.counts
 
-  -- and W8's change bytes, filled whatever the reply is: 0 where nothing changed
-  abbrev pub beside_after : List ℕ → Beside → State → Beside
-  beside_after request b s =
-      filled cfg s (served_by request (length b.room) s).state (with_counts (counts_after request b s) b)
-
   -- "diagnostic request 7, 1": "The reply room must hold 3 bytes (else 7).", "1 | empty diagnostic request"; of a
   -- "clearing diagnostic request" W7's 12
   unfoldable pub request_rules : List ℕ → Beside → State → List Rule
   request_rules request b s =
-      begins cfg s (both_fit cfg b)
+      begins cfg s (counts_fit b.counts)
       ((7 if ltb (length b.room) 3)
       ∷ (1 if eqb (length request) 0)
       ∷ (12 if (asks_clear request && carries_past (clear_log cfg (three_at 1 request) s) b.counts))
@@ -233,4 +227,4 @@ module _ (cfg : Configuration) where
   unfoldable pub request_reply : List ℕ → Beside → State → Outcome
   request_reply request b s =
       judged (request_rules request b s) b s
-      (replied (get_or request 0 0) (beside_after request b s) (served_by request (length b.room) s))
+      (replied (get_or request 0 0) (with_counts (counts_after request b s) b) (served_by request (length b.room) s))

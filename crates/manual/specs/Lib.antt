@@ -9,17 +9,14 @@ pub mod OneEvent
 pub mod Memory
 pub mod Displacement
 pub mod Counts
-pub mod Changes
 pub mod Calls
 pub mod Counter
 pub mod Missing
 pub mod Diagnostics
 pub mod Replies
 pub mod Untested
-pub mod ChangesPage
 pub mod Image
 pub mod Sequences
-pub mod ChangesAlong
 pub mod EntriesInACall
 pub mod Tallies
 pub mod MarkedExamples

@@ -9,13 +9,13 @@ use Rattle.manual.specs.Memory.{memory_length}
 use Rattle.manual.specs.Debouncing.{ticked}
 use Rattle.manual.specs.Conditions.{all_present}
 use Rattle.manual.specs.Calls.{report, tick_moves}
-use Rattle.manual.specs.Answers.{Beside, lent_both}
+use Rattle.manual.specs.Answers.{Beside, lent_counts}
 use Rattle.manual.specs.Counts.{no_counts}
 use Rattle.manual.specs.Sequences.{Call, Fresh, Report, Tick, Start, Stop, Clear, Read, Restore, Request, outcome}
 
--- no room is lent to these calls; the five counts of document 02's W7 and the one change byte of W8 at 0
+-- no room is lent to these calls, and the five counts of document 02's W7 at 0
 abbrev pub zeroed : Beside
-zeroed = lent_both no_counts (0 ∷ [])
+zeroed = lent_counts no_counts
 
 -- what is seen after a call of event 0, the only one: the call's answer and verdict, status, D, g, and the memory of
 -- one place with no frame

@@ -14,7 +14,6 @@ use Rattle.manual.specs.Memory.{Entry, first_frame, latest_frame, entry_for}
 use Rattle.manual.specs.WellFormed.{entries, well_formed}
 use Rattle.manual.specs.Answers.{Beside, with_room, Outcome}
 use Rattle.manual.specs.Counts.{carries_past, with_rise, counts_fit}
-use Rattle.manual.specs.Changes.{changes_fit, filled}
 use Rattle.manual.specs.Calls.{unknown_code, cleared, clear_log}
 use Rattle.manual.specs.Counter.{counter_in}
 
@@ -154,26 +153,25 @@ module _ (cfg : Configuration) (request : List ℕ) (s : State) where
   Clearing = (service ≡ 0x14) × (length request ≡ 4) × (unknown_code cfg trouble_code ≡ false)
 
   -- the outcome of a request that is sent these bytes, with this lent beside the state, and leaves this state: "Bytes
-  -- past the reply stay.", "the answer is 0"; document 02, W8: it fills the change bytes, whatever the reply is
+  -- past the reply stay.", "the answer is 0"
   abbrev pub sends : Beside → List ℕ → State → Outcome
   sends b bytes after = record {
     answer = 0;
     verdict = None;
     value = length bytes;
     part = [];
-    beside = with_room (bytes ++ drop (length bytes) b.room) (filled cfg s after b);
+    beside = with_room (bytes ++ drop (length bytes) b.room) b;
     state = after;
   }
 
-  -- what is lent beside the state: the room for its reply, the counts and the change bytes
+  -- what is lent beside the state: the room for its reply, and the counts
   module _ (b : Beside) where
     -- "Every call begins 2, 3.", "The reply room must hold 3 bytes (else 7).", "1 | empty diagnostic request"; document
-    -- 02, W7 and W8: a slice of another length is 3; and 12 of a "clearing diagnostic request whose whole rise would
-    -- carry any count past 4,294,967,295"
+    -- 02, W7: "A slice of another length is 3.", and 12 of a "clearing diagnostic request whose whole rise would carry
+    -- any count past 4,294,967,295"
     pub record Accepted : Type 0 where
       pub configuration : config_ok cfg ≡ true
       pub five_counts : counts_fit b.counts ≡ true
-      pub n_changes : changes_fit cfg b.changes ≡ true
       pub formed : well_formed cfg s ≡ true
       pub room_least : 3 ≤ length b.room
       pub not_empty_lem : length request ≢ 0

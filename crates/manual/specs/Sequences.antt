@@ -18,7 +18,6 @@ use Rattle.manual.specs.Counts.{Happening}
 use Rattle.manual.specs.Counter.{read_counter_rules, read_counter}
 use Rattle.manual.specs.Missing.{read_missing_rules, read_missing}
 use Rattle.manual.specs.Untested.{read_table_rules, read_paint_rules, list_grey_rules, read_table, read_paint, list_grey}
-use Rattle.manual.specs.ChangesPage.{changes_page_rules, changes_page}
 use Rattle.manual.specs.Image.{save_rules, restore_rules, save, restore}
 use Rattle.manual.specs.Diagnostics.{asks_clear, request_rules, request_reply}
 
@@ -27,9 +26,9 @@ pub data Query : Type 0 where
   ReadStatus ReadCounter ReadPaint : ℕ → Query
   ReadFrame : ℕ → Which → Query
   ReadMissing : ℕ → ℕ → Query
-  ReadTable ListGrey ChangesPage Save : Query
+  ReadTable ListGrey Save : Query
 
--- all seventeen calls, with any arguments whatever
+-- all sixteen calls, with any arguments whatever
 pub data Call : Type 0 where
   Fresh : Call
   Report : ℕ → ℕ → List ℕ → ℕ → Call
@@ -72,7 +71,6 @@ module _ (cfg : Configuration) where
   answer_to ReadTable b s = read_table cfg b s
   answer_to (ReadPaint k) b s = read_paint cfg k b s
   answer_to ListGrey b s = list_grey cfg b s
-  answer_to ChangesPage b s = changes_page cfg b s
   answer_to Save b s = save cfg b s
 
   abbrev pub outcome : Call → Beside → State → Outcome
@@ -95,14 +93,13 @@ module _ (cfg : Configuration) where
   query_rules ReadTable b s = read_table_rules cfg s
   query_rules (ReadPaint k) b s = read_paint_rules cfg k s
   query_rules ListGrey b s = list_grey_rules cfg b s
-  query_rules ChangesPage b s = changes_page_rules cfg b s
   query_rules Save b s = save_rules cfg b s
 
   abbrev pub rules_of : Call → Beside → State → List Rule
   rules_of Fresh b s = fresh_rules cfg b s
   rules_of (Report k code frame present) b s = report_rules cfg k code frame present b s
   rules_of (Tick ms frame present) b s = tick_rules cfg ms frame present b s
-  rules_of (Start c) b s = start_rules cfg c b s
+  rules_of (Start c) b s = start_rules cfg c s
   rules_of (Stop c) b s = stop_rules cfg c b s
   rules_of (Clear code) b s = clear_rules cfg code b s
   rules_of (Read q) b s = query_rules q b s

@@ -5,7 +5,7 @@ use Rattle.history.specs.History.{History}
 use Rattle.manual.specs.Configuration.{Configuration}
 use Rattle.manual.specs.State.{State}
 use Rattle.manual.specs.WellFormed.{entries}
-use Rattle.manual.specs.Answers.{Beside, with_counts, Outcome}
+use Rattle.manual.specs.Answers.{Beside, lent_both, Outcome}
 use Rattle.manual.specs.Counts.{Happening, present_log}
 use Rattle.manual.specs.Calls.{fresh}
 use Rattle.manual.specs.Image.{save, restore}
@@ -56,9 +56,9 @@ module _ (cfg : Configuration) where
   pub data Tallied : Tally → Type 0 where
     -- a fresh or a restore that is accepted, on any blocks and board, and of any image, with any counts
     begun : (c : Call) (b : Beside) (s : State) → carries_on cfg c b s ≡ false → Tallied (anew (outcome cfg c b s))
-    -- then any call with any arguments, accepted or refused, lent the counts that were left, and beside them anything
-    called : {t : Tally} → Tallied t → (c : Call) (b : Beside)
-        → Tallied (after c (with_counts t.counts b) t.state t.log)
+    -- then any call with any arguments, accepted or refused, in any room, lent the counts that were left
+    called : {t : Tally} → Tallied t → (c : Call) (room : List ℕ)
+        → Tallied (after c (lent_both room t.counts) t.state t.log)
     -- or a call that takes no counts, or is refused, with anything lent beside the state
     passed_by : {t : Tally} → Tallied t → (c : Call) (b : Beside) → counting c b t.state ≡ false
         → Tallied (aside c b t.state t)

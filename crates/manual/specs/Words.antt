@@ -1,6 +1,6 @@
 -- Words that several sections of document 01 use: on the numbers below n, on lists, on bytes, on signed numbers.
 -- Assumes nothing.
-use Rattle.std.specs.Prelude.{Bool, true, false, ◌&&◌, cond, List, [], ◌∷◌, ◌++◌, ℕ, zero, suc, ◌+◌, ◌-◌, ◌*◌, ◌/◌, ◌%◌, ◌<◌, eqb, ℤ, pos, negsuc, get_or}
+use Rattle.std.specs.Prelude.{Bool, true, false, ◌&&◌, cond, List, [], ◌∷◌, ◌++◌, ℕ, zero, suc, ◌+◌, ◌-◌, ◌*◌, ◌/◌, ◌%◌, eqb, ℤ, pos, negsuc, get_or}
 use Rattle.std.proofs.Math.Option.{Option, none, some}
 use Rattle.std.specs.Int.Signed.{le_z}
 
@@ -25,10 +25,6 @@ for_below (suc n) f s = f n (for_below n f s)
 unfoldable pub join_below : ℕ → (ℕ → List ℕ) → List ℕ
 join_below zero f = []
 join_below (suc n) f = join_below n f ++ f n
-
--- a number of each of them
-abbrev pub each : ℕ → (ℕ → ℕ) → List ℕ
-each n f = join_below n (λ i. f i ∷ [])
 
 -- ---- lists
 
@@ -68,11 +64,6 @@ equal [] [] = true
 equal [] (y ∷ ys) = false
 equal (x ∷ xs) [] = false
 equal (x ∷ xs) (y ∷ ys) = eqb x y && equal xs ys
-
--- each number is smaller than all that stand behind it
-abbrev pub Rises : List ℕ → Type 0
-Rises [] = Unit {0}
-Rises (x ∷ xs) = All (λ y. x < y) xs × Rises xs
 
 -- ---- numbers as bytes, high first
 

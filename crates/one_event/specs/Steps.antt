@@ -5,11 +5,10 @@ use Rattle.manual.specs.declared.StoreAnswer.{StoreAnswer}
 use Rattle.manual.specs.declared.Verdict.{Verdict}
 use Rattle.manual.specs.Configuration.{Configuration, limits_of}
 use Rattle.manual.specs.State.{State, opened, stored, stored_at, with_stored, with_d}
-use Rattle.manual.specs.Answers.{Outcome}
+use Rattle.manual.specs.Answers.{Outcome, alone}
 use Rattle.manual.specs.Debouncing.{Debounced}
 use Rattle.manual.specs.OneEvent.{happens, stored_for, memory_told, fails, fails_did, qualifies, qualifies_did}
-use Rattle.manual.specs.Calls.{applied, applied_did, debounced_by, report_did, ticks, ticks_did}
-use Rattle.one_event.specs.Ready.{accepts}
+use Rattle.manual.specs.Calls.{applied, applied_did, report_done, report_did, ticks, ticks_did}
 
 -- what a step on one event leaves (a state, or a report's outcome), and what memory did at it
 pub record Stepped (A : Type 0) : Type 0 where
@@ -48,8 +47,6 @@ module _ (cfg : Configuration) (frame : List ℕ) (e : ℕ) where
   abbrev pub ticking : ℕ → State → Stepped State
   ticking ms s = stepped (ticks cfg ms frame e s) (ticks_did cfg ms frame e s)
 
-  -- an accepted report, with nothing lent beside
+  -- an accepted report
   abbrev pub reporting : ℕ → State → Stepped Outcome
-  reporting code s =
-      stepped (accepts (debounced_by cfg e code s).verdict (applied cfg frame e (debounced_by cfg e code s) s))
-      (report_did cfg e code frame s)
+  reporting code s = stepped (report_done cfg e code frame alone s) (report_did cfg e code frame s)

@@ -4,18 +4,15 @@ ghost use Rattle.history.specs.StatusByte.{ages_at_stop};
 ghost use Rattle.history.specs.History.{passed, start};
 ghost use Rattle.manual.specs.Configuration.{Configuration, events, places, frame_bytes, entry_frames, limits_of};
 ghost use Rattle.manual.specs.State.{record_width, opened, stored_at, lent};
-ghost use Rattle.manual.specs.declared.StoreAnswer.TheVariants.{Untold};
 ghost use Rattle.manual.specs.Memory.{is_lost};
 ghost use Rattle.manual.specs.OneEvent.{happens, entry_leaves, stops, clears};
 ghost use Rattle.debounce.specs.Rows.{answered};
-ghost use Rattle.changes.specs.Marks.{Says};
 ghost use Rattle.memory.specs.InOrder.{InOrder};
 ghost use Rattle.memory.specs.Store.{MayStore};
 ghost use Rattle.one_event.specs.Ready.{flagged, accepts, BlocksFit, RecordFits, EventFits, Ready};
 ghost use Rattle.one_event.specs.Steps.{record_stopped, resetting, stepped, tells_memory, failing, qualifying};
 ghost use Rattle.one_event.specs.Steps.{applying, reporting, ticking};
 
-use changes::Change;
 use manual::{Board, EventNumber, StoreAnswer, Verdict};
 
 // "Start of a stopped cycle: for its events clears 1, sets 6."
@@ -231,16 +228,7 @@ pub fn qualifies(
     }
 }
 
-// An event's part, with W8's "status before and after".
-#[derive(Drop)]
-pub struct Applied {
-    pub board: Board,
-    pub did: StoreAnswer,
-    pub change: Change,
-}
-
-// The new D, then what the verdict does to the event: "The step that applies a verdict must also say the status before
-// and after."
+// The new D, then what the verdict does to the event.
 pub fn applies(
     cfg: &[i32],
     records: &mut [u8],
@@ -250,27 +238,17 @@ pub fn applies(
     event: EventNumber,
     frame: &[u8],
     d: debounce::Debounced,
-) -> Applied
+) -> Part
     requires { (EventFits cfg.now records.old debounce.old memory.old event.0) ×
         (length frame.now ≡ frame_bytes cfg.now) }
-    ensures { (stepped (lent records.new debounce.new memory.new result.board)
+    ensures { stepped (lent records.new debounce.new memory.new result.board)
         result.did
         ≡ applying cfg.now frame.now event.0 (answered d)
-        (lent records.old debounce.old memory.old board)) ×
-        (Says event.0 result.change records.old records.new) }
+        (lent records.old debounce.old memory.old board) }
 {
     let verdict = d.verdict;
-    let before = status::status_within(records, event).0;
     status::write_number(debounce, event, d.number);
-    let part = qualifies(cfg, records, memory, board, event, frame, verdict);
-    let board_after = part.board;
-    let did = part.did;
-    let after = status::status_within(records, event).0;
-    Applied {
-        board: board_after,
-        did,
-        change: Change { before, after },
-    }
+    qualifies(cfg, records, memory, board, event, frame, verdict)
 }
 
 // The same of a report, with its verdict.
@@ -279,7 +257,6 @@ pub struct Reported {
     pub verdict: Verdict,
     pub board: Board,
     pub did: StoreAnswer,
-    pub change: Change,
 }
 
 // "Each accepted report gives a verdict": the new D of the event, and what the verdict does to it.
@@ -295,12 +272,11 @@ pub fn reports(
 ) -> Reported
     requires { (Ready cfg.now (lent records.old debounce.old memory.old board) event.0) ×
         (length frame.now ≡ frame_bytes cfg.now) }
-    ensures { (stepped
+    ensures { stepped
         (accepts result.verdict (lent records.new debounce.new memory.new result.board))
         result.did
         ≡ reporting cfg.now frame.now event.0 code
-        (lent records.old debounce.old memory.old board)) ×
-        (Says event.0 result.change records.old records.new) }
+        (lent records.old debounce.old memory.old board) }
 {
     let row = debounce::row_of(cfg, event);
     let d = debounce::report_step(row, code, status::read_number(debounce, event));
@@ -308,42 +284,18 @@ pub fn reports(
     let part = applies(cfg, records, debounce, memory, board, event, frame, d);
     let board_after = part.board;
     let did = part.did;
-    let change = part.change;
     Reported {
         verdict,
         board: board_after,
         did,
-        change,
     }
 }
 
-// What an event's part of a tick leaves beside the lent blocks: the overflow flag, what memory did, and the status
-// before and after.
+// What an event's part of a tick leaves beside the lent blocks: the overflow flag, and what memory did.
 #[derive(Drop)]
 pub struct TickPart {
     pub overflow: bool,
     pub did: StoreAnswer,
-    pub change: Change,
-}
-
-// The part of an event without a verdict: its status stays, and memory is told nothing.
-pub fn rests(records: &[u8], overflow: bool, event: EventNumber) -> TickPart
-    requires { record_width * event.0 + record_width ≤ length records.now }
-    ensures { ((d : List ℤ) (m : List ℕ) (b : Board)
-        → stepped (lent records.now d m (flagged b result.overflow)) result.did
-        ≡ stepped (lent records.now d m (flagged b overflow)) Untold) ×
-        (Says event.0 result.change records.now records.now) }
-{
-    let before = status::status_within(records, event).0;
-    let did = StoreAnswer::Untold;
-    TickPart {
-        overflow,
-        did,
-        change: Change {
-            before,
-            after: before,
-        },
-    }
 }
 
 // As `applies`, on the cycles that run and the overflow flag so far. Most events of a tick have no verdict: for them no
@@ -361,29 +313,29 @@ fn moves(
 ) -> TickPart
     requires { (EventFits cfg.now records.old debounce.old memory.old event.0) ×
         (length frame.now ≡ frame_bytes cfg.now) }
-    ensures { (stepped
+    ensures { stepped
         (lent records.new debounce.new memory.new (flagged board result.overflow))
         result.did
         ≡ applying cfg.now frame.now event.0 (answered d)
-        (lent records.old debounce.old memory.old (flagged board overflow))) ×
-        (Says event.0 result.change records.old records.new) }
+        (lent records.old debounce.old memory.old (flagged board overflow)) }
 {
     let verdict = d.verdict;
     match verdict {
         Verdict::None => {
             status::write_number(debounce, event, d.number);
-            rests(records, overflow, event)
+            TickPart {
+                overflow,
+                did: StoreAnswer::Untold,
+            }
         }
         _ => {
             let running = board.running;
             let so_far = Board { running, overflow };
             let part = applies(cfg, records, debounce, memory, so_far, event, frame, d);
             let did = part.did;
-            let change = part.change;
             TickPart {
                 overflow: part.board.overflow,
                 did,
-                change,
             }
         }
     }
@@ -404,12 +356,11 @@ pub fn ticks(
     requires { (Ready cfg.now (lent records.old debounce.old memory.old (flagged board overflow))
         event.0) ×
         ((length frame.now ≡ frame_bytes cfg.now) × (ms ≤ 60000)) }
-    ensures { (stepped
+    ensures { stepped
         (lent records.new debounce.new memory.new (flagged board result.overflow))
         result.did
         ≡ ticking cfg.now frame.now event.0 ms
-        (lent records.old debounce.old memory.old (flagged board overflow))) ×
-        (Says event.0 result.change records.old records.new) }
+        (lent records.old debounce.old memory.old (flagged board overflow)) }
 {
     let row = debounce::row_of(config::part_of(cfg, event), EventNumber(0));
     let d = debounce::tick_step(row, ms, status::read_number(debounce, event));

@@ -15,8 +15,7 @@ use Rattle.manual.specs.Configuration.{Configuration, events, places, entry_fram
 use Rattle.manual.specs.State.{State, lent, record_width}
 use Rattle.manual.specs.Memory.{memory_length}
 use Rattle.manual.specs.WellFormed.{well_formed}
-use Rattle.manual.specs.Answers.{Beside, lent_counts, Outcome, Answered, done, first_that_applies, leaves}
-use Rattle.manual.specs.Counts.{no_counts}
+use Rattle.manual.specs.Answers.{Beside, Outcome, Answered, done, first_that_applies, leaves}
 use Rattle.manual.specs.Calls.{fresh_state, fresh_rules, fresh}
 use Rattle.manual.proofs.WordsLaws.{clash, by}
 use Rattle.manual.proofs.AnswersLaws.{goes_through}
@@ -27,7 +26,8 @@ use Rattle.replay_step.specs.declared.Asked.TheVariants.{Makes, Nothing}
 use Rattle.replay_step.specs.declared.Stepped.{Stepped}
 use Rattle.replay_step.specs.declared.Stepped.TheVariants.{Line, End, BadInput}
 use Rattle.replay_step.specs.Asked.{asked_at}
-use Rattle.replay_step.specs.Turn.{made, Turned, turned, call_is, zero_frame, lent_each, lined, turn_by, turn, Buffers}
+use Rattle.replay_step.specs.Turn.{lent_each, made, Turned, turned, call_is, zero_frame, lined, turn_by, turn}
+use Rattle.replay_step.specs.Turn.{Buffers}
 use Rattle.replay_step.proofs.TurnLaws.{blocks_within}
 use Rattle.replay_step.proofs.BeginningLaws.{length_of_front}
 use Rattle.replay_step.proofs.EachCallTakesAByte.{AskedAhead, call_ahead}
@@ -154,7 +154,7 @@ module _ (cfg : Configuration) (log : List ℕ) where
 
   turn_formed : (p : Progress) (a : Asked) → well_formed cfg p.state ≡ true
       → well_formed cfg (after_asked cfg log p a).state ≡ true
-  turn_formed p (Makes call next) w = stays_well_formed cfg (call_is (zero_frame cfg) call) (lent_each cfg) p.state w
+  turn_formed p (Makes call next) w = stays_well_formed cfg (call_is (zero_frame cfg) call) lent_each p.state w
   turn_formed p Nothing w = w
   turn_formed p Asked.Unreadable w = w
 
@@ -190,26 +190,22 @@ front_blocks cfg b e q =
       });
     }
 
--- a fresh state is lent counts of 0, and no change bytes
-abbrev lent_first : Beside
-lent_first = lent_counts no_counts
-
 module _ (cfg : Configuration) {records : List ℕ} {debounce : List ℤ} {memory : List ℕ}
     (b : Blocks cfg records debounce memory) (board : Board) where
-  fresh_accepts : first_that_applies (fresh_rules cfg lent_first (lent records debounce memory board)) ≡ 0
+  fresh_accepts : first_that_applies (fresh_rules cfg lent_each (lent records debounce memory board)) ≡ 0
   unfolding fresh_rules first_that_applies
   fresh_accepts = rw (b.accepted, b.fit board)
 
-  fresh_goes : fresh cfg lent_first (lent records debounce memory board) ≡ done lent_first (fresh_state cfg)
+  fresh_goes : fresh cfg lent_each (lent records debounce memory board) ≡ done lent_each (fresh_state cfg)
   unfolding fresh
   fresh_goes = goes_through _ _ _ _ fresh_accepts
 
   pub fresh_is : (a : Answered) {x : Beside} {s' : State}
-      → leaves a [] x s' ≡ fresh cfg lent_first (lent records debounce memory board) → s' ≡ fresh_state cfg
+      → leaves a [] x s' ≡ fresh cfg lent_each (lent records debounce memory board) → s' ≡ fresh_state cfg
   fresh_is a e = ap (λ (o : Outcome). o.state) (e ∙ fresh_goes)
 
   pub fresh_formed : well_formed cfg (fresh_state cfg) ≡ true
   fresh_formed =
       rw fresh_goes at
-      (fresh_makes_well_formed cfg lent_first (lent records debounce memory board)
+      (fresh_makes_well_formed cfg lent_each (lent records debounce memory board)
       (ap (λ (o : Outcome). o.answer) fresh_goes))

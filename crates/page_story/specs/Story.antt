@@ -11,7 +11,7 @@ use Rattle.replay_step.specs.declared.Call.{Call}
 use Rattle.replay_step.specs.declared.Asked.{Asked}
 use Rattle.replay_step.specs.declared.Asked.TheVariants.{Makes, Nothing}
 use Rattle.replay_step.specs.Asked.{asked_at}
-use Rattle.replay_step.specs.Turn.{Made, made_by_call, call_is, zero_frame, lent_each}
+use Rattle.replay_step.specs.Turn.{lent_each, Made, made_by_call, call_is, zero_frame}
 use Rattle.page_story.specs.declared.Played.{Played}
 
 -- how far the log is played: the state; the place behind the last call, and whether a further call may follow; how many
@@ -55,9 +55,9 @@ ended p s bad =
       bad = bad;
     }
 
--- a call of the log is made as the replay program makes it, and is lent the same counts and change bytes
+-- a call of the log is made as the replay program makes it
 abbrev pub makes : Configuration → Call → State → Made
-makes cfg call s = made_by_call (outcome cfg (call_is (zero_frame cfg) call) (lent_each cfg) s)
+makes cfg call s = made_by_call (outcome cfg (call_is (zero_frame cfg) call) lent_each s)
 
 module _ (cfg : Configuration) (log : List ℕ) where
   -- "unreadable calls: a page that says so"

@@ -1,25 +1,24 @@
 -- Laws of specs/Turn.antt: a call's promise gives its number and state, and the filled line makes the turn.
-use mathlib.Core.Path.{◌≡◌, refl, sym, ap, ◌∙◌}
-use mathlib.Core.Bool.{Bool, true}
+use mathlib.Core.Path.{◌≡◌, refl, ap, ◌∙◌}
+use mathlib.Core.Bool.{Bool, true, false, cond}
 use mathlib.Core.List.{List, [], ◌∷◌, ◌++◌}
 use Prim.Native.Nat.{ℕ, zero, suc, ◌*◌, ◌≤◌}
 use native.Mathlib.Omega.{arith}
 use lib.IntN.{ℤ}
-use lib.Dec.{leb}
+use lib.Dec.{eqb, leb}
 use lib.ListN.{length, take, drop, replicate, length-append}
 use borrow.Author.Tests.{leb-true, le-leb}
+use Rattle.history.specs.History.{start}
 use Rattle.manual.specs.declared.Board.{Board}
 use Rattle.manual.specs.Configuration.{Configuration, events, places, entry_frames}
-use Rattle.manual.specs.State.{State, lent, record_width}
+use Rattle.manual.specs.State.{State, lent, record_width, with_cycle}
 use Rattle.manual.specs.Memory.{memory_length, most_memory}
-use Rattle.manual.specs.Answers.{Beside, lent_changes, lent_both, Outcome, Answered, leaves}
-use Rattle.manual.specs.Counts.{no_counts}
-use Rattle.manual.specs.Calls.{start_cycle}
-use Rattle.manual.specs.Sequences as sequences
+use Rattle.manual.specs.Answers.{Beside, Outcome, Answered, done, refused, first_that_applies, judged, leaves}
+use Rattle.manual.specs.OneEvent.{for_those, happens}
+use Rattle.manual.specs.Calls.{of_cycle, start_rules, start_cycle}
 use Rattle.manual.specs.Sequences.{outcome}
 use Rattle.manual.proofs.ConfigurationLaws.{config_tells}
 use Rattle.manual.proofs.MemoryLaws.{memory_most}
-use Rattle.manual.proofs.CallsWithoutCounts.{counts_not_looked_at}
 use Rattle.writing.specs.Writing.{Written, written, filled}
 use Rattle.transcript.specs.declared.Cursor.{Cursor}
 use Rattle.transcript.specs.Line.{status_bytes, line}
@@ -29,8 +28,8 @@ use Rattle.replay_step.specs.declared.Asked.TheVariants.{Makes, Nothing}
 use Rattle.replay_step.specs.declared.Stepped.{Stepped}
 use Rattle.replay_step.specs.declared.Stepped.TheVariants.{Line, End, BadInput}
 use Rattle.replay_step.specs.Asked.{asked_at}
-use Rattle.replay_step.specs.Turn.{Made, made, made_by_call, call_is, Turned, turned, with_line}
-use Rattle.replay_step.specs.Turn.{zero_frame, zero_changes, lent_each, line_after, lined, turn_by, turn, Buffers}
+use Rattle.replay_step.specs.Turn.{lent_each, Made, made, made_by_call, call_is, Turned, turned, with_line}
+use Rattle.replay_step.specs.Turn.{zero_frame, line_after, lined, turn_by, turn, Buffers}
 
 pub made_by : {answer : ℕ} (a : Answered) {records : List ℕ} {debounce : List ℤ} {memory : List ℕ} {b b' : Board}
     {o : Outcome} {x : Beside}
@@ -38,25 +37,37 @@ pub made_by : {answer : ℕ} (a : Answered) {records : List ℕ} {debounce : Lis
     → leaves a [] x (lent records debounce memory b') ≡ o → made answer (lent records debounce memory b) ≡ made_by_call o
 made_by a {records} {debounce} {memory} p q e = (λ i. made (p i) (lent records debounce memory (q i))) ∙ ap made_by_call e
 
--- a start is not lent the counts: what it answers and makes of the state is the same whatever they are
-pub start_made : (cfg : Configuration) (c : ℕ) (counts changes : List ℕ) (s : State)
-    → made_by_call (start_cycle cfg c (lent_changes changes) s) ≡ made_by_call (start_cycle cfg c (lent_both counts changes) s)
-start_made cfg c counts changes s =
-    ap made_by_call (sym (counts_not_looked_at cfg (sequences.Start c) refl counts (lent_changes changes) s))
+-- a start is not lent the counts: what it answers and makes of the state is the same whatever is lent beside
+pub start_made : (cfg : Configuration) (c : ℕ) (b b' : Beside) (s : State)
+    → made_by_call (start_cycle cfg c b s) ≡ made_by_call (start_cycle cfg c b' s)
+unfolding start_cycle judged
+start_made cfg c b b' s = go (eqb (first_that_applies (start_rules cfg c s)) 0)
+  where
+    number : ℕ
+    number = first_that_applies (start_rules cfg c s)
+
+    started : State
+    started = with_cycle c true (for_those cfg (of_cycle cfg c) (happens cfg start) s)
+
+    go : (t : Bool)
+        → made_by_call (cond t (done b started) (refused number b s))
+        ≡ made_by_call (cond t (done b' started) (refused number b' s))
+    go true = refl
+    go false = refl
 
 module _ (cfg : Configuration) (call : Call) (next : Cursor) (buffer : List ℕ) (s : State) where
-  pub line_made : {frame changes : List ℕ} {answer n size : ℕ} {buffer' : List ℕ} {s' : State}
-      → frame ≡ zero_frame cfg → changes ≡ zero_changes cfg → n ≡ events cfg
-      → made answer s' ≡ made_by_call (outcome cfg (call_is frame call) (lent_both no_counts changes) s)
+  pub line_made : {frame : List ℕ} {answer n size : ℕ} {buffer' : List ℕ} {s' : State} → frame ≡ zero_frame cfg
+      → n ≡ events cfg
+      → made answer s' ≡ made_by_call (outcome cfg (call_is frame call) lent_each s)
       → written size buffer' ≡ filled (line answer (status_bytes n s'.records)) buffer
       → turned (Line size answer next) buffer' s' ≡ turn_by cfg buffer s (Makes call next)
   unfolding lined
-  line_made {answer = answer} {s' = s'} f z p m w =
+  line_made {answer = answer} {s' = s'} f p m w =
       ap (λ (x : Written). with_line answer next x s')
       (w ∙ ap (λ (k : ℕ). filled (line answer (status_bytes k s'.records)) buffer) p)
-      ∙ ap (lined cfg next buffer) (m ∙ (λ i. made_by_call (outcome cfg (call_is (f i) call) (lent_both no_counts (z i)) s)))
+      ∙ ap (lined cfg next buffer) (m ∙ ap (λ (l : List ℕ). made_by_call (outcome cfg (call_is l call) lent_each s)) f)
 
--- the front of k zeros
+-- the front of 32 zeros
 pub zeros_front : (k : ℕ) (n : ℕ) {f : ℕ} → f ≡ n → n ≤ k → take {A = ℕ} f (replicate k 0) ≡ replicate n 0
 zeros_front k n e h = ap (λ (j : ℕ). take {A = ℕ} j (replicate k 0)) e ∙ front k n h
   where
@@ -84,7 +95,7 @@ module _ (cfg : Configuration) (buffer : List ℕ) (s : State) where
       le-leb (length l) (length (l ++ drop (length l) buffer)) (omega arith)
 
   asked_fits : (a : Asked) → fits (turn_by cfg buffer s a) ≡ true
-  asked_fits (Makes call next) = lined_fits next (made_by_call (outcome cfg (call_is (zero_frame cfg) call) (lent_each cfg) s))
+  asked_fits (Makes call next) = lined_fits next (made_by_call (outcome cfg (call_is (zero_frame cfg) call) lent_each s))
   asked_fits Nothing = refl
   asked_fits Asked.Unreadable = refl
 

@@ -3,7 +3,7 @@ use Rattle.std.specs.Prelude.{List, ◌≡◌, true, ℕ, ◌+◌, ◌*◌, ◌�
 use Rattle.manual.specs.Configuration.{Configuration, most_events, events, frame_bytes, config_ok}
 use Rattle.manual.specs.State.{State, record_width}
 use Rattle.manual.specs.Memory.{most_memory}
-use Rattle.manual.specs.Answers.{Beside, lent_both, Outcome}
+use Rattle.manual.specs.Answers.{Beside, lent_counts, Outcome}
 use Rattle.manual.specs.Counts.{no_counts}
 use Rattle.manual.specs.Conditions.{all_present}
 use Rattle.manual.specs.Sequences as sequences
@@ -27,6 +27,10 @@ call_is frame (Start cycle) = sequences.Start cycle
 call_is frame (Stop cycle) = sequences.Stop cycle
 call_is frame (Tick ms) = sequences.Tick ms frame all_present
 call_is frame (Clear code) = sequences.Clear code
+
+-- document 02, W7: the five counts that are lent to each call are 0; none is printed
+abbrev pub lent_each : Beside
+lent_each = lent_counts no_counts
 
 -- a call's number, and the state that it leaves
 pub record Made : Type 0 where
@@ -56,14 +60,6 @@ module _ (cfg : Configuration) where
   -- "frames are zero"
   abbrev pub zero_frame : List ℕ
   zero_frame = replicate (frame_bytes cfg) 0
-
-  -- document 02, W8: the "lent slice of n change bytes"
-  abbrev pub zero_changes : List ℕ
-  zero_changes = replicate (events cfg) 0
-
-  -- the five counts of W7 and the change bytes are lent to each call as 0; none of them is printed
-  abbrev pub lent_each : Beside
-  lent_each = lent_both no_counts zero_changes
 
   abbrev pub line_after : Made → List ℕ
   line_after m = line m.answer (status_bytes (events cfg) m.state.records)

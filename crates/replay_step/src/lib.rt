@@ -3,8 +3,7 @@ ghost use Rattle.std.specs.Prelude.{◌≡◌, ◌≤◌, ◌<◌, pos, length, 
 ghost use Rattle.manual.specs.Words.{between, nat_of};
 ghost use Rattle.manual.specs.Configuration.{most_numbers};
 ghost use Rattle.manual.specs.State.{lent};
-ghost use Rattle.manual.specs.Answers.{lent_both, of_answer, of_report};
-ghost use Rattle.manual.specs.Counts.{no_counts};
+ghost use Rattle.manual.specs.Answers.{lent_counts, of_answer, of_report};
 ghost use Rattle.manual.specs.Conditions.{all_present};
 ghost use Rattle.manual.specs.Calls.{report, tick};
 ghost use Rattle.manual.specs.Sequences.{outcome};
@@ -304,14 +303,13 @@ fn make_report(
     event: EventNumber,
     code: u32,
     frame: &[u8],
-    changes: &mut [u8],
+    counts: &mut [u32],
 ) -> Made
     ensures { made result.answer (lent records.new debounce.new memory.new result.board)
         ≡ made_by_call (report cfg.now event.0 code frame.now all_present
-        (lent_both no_counts changes.old)
+        (lent_counts counts.old)
         (lent records.old debounce.old memory.old board)) }
 {
-    let mut counts = [0; manual::COUNTS];
     made_of_report(reporting::report(
         cfg,
         records,
@@ -322,8 +320,7 @@ fn make_report(
         code,
         frame,
         manual::ALL_PRESENT,
-        &mut counts,
-        changes,
+        counts,
     ))
 }
 
@@ -336,30 +333,19 @@ fn make_tick(
     board: Board,
     ms: u32,
     frame: &[u8],
-    changes: &mut [u8],
+    counts: &mut [u32],
 ) -> Made
     ensures { made result.answer (lent records.new debounce.new memory.new result.board)
-        ≡ made_by_call (tick cfg.now ms frame.now all_present
-        (lent_both no_counts changes.old)
+        ≡ made_by_call (tick cfg.now ms frame.now all_present (lent_counts counts.old)
         (lent records.old debounce.old memory.old board)) }
 {
-    let mut counts = [0; manual::COUNTS];
     let all = manual::ALL_PRESENT;
     made_of(reporting::tick(
-        cfg,
-        records,
-        debounce,
-        memory,
-        board,
-        ms,
-        frame,
-        all,
-        &mut counts,
-        changes,
+        cfg, records, debounce, memory, board, ms, frame, all, counts,
     ))
 }
 
-// The call on the manager, with this frame, counts of 0 and these change bytes.
+// The call on the manager, with this frame and these counts.
 fn make(
     cfg: &[i32],
     records: &mut [u8],
@@ -368,36 +354,29 @@ fn make(
     board: Board,
     call: Call,
     frame: &[u8],
-    changes: &mut [u8],
+    counts: &mut [u32],
 ) -> Made
     ensures { made result.answer (lent records.new debounce.new memory.new result.board)
-        ≡ made_by_call (outcome cfg.now (call_is frame.now call)
-        (lent_both no_counts changes.old)
+        ≡ made_by_call (outcome cfg.now (call_is frame.now call) (lent_counts counts.old)
         (lent records.old debounce.old memory.old board)) }
 {
-    let mut zeros = [0; manual::COUNTS];
-    let counts = &mut zeros[..manual::COUNTS];
     match call {
-        Call::Report(e, c) => {
-            make_report(cfg, records, debounce, memory, board, e, c, frame, changes)
+        Call::Report(event, code) => {
+            make_report(
+                cfg, records, debounce, memory, board, event, code, frame, counts,
+            )
         }
-        Call::Start(c) => {
-            let done = cycles::start(cfg, records, debounce, memory, board, c, changes);
-            made_of(done)
-        }
-        Call::Stop(c) => {
-            let done = cycles::stop(cfg, records, debounce, memory, board, c, counts, changes);
-            made_of(done)
-        }
-        Call::Tick(ms) => make_tick(cfg, records, debounce, memory, board, ms, frame, changes),
-        Call::Clear(c) => {
-            let done = clearing::clear(cfg, records, debounce, memory, board, c, counts, changes);
+        Call::Start(cycle) => made_of(cycles::start(cfg, records, debounce, memory, board, cycle)),
+        Call::Stop(c) => made_of(cycles::stop(cfg, records, debounce, memory, board, c, counts)),
+        Call::Tick(ms) => make_tick(cfg, records, debounce, memory, board, ms, frame, counts),
+        Call::Clear(code) => {
+            let done = clearing::clear(cfg, records, debounce, memory, board, code, counts);
             made_of(done)
         }
     }
 }
 
-// Makes the call with a frame of zeros, counts of 0 and change bytes of 0, and fills its line.
+// Makes the call with a frame of zeros and counts of 0, and fills its line.
 fn play(
     cfg: &[i32],
     records: &mut [u8],
@@ -416,8 +395,7 @@ fn play(
 {
     let zeros = [0; manual::MOST_FRAME];
     let frame = &zeros[..config::frame_bytes(cfg)];
-    let mut changes = [0; manual::MOST_EVENTS];
-    let n = config::events(cfg);
+    let mut counts = [0; manual::COUNTS];
     let made = make(
         cfg,
         records,
@@ -426,13 +404,15 @@ fn play(
         board,
         call,
         frame,
-        &mut changes[..n],
+        &mut counts,
     );
     let answer = made.answer;
-    let board = made.board;
-    let length = transcript::fill_line(buffer, answer, records, n);
-    let stepped = Stepped::Line(length, answer, next);
-    Turn { stepped, board }
+    let after = made.board;
+    let length = transcript::fill_line(buffer, answer, records, config::events(cfg));
+    Turn {
+        stepped: Stepped::Line(length, answer, next),
+        board: after,
+    }
 }
 
 // Reads the next call of the text from the cursor on, makes it on the manager, and fills its line. Where the input

@@ -1,22 +1,18 @@
--- What report and tick share: the lengths of the counts and the change bytes are judged with 3, 12 is judged last, and
--- where neither applies the counts may rise.
+-- What report and tick share: the counts' length is judged with 3, 12 is judged last, and where neither applies the
+-- counts may rise.
 use mathlib.Core.Path.{◌≡◌, sym, ap, ◌∙◌}
-use mathlib.Core.Bool.{Bool, true, false, not, ◌&&◌}
+use mathlib.Core.Bool.{Bool, true, false, ◌&&◌}
 use mathlib.Core.List.{List, [], ◌∷◌}
 use Prim.Native.Nat.{ℕ, ◌≤◌}
-use lib.ListN.{length}
-use borrow.Author.Tests.{eqb-true}
 use Rattle.history.proofs.WordsLaws.{and_left, and_right}
 use Rattle.manual.specs.declared.Refusal.{Refusal}
 use Rattle.manual.specs.declared.Rise.{Rise}
-use Rattle.manual.specs.Configuration.{Configuration, most_events, events}
+use Rattle.manual.specs.Configuration.{Configuration, most_events}
 use Rattle.manual.specs.State.{State}
 use Rattle.manual.specs.WellFormed.{well_formed}
-use Rattle.manual.specs.Answers.{lent_both, Rule, ◌if◌, first_that_applies, number_of}
+use Rattle.manual.specs.Answers.{Rule, ◌if◌, first_that_applies, number_of}
 use Rattle.manual.specs.Counts.{Happening, rise_of, numbers, raised, past, carries_past, counts_fit}
-use Rattle.manual.specs.Changes.{changes_fit, both_fit}
 use Rattle.manual.specs.Calls.{begins}
-use Rattle.manual.proofs.AnswersLaws.{three_passed}
 use Rattle.manual.proofs.CountsLaws.{AtMost}
 use Rattle.counts.specs.Near.{AreFive, some_near}
 use Rattle.counts.proofs.NearLaws.{are_five, far_from_past}
@@ -28,53 +24,30 @@ use Rattle.judgement.proofs.JudgedLaws.{judged_by, stopped_by}
 use Rattle.reporting.specs.Accepted.{Begun}
 use Rattle.reporting.specs.Tests.{limit_test}
 
--- "A slice of another length is 3.", "a wrong length is refusal 3"
-module _ (cfg : Configuration) (s : State) (counts changes : List ℕ) {fits : Bool}
-    (q : fits ≡ both_fit cfg (lent_both counts changes)) where
-  abbrev both : Bool
-  both = both_fit cfg (lent_both counts changes)
-
+-- "A slice of another length is 3."
+module _ (cfg : Configuration) (s : State) (counts : List ℕ) {fits : Bool} (q : fits ≡ counts_fit counts) where
   begins_by : {number : ℕ} → number ≡ first_that_applies (begins cfg s fits [])
-      → number ≡ first_that_applies (begins cfg s both [])
+      → number ≡ first_that_applies (begins cfg s (counts_fit counts) [])
   begins_by p = p ∙ ap (λ (fits : Bool). first_that_applies (begins cfg s fits [])) q
 
   module _ {check : Check} (p : check_number check ≡ first_that_applies (begins cfg s fits [])) where
     pub has_begun : check ≡ Go → Begun cfg s counts
     has_begun g =
-        let b = begun cfg s both (sym (begins_by p) ∙ ap check_number g) in
+        let b = begun cfg s (counts_fit counts) (sym (begins_by p) ∙ ap check_number g) in
         record {
           configured = b.0;
-          formed = and_right both (well_formed cfg s) b.1;
-          five =
-              are_five counts
-              (and_left (counts_fit counts) (changes_fit cfg changes) (and_left both (well_formed cfg s) b.1));
+          formed = and_right (counts_fit counts) (well_formed cfg s) b.1;
+          five = are_five counts (and_left (counts_fit counts) (well_formed cfg s) b.1);
         }
 
     module _ (rules : List Rule) where
       pub judged_counted : check ≡ Go → {number : ℕ} → number ≡ first_that_applies rules
-          → number ≡ first_that_applies (begins cfg s both rules)
-      judged_counted = judged_by cfg s both (begins_by p) rules
+          → number ≡ first_that_applies (begins cfg s (counts_fit counts) rules)
+      judged_counted = judged_by cfg s (counts_fit counts) (begins_by p) rules
 
       pub stopped_counted : (r : Refusal) → check ≡ Stop r
-          → number_of r ≡ first_that_applies (begins cfg s both rules)
-      stopped_counted = stopped_by cfg s both (begins_by p) rules
-
--- where 3 does not apply the counts are five, there are n change bytes, and the state is well formed
-pub record Fitting (cfg : Configuration) (s : State) (counts changes : List ℕ) : Type 0 where
-  pub formed : well_formed cfg s ≡ true
-  pub five : AreFive counts
-  pub n_changes : length changes ≡ events cfg
-
-pub all_fit : (cfg : Configuration) (s : State) (counts changes : List ℕ)
-    → not (both_fit cfg (lent_both counts changes) && well_formed cfg s) ≡ false → Fitting cfg s counts changes
-all_fit cfg s counts changes z =
-    let both = both_fit cfg (lent_both counts changes) in
-    let three = three_passed both (well_formed cfg s) z in
-    record {
-      formed = three.1;
-      five = are_five counts (and_left (counts_fit counts) (changes_fit cfg changes) three.0);
-      n_changes = eqb-true _ _ (and_right (counts_fit counts) (changes_fit cfg changes) three.0);
-    }
+          → number_of r ≡ first_that_applies (begins cfg s (counts_fit counts) rules)
+      stopped_counted = stopped_by cfg s (counts_fit counts) (begins_by p) rules
 
 module _ (log : List Happening) (counts : List ℕ) where
   -- where no count is near its limit, what at most 512 events add carries none past it

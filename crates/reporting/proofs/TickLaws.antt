@@ -4,7 +4,6 @@ use mathlib.Core.Logic.{◌≢◌}
 use mathlib.Core.Bool.{Bool, true, false, cond}
 use mathlib.Core.List.{List, []}
 use Prim.Native.Nat.{ℕ, ◌+◌, ◌<◌}
-use lib.ListN.{length, replicate}
 use native.Mathlib.Nat.{zero-add}
 use native.Mathlib.Numerals.{add-one}
 use native.Mathlib.Omega.{arith}
@@ -15,31 +14,25 @@ use Rattle.manual.specs.declared.StoreAnswer.{StoreAnswer}
 use Rattle.manual.specs.declared.StoreAnswer.TheVariants.{Untold}
 use Rattle.manual.specs.Words.{nat_of, for_below, count_those}
 use Rattle.manual.specs.Configuration.{Configuration, events, kind_of}
-use Rattle.manual.specs.State.{State, status_byte, runs}
-use Rattle.manual.specs.Answers.{lent_both, done, first_that_applies}
+use Rattle.manual.specs.State.{State, runs}
+use Rattle.manual.specs.WellFormed.{well_formed}
+use Rattle.manual.specs.Answers.{lent_counts, done, first_that_applies}
 use Rattle.manual.specs.Counts.{Happening, of_store, log_below, rise_of, numbers, raised, carries_past, with_rise}
-use Rattle.manual.specs.Counts.{no_counts}
-use Rattle.manual.specs.Changes.{changes_of, changed_to}
+use Rattle.manual.specs.Counts.{counts_fit, no_counts}
 use Rattle.manual.specs.Calls.{cycle_runs, time_runs, tick_moves, ticks, ticks_did, tick_log, tick_rules}
-use Rattle.manual.proofs.AnswersLaws.{none_applies}
+use Rattle.manual.proofs.AnswersLaws.{none_applies, three_passed}
 use Rattle.manual.proofs.ConfigurationLaws.{config_tells}
-use Rattle.manual.proofs.ChangesLaws.{nothing_changed}
 use Rattle.manual.proofs.CountsLaws.{AtMost, rise_append, store_once, log_most}
-use Rattle.manual.proofs.OneEventLaws.{applied_other_status}
 use Rattle.manual.proofs.StaysWellFormed.{ticks_keep}
 use Rattle.config.specs.Rows.{part_of}
 use Rattle.config.proofs.PartLaws.{column_is}
 use Rattle.counts.specs.Near.{AreFive, MayRise}
-use Rattle.counts.proofs.NearLaws.{may_rise}
-use Rattle.changes.specs.declared.Change.{Change}
-use Rattle.changes.specs.Marks.{marked, Says}
-use Rattle.changes.proofs.MarksLaws.{marked_is}
+use Rattle.counts.proofs.NearLaws.{are_five, may_rise}
 use Rattle.one_event.specs.Ready.{Ready}
 use Rattle.one_event.specs.Steps.{Stepped, stepped, ticking}
 use Rattle.one_event.proofs.TurnsLaws.{turn, next_turn, last_turn, ready_at_turn}
-use Rattle.reporting.specs.Accepted.{Begun, MayTick, tick_part, ticked, tick_changes}
+use Rattle.reporting.specs.Accepted.{Begun, MayTick, tick_part, ticked}
 use Rattle.reporting.specs.Tests.{tick_tests}
-use Rattle.reporting.proofs.CountedLaws.{Fitting, all_fit}
 
 -- ---- what passed tests tell
 
@@ -53,24 +46,24 @@ module _ (cfg : Configuration) (s : State) (ms : ℕ) (frame : List ℕ) where
     frame_fits = eqb-true _ _ (not-false _ (none_applies _ z refl 1));
   }
 
-  module _ (present : ℕ) (counts changes : List ℕ)
-      (z : first_that_applies (tick_rules cfg ms frame present (lent_both counts changes) s) ≡ 0) where
-    pub tick_fits : Fitting cfg s counts changes
+  module _ (present : ℕ) (counts : List ℕ)
+      (z : first_that_applies (tick_rules cfg ms frame present (lent_counts counts) s) ≡ 0) where
+    three : (counts_fit counts ≡ true) × (well_formed cfg s ≡ true)
     unfolding tick_rules
-    tick_fits = all_fit cfg s counts changes (none_applies _ z refl 1)
+    three = three_passed (counts_fit counts) (well_formed cfg s) (none_applies _ z refl 1)
 
     pub tick_passed : MayTick cfg s ms frame
     unfolding tick_rules
     tick_passed = record {
       configured = not-false _ (none_applies _ z refl 0);
-      formed = tick_fits.formed;
+      formed = three.1;
       short = ltb-false _ _ (none_applies _ z refl 2);
       frame_fits = eqb-true _ _ (not-false _ (none_applies _ z refl 3));
     }
 
     pub tick_counts : AreFive counts × (carries_past (tick_log cfg ms frame present s) counts ≡ false)
     unfolding tick_rules
-    tick_counts = (tick_fits.five, none_applies _ z refl 4)
+    tick_counts = (are_five counts three.0, none_applies _ z refl 4)
 
 -- ---- the events, one by one
 
@@ -90,10 +83,6 @@ module _ (cfg : Configuration) (s : State) (ms : ℕ) (frame : List ℕ) (presen
   abbrev pub logged_below : ℕ → List Happening
   logged_below i = log_below i (turn moved (ticks cfg ms frame)) logs s
 
-  -- and the change bytes then
-  abbrev pub changed_below : ℕ → List ℕ
-  changed_below i = changes_of cfg s (ticked_below i)
-
   pub turn_ready : MayTick cfg s ms frame → (i : ℕ) → i < events cfg → {t : State} → t ≡ ticked_below i
       → Ready cfg t i
   turn_ready m i h p =
@@ -107,12 +96,6 @@ module _ (cfg : Configuration) (s : State) (ms : ℕ) (frame : List ℕ) (presen
   part_left true e t = refl
   part_left false e t = refl
 
-  -- no other event's status is changed by it
-  part_others : (b : Bool) (e : ℕ) (t : State) (i : ℕ) → i ≢ e
-      → status_byte (cond b (ticks cfg ms frame e t) t) i ≡ status_byte t i
-  part_others true e t i h = applied_other_status cfg frame e _ t i h
-  part_others false e t i h = refl
-
   part_log : (b : Bool) (e : ℕ) (t : State)
       → of_store e (cond b (ticking cfg frame e ms t) (stepped t Untold)).did
       ≡ cond b (of_store e (ticks_did cfg ms frame e t)) []
@@ -123,28 +106,12 @@ module _ (cfg : Configuration) (s : State) (ms : ℕ) (frame : List ℕ) (presen
   unfolding log_below count_those
   none_ticked = refl
 
-  pub none_changed : (changes : List ℕ) → length changes ≡ events cfg → {changes' : List ℕ}
-      → changes' ≡ replicate (length changes) 0 → changes' ≡ changed_below 0
-  unfolding for_below
-  none_changed changes n p = p ∙ ap (λ (k : ℕ). replicate k 0) n ∙ sym (nothing_changed cfg s)
-
   module _ (i : ℕ) {t u : State} {did : StoreAnswer} (p : t ≡ ticked_below i)
       (q : stepped u did ≡ tick_part cfg ms frame present s.board i t) where
-    had_its_part : u ≡ cond (moved i) (ticks cfg ms frame i t) t
-    had_its_part = ap (λ (x : Stepped State). x.left) q ∙ part_left (moved i) i t
-
     pub next_ticked : u ≡ ticked_below (i + 1)
-    next_ticked = next_turn moved (ticks cfg ms frame) i s p had_its_part
-
-    pub next_changed : i < events cfg → (change : Change) → Says i change t.records u.records
-        → {changes changes' : List ℕ} → changes ≡ changed_below i → changes' ≡ marked i change changes
-        → changes' ≡ changed_below (i + 1)
-    next_changed h change says c m =
-        m
-        ∙ marked_is cfg s t u i h
-        (λ j n. ap (λ (v : State). status_byte v j) had_its_part ∙ part_others (moved i) i t j n) change says
-        (c ∙ ap (changes_of cfg s) (sym p))
-        ∙ ap (changes_of cfg s) next_ticked
+    next_ticked =
+        next_turn moved (ticks cfg ms frame) i s p
+        (ap (λ (x : Stepped State). x.left) q ∙ part_left (moved i) i t)
 
     pub next_logged : {k l : List ℕ} → k ≡ rise_of (logged_below i) → ((e : ℕ) → l ≡ raised (rise_of (of_store e did)) k)
         → l ≡ rise_of (logged_below (i + 1))
@@ -163,10 +130,6 @@ module _ (cfg : Configuration) (s : State) (ms : ℕ) (frame : List ℕ) (presen
   unfolding tick_log
   all_logged i n p = p ∙ ap (λ (j : ℕ). rise_of (logged_below j)) n
 
-  pub all_changed : (i : ℕ) → i ≡ events cfg → {changes : List ℕ} → changes ≡ changed_below i
-      → changes ≡ tick_changes cfg ms frame present s
-  all_changed i n p = p ∙ ap (changes_of cfg s) (all_ticked i n refl)
-
   -- one more event may be counted: the log of those before it is short
   pub may_count : MayTick cfg s ms frame → (i : ℕ) → i < events cfg → (rise : Rise)
       → numbers rise ≡ rise_of (logged_below i) → MayRise rise
@@ -179,15 +142,12 @@ module _ (cfg : Configuration) (s : State) (ms : ℕ) (frame : List ℕ) (presen
           subst (λ (l : List Happening). AtMost 1 (rise_of l)) (part_log (moved e) e t)
           (store_once e (tick_part cfg ms frame present s.board e t).did)
 
-  -- the counts and the change bytes stand beside the state that the tick leaves
-  pub tick_left : {t : State} (counts changes : List ℕ) {counts' changes' : List ℕ}
-      → t ≡ ticked cfg ms frame present s
+  -- the counts stand beside the state that the tick leaves
+  pub tick_left : {t : State} (counts : List ℕ) {counts' : List ℕ} → t ≡ ticked cfg ms frame present s
       → counts' ≡ raised (rise_of (tick_log cfg ms frame present s)) counts
-      → changes' ≡ tick_changes cfg ms frame present s
-      → done (lent_both counts' changes') t
-      ≡ changed_to cfg s (with_rise (tick_log cfg ms frame present s) (lent_both counts changes))
-      (ticked cfg ms frame present s)
-  tick_left counts changes p q r = λ i. done (lent_both (q i) (r i)) (p i)
+      → done (lent_counts counts') t
+      ≡ done (with_rise (tick_log cfg ms frame present s) (lent_counts counts)) (ticked cfg ms frame present s)
+  tick_left counts p q = λ i. done (lent_counts (q i)) (p i)
 
 -- an event that tells memory nothing adds nothing
 none_added : (rise : Rise) (e : ℕ) → numbers rise ≡ raised (rise_of (of_store e Untold)) (numbers rise)

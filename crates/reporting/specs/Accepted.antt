@@ -6,7 +6,6 @@ use Rattle.manual.specs.Configuration.{Configuration, events, frame_bytes, confi
 use Rattle.manual.specs.State.{State}
 use Rattle.manual.specs.WellFormed.{well_formed}
 use Rattle.manual.specs.OneEvent.{for_those}
-use Rattle.manual.specs.Changes.{changes_of}
 use Rattle.manual.specs.Calls.{tick_moves, ticks}
 use Rattle.counts.specs.Near.{AreFive}
 use Rattle.one_event.specs.Steps.{Stepped, stepped, ticking}
@@ -39,7 +38,3 @@ module _ (cfg : Configuration) (ms : ℕ) (frame : List ℕ) (present : ℕ) whe
   -- all of them, "events in rising number"
   abbrev pub ticked : State → State
   ticked s = for_those cfg (tick_moves cfg present s.board) (ticks cfg ms frame) s
-
-  -- and W8's change bytes
-  abbrev pub tick_changes : State → List ℕ
-  tick_changes s = changes_of cfg s (ticked s)

@@ -1,9 +1,9 @@
-// Document 01, "report" and "tick": the two calls that bring results to the events. Document 02: what they add to the
-// five counts (W7), and what they change (W8).
+// Document 01, "report" and "tick": the two calls that bring results to the events. Document 02, W7: what they add to
+// the five counts.
 use judgement::Check;
 use manual::{Answer, Board, EventNumber, Refusal, ReportAnswer, ReportReturned, Returned};
 use one_report::accept_report;
-use one_tick::{Time, tick_events};
+use one_tick::tick_events;
 
 mod one_report;
 mod one_tick;
@@ -11,7 +11,7 @@ mod tests;
 
 ghost use Rattle.std.specs.Prelude.{◌≡◌, List, [], ℕ, ℤ};
 ghost use Rattle.manual.specs.State.{lent};
-ghost use Rattle.manual.specs.Answers.{Beside, lent_both, refused, first_that_applies, number_of};
+ghost use Rattle.manual.specs.Answers.{Beside, lent_counts, refused, first_that_applies, number_of};
 ghost use Rattle.manual.specs.Answers.{of_answer, of_report, leaves};
 ghost use Rattle.manual.specs.Calls.{report_rules, report, tick_rules, tick};
 ghost use Rattle.judgement.specs.Checks.{check_number};
@@ -47,45 +47,29 @@ fn all_report_tests(
     }
 }
 
-// What a report is given by value: the board, the event, the code and the conditions that are present.
-#[derive(Drop)]
-struct Test {
-    board: Board,
-    event: EventNumber,
-    code: u32,
-    present: u32,
-}
-
 // "The first that applies, in the call's order, is given. Every call begins 2, 3." "A slice of another length is 3."
 fn judge_report(
     cfg: &[i32],
     records: &[u8],
     debounce: &[i32],
     memory: &[u8],
-    test: Test,
+    board: Board,
+    event: EventNumber,
+    code: u32,
     frame: &[u8],
+    present: u32,
     counts: &[u32],
-    changes: &[u8],
 ) -> Check
     ensures { check_number result
         ≡ first_that_applies
-        (report_rules cfg.now test.event.0 test.code frame.now test.present
-        (lent_both counts.now changes.now)
-        (lent records.now debounce.now memory.now test.board)) }
+        (report_rules cfg.now event.0 code frame.now present
+        (lent_counts counts.now)
+        (lent records.now debounce.now memory.now board)) }
 {
-    let fits = changes::both_fit(cfg, counts, changes);
-    match judgement::begin(cfg, records, debounce, memory, test.board, fits) {
+    let fits = counts::fit(counts);
+    match judgement::begin(cfg, records, debounce, memory, board, fits) {
         Check::Go => all_report_tests(
-            cfg,
-            records,
-            debounce,
-            memory,
-            test.board,
-            test.event,
-            test.code,
-            frame,
-            test.present,
-            counts,
+            cfg, records, debounce, memory, board, event, code, frame, present, counts,
         ),
         Check::Stop(r) => Check::Stop(r),
     }
@@ -103,8 +87,7 @@ fn refuse_report(refusal: Refusal, board: Board) -> ReportReturned
 
 // A test of the event has a result: code "0 passed, 1 failed, 2 pre-passed, 3 pre-failed", made while the conditions of
 // the set are present. Memory is told of a fresh failure, with the lent frame, and what becomes of entries is added to
-// the counts; the change bytes say what became of the status. Answers the verdict, or the first of 2, 3, 4, 1, 6, 9, 5,
-// 11, 12 that applies.
+// the counts. Answers the verdict, or the first of 2, 3, 4, 1, 6, 9, 5, 11, 12 that applies.
 pub fn report(
     cfg: &[i32],
     records: &mut [u8],
@@ -116,25 +99,18 @@ pub fn report(
     frame: &[u8],
     present: u32,
     counts: &mut [u32],
-    changes: &mut [u8],
 ) -> ReportReturned
-    ensures { leaves (of_report result.answer) [] (lent_both counts.new changes.new)
+    ensures { leaves (of_report result.answer) [] (lent_counts counts.new)
         (lent records.new debounce.new memory.new result.board)
-        ≡ report cfg.now event.0 code frame.now present
-        (lent_both counts.old changes.old)
+        ≡ report cfg.now event.0 code frame.now present (lent_counts counts.old)
         (lent records.old debounce.old memory.old board) }
 {
-    let test = Test {
-        board,
-        event,
-        code,
-        present,
-    };
-    match judge_report(cfg, records, debounce, memory, test, frame, counts, changes) {
+    match judge_report(
+        cfg, records, debounce, memory, board, event, code, frame, present, counts,
+    ) {
         Check::Go => {
             let after = accept_report(cfg, records, debounce, memory, board, event, code, frame);
             counts::raise(counts, after.rise);
-            changes::only(changes, event, after.change);
             after.returned
         }
         Check::Stop(r) => refuse_report(r, board),
@@ -149,19 +125,21 @@ fn all_tick_tests(
     records: &[u8],
     debounce: &[i32],
     memory: &[u8],
-    time: Time,
+    board: Board,
+    ms: u32,
     frame: &[u8],
+    present: u32,
     counts: &[u32],
 ) -> Check
-    requires { Begun cfg.now (lent records.now debounce.now memory.now time.board) counts.now }
+    requires { Begun cfg.now (lent records.now debounce.now memory.now board) counts.now }
     ensures { check_number result
         ≡ first_that_applies
-        (all_tick_tests cfg.now time.ms frame.now time.present counts.now
-        (lent records.now debounce.now memory.now time.board)) }
+        (all_tick_tests cfg.now ms frame.now present counts.now
+        (lent records.now debounce.now memory.now board)) }
 {
-    match tests::tick_tests(cfg, time.ms, frame) {
+    match tests::tick_tests(cfg, ms, frame) {
         Check::Go => rehearsal::limit_test(one_tick::carries_past(
-            cfg, records, debounce, memory, time, frame, counts,
+            cfg, records, debounce, memory, board, ms, frame, present, counts,
         )),
         Check::Stop(r) => Check::Stop(r),
     }
@@ -173,20 +151,22 @@ fn judge_tick(
     records: &[u8],
     debounce: &[i32],
     memory: &[u8],
-    time: Time,
+    board: Board,
+    ms: u32,
     frame: &[u8],
+    present: u32,
     counts: &[u32],
-    changes: &[u8],
 ) -> Check
     ensures { check_number result
         ≡ first_that_applies
-        (tick_rules cfg.now time.ms frame.now time.present
-        (lent_both counts.now changes.now)
-        (lent records.now debounce.now memory.now time.board)) }
+        (tick_rules cfg.now ms frame.now present (lent_counts counts.now)
+        (lent records.now debounce.now memory.now board)) }
 {
-    let fits = changes::both_fit(cfg, counts, changes);
-    match judgement::begin(cfg, records, debounce, memory, time.board, fits) {
-        Check::Go => all_tick_tests(cfg, records, debounce, memory, time, frame, counts),
+    let fits = counts::fit(counts);
+    match judgement::begin(cfg, records, debounce, memory, board, fits) {
+        Check::Go => all_tick_tests(
+            cfg, records, debounce, memory, board, ms, frame, present, counts,
+        ),
         Check::Stop(r) => Check::Stop(r),
     }
 }
@@ -203,8 +183,7 @@ fn refuse_tick(refusal: Refusal, board: Board) -> Returned
 
 // "Tick of d ms (0 to 60,000)": time passes for the events of kind 2 whose cycle runs and whose needed conditions are
 // all in the set of those that are present. "Every event so qualified takes the lent frame." What becomes of entries is
-// added to the counts; the change bytes say what became of each status. Answers done, or the first of 2, 3, 1, 9, 12
-// that applies.
+// added to the counts. Answers done, or the first of 2, 3, 1, 9, 12 that applies.
 pub fn tick(
     cfg: &[i32],
     records: &mut [u8],
@@ -215,18 +194,17 @@ pub fn tick(
     frame: &[u8],
     present: u32,
     counts: &mut [u32],
-    changes: &mut [u8],
 ) -> Returned
-    ensures { leaves (of_answer result.answer) [] (lent_both counts.new changes.new)
+    ensures { leaves (of_answer result.answer) [] (lent_counts counts.new)
         (lent records.new debounce.new memory.new result.board)
-        ≡ tick cfg.now ms frame.now present
-        (lent_both counts.old changes.old)
+        ≡ tick cfg.now ms frame.now present (lent_counts counts.old)
         (lent records.old debounce.old memory.old board) }
 {
-    let time = Time { board, ms, present };
-    match judge_tick(cfg, records, debounce, memory, time, frame, counts, changes) {
+    match judge_tick(
+        cfg, records, debounce, memory, board, ms, frame, present, counts,
+    ) {
         Check::Go => {
-            let after = tick_events(cfg, records, debounce, memory, time, frame, changes);
+            let after = tick_events(cfg, records, debounce, memory, board, ms, frame, present);
             counts::raise(counts, after.rise);
             let board_after = after.board;
             Returned {

@@ -3,23 +3,18 @@ ghost use Rattle.std.specs.Prelude.{◌≡◌, []};
 ghost use Rattle.manual.specs.State.{lent};
 ghost use Rattle.manual.specs.Answers.{alone, of_report, leaves};
 ghost use Rattle.manual.specs.Counts.{rise_of, numbers, carries_past};
-ghost use Rattle.manual.specs.Calls.{report_log};
-ghost use Rattle.changes.specs.Marks.{Says};
+ghost use Rattle.manual.specs.Calls.{report_log, report_done};
 ghost use Rattle.counts.specs.Near.{AreFive};
-ghost use Rattle.one_event.specs.Steps.{reporting};
 ghost use Rattle.rehearsal.specs.Copies.{AsLong};
 ghost use Rattle.reporting.specs.Accepted.{MayReport};
 
-use changes::Change;
 use manual::{Board, EventNumber, ReportAnswer, ReportReturned, Rise};
 
-// What an accepted report leaves beside the lent blocks: what it answers, what it adds to the counts, and the status
-// before and after.
+// What an accepted report leaves beside the lent blocks: what it answers, and what it adds to the counts.
 #[derive(Drop)]
 pub(crate) struct Accepted {
     pub returned: ReportReturned,
     pub rise: Rise,
-    pub change: Change,
 }
 
 // "Each accepted report gives a verdict: none, passed or failed."
@@ -36,27 +31,21 @@ pub(crate) fn accept_report(
     requires { MayReport cfg.now (lent records.old debounce.old memory.old board) event.0 frame.now }
     ensures { (leaves (of_report result.returned.answer) [] alone
         (lent records.new debounce.new memory.new result.returned.board)
-        ≡ (reporting cfg.now frame.now event.0 code
-        (lent records.old debounce.old memory.old board)).left)
+        ≡ report_done cfg.now event.0 code frame.now alone
+        (lent records.old debounce.old memory.old board))
         × (numbers result.rise ≡ rise_of (report_log cfg.now event.0 code frame.now
-        (lent records.old debounce.old memory.old board)))
-        × (Says event.0 result.change records.old records.new) }
+        (lent records.old debounce.old memory.old board))) }
 {
     let after = one_event::reports(cfg, records, debounce, memory, board, event, code, frame);
     let verdict = after.verdict;
     let board_after = after.board;
     let did = after.did;
-    let change = after.change;
     let returned = ReportReturned {
         answer: ReportAnswer::Accepted(verdict),
         board: board_after,
     };
     let rise = counts::rise_of(did);
-    Accepted {
-        returned,
-        rise,
-        change,
-    }
+    Accepted { returned, rise }
 }
 
 // The report, on copies of the blocks.

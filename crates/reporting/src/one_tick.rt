@@ -1,56 +1,51 @@
 // The work of an accepted tick, and its rehearsal: what it would add to the counts, before anything lent changes.
 ghost use Rattle.std.specs.Prelude.{◌≡◌, ℕ, ◌≤◌, length};
-ghost use Rattle.manual.specs.Configuration.{events, frame_bytes};
+ghost use Rattle.manual.specs.Configuration.{frame_bytes};
 ghost use Rattle.manual.specs.State.{lent};
 ghost use Rattle.manual.specs.Counts.{of_store, rise_of, numbers, raised, carries_past};
 ghost use Rattle.manual.specs.Calls.{tick_log};
 ghost use Rattle.counts.specs.Near.{AreFive, MayRise};
-ghost use Rattle.changes.specs.Marks.{Says};
 ghost use Rattle.one_event.specs.Ready.{flagged, Ready};
 ghost use Rattle.one_event.specs.Steps.{stepped};
 ghost use Rattle.rehearsal.specs.Copies.{AsLong};
-ghost use Rattle.reporting.specs.Accepted.{MayTick, tick_part, ticked, tick_changes};
+ghost use Rattle.reporting.specs.Accepted.{MayTick, tick_part, ticked};
 
 use crate::tests::tick_moves;
 use manual::{Board, EventNumber, Rise, StoreAnswer};
 use one_event::TickPart;
 use rehearsal::Counted;
 
-// What a tick is given by value: the board, the milliseconds that have passed, and the conditions that are present.
-#[derive(Drop)]
-pub(crate) struct Time {
-    pub board: Board,
-    pub ms: u32,
-    pub present: u32,
-}
-
 // The event's part of a tick: which cycles run is read off the board at the tick's start. Takes the overflow flag so
-// far, and gives it back with what memory did and the status before and after.
+// far, and gives it back with what memory did.
 fn tick_event(
     cfg: &[i32],
     records: &mut [u8],
     debounce: &mut [i32],
     memory: &mut [u8],
-    time: Time,
+    board: Board,
     overflow: bool,
     event: EventNumber,
+    ms: u32,
     frame: &[u8],
+    present: u32,
 ) -> TickPart
-    requires { (Ready cfg.now (lent records.old debounce.old memory.old (flagged time.board overflow))
+    requires { (Ready cfg.now (lent records.old debounce.old memory.old (flagged board overflow))
         event.0) ×
-        ((length frame.now ≡ frame_bytes cfg.now) × (time.ms ≤ 60000)) }
-    ensures { (stepped
-        (lent records.new debounce.new memory.new (flagged time.board result.overflow))
+        ((length frame.now ≡ frame_bytes cfg.now) × (ms ≤ 60000)) }
+    ensures { stepped
+        (lent records.new debounce.new memory.new (flagged board result.overflow))
         result.did
-        ≡ tick_part cfg.now time.ms frame.now time.present time.board event.0
-        (lent records.old debounce.old memory.old (flagged time.board overflow))) ×
-        (Says event.0 result.change records.old records.new) }
+        ≡ tick_part cfg.now ms frame.now present board event.0
+        (lent records.old debounce.old memory.old (flagged board overflow)) }
 {
-    if !tick_moves(cfg, time.board, event, time.present) {
-        return one_event::rests(records, overflow, event);
+    if !tick_moves(cfg, board, event, present) {
+        return TickPart {
+            overflow,
+            did: StoreAnswer::Untold,
+        };
     }
     one_event::ticks(
-        cfg, records, debounce, memory, time.board, overflow, event, time.ms, frame,
+        cfg, records, debounce, memory, board, overflow, event, ms, frame,
     )
 }
 
@@ -77,41 +72,45 @@ fn counted(board: Board, overflow: bool, rise: Rise) -> Counted
     }
 }
 
-// "events in rising number": what each leaves, what all of them add to the counts, and what became of each status.
+// "events in rising number": what each leaves, and what all of them add to the counts.
 pub(crate) fn tick_events(
     cfg: &[i32],
     records: &mut [u8],
     debounce: &mut [i32],
     memory: &mut [u8],
-    time: Time,
+    board: Board,
+    ms: u32,
     frame: &[u8],
-    changes: &mut [u8],
+    present: u32,
 ) -> Counted
-    requires { (MayTick cfg.now (lent records.old debounce.old memory.old time.board) time.ms
-        frame.now) ×
-        (length changes.old ≡ events cfg.now) }
+    requires { MayTick cfg.now (lent records.old debounce.old memory.old board) ms frame.now }
     ensures { (lent records.new debounce.new memory.new result.board
-        ≡ ticked cfg.now time.ms frame.now time.present
-        (lent records.old debounce.old memory.old time.board))
-        × (numbers result.rise ≡ rise_of (tick_log cfg.now time.ms frame.now time.present
-        (lent records.old debounce.old memory.old time.board)))
-        × (changes.new
-        ≡ tick_changes cfg.now time.ms frame.now time.present
-        (lent records.old debounce.old memory.old time.board)) }
+        ≡ ticked cfg.now ms frame.now present
+        (lent records.old debounce.old memory.old board))
+        × (numbers result.rise ≡ rise_of (tick_log cfg.now ms frame.now present
+        (lent records.old debounce.old memory.old board))) }
 {
-    changes::none(changes);
     let n = config::events(cfg);
-    let mut overflow = time.board.overflow;
+    let mut overflow = board.overflow;
     let mut rise = counts::no_rise();
     for event in 0..n {
-        let e = EventNumber(event);
-        let part = tick_event(cfg, records, debounce, memory, time, overflow, e, frame);
+        let part = tick_event(
+            cfg,
+            records,
+            debounce,
+            memory,
+            board,
+            overflow,
+            EventNumber(event),
+            ms,
+            frame,
+            present,
+        );
         let did = part.did;
         overflow = part.overflow;
-        changes::mark(changes, e, part.change);
         rise = with_event(rise, did);
     }
-    counted(time.board, overflow, rise)
+    counted(board, overflow, rise)
 }
 
 // The tick, on copies of the blocks.
@@ -120,20 +119,19 @@ fn rehearse_on(
     records: &[u8],
     debounce: &[i32],
     memory: &[u8],
-    time: Time,
+    board: Board,
+    ms: u32,
     frame: &[u8],
+    present: u32,
     records_copy: &mut [u8],
     debounce_copy: &mut [i32],
     memory_copy: &mut [u8],
-    changes_copy: &mut [u8],
 ) -> Rise
-    requires { (MayTick cfg.now (lent records.now debounce.now memory.now time.board) time.ms
-        frame.now) ×
+    requires { (MayTick cfg.now (lent records.now debounce.now memory.now board) ms frame.now) ×
         ((AsLong records.now records_copy.old) ×
-        ((AsLong debounce.now debounce_copy.old) × (AsLong memory.now memory_copy.old))) ×
-        (length changes_copy.old ≡ events cfg.now) }
-    ensures { numbers result ≡ rise_of (tick_log cfg.now time.ms frame.now time.present
-        (lent records.now debounce.now memory.now time.board)) }
+        ((AsLong debounce.now debounce_copy.old) × (AsLong memory.now memory_copy.old))) }
+    ensures { numbers result ≡ rise_of (tick_log cfg.now ms frame.now present
+        (lent records.now debounce.now memory.now board)) }
 {
     rehearsal::copy_blocks(
         records,
@@ -148,9 +146,10 @@ fn rehearse_on(
         records_copy,
         debounce_copy,
         memory_copy,
-        time,
+        board,
+        ms,
         frame,
-        changes_copy,
+        present,
     );
     after.rise
 }
@@ -161,18 +160,18 @@ fn rehearse(
     records: &[u8],
     debounce: &[i32],
     memory: &[u8],
-    time: Time,
+    board: Board,
+    ms: u32,
     frame: &[u8],
+    present: u32,
 ) -> Rise
-    requires { MayTick cfg.now (lent records.now debounce.now memory.now time.board) time.ms
-        frame.now }
-    ensures { numbers result ≡ rise_of (tick_log cfg.now time.ms frame.now time.present
-        (lent records.now debounce.now memory.now time.board)) }
+    requires { MayTick cfg.now (lent records.now debounce.now memory.now board) ms frame.now }
+    ensures { numbers result ≡ rise_of (tick_log cfg.now ms frame.now present
+        (lent records.now debounce.now memory.now board)) }
 {
     let mut records_copy = [0; manual::MOST_RECORDS];
     let mut debounce_copy = [0; manual::MOST_EVENTS];
     let mut memory_copy = [0; manual::MOST_MEMORY];
-    let mut changes_copy = [0; manual::MOST_EVENTS];
     let r = records.len();
     let d = debounce.len();
     let m = memory.len();
@@ -181,12 +180,13 @@ fn rehearse(
         records,
         debounce,
         memory,
-        time,
+        board,
+        ms,
         frame,
+        present,
         &mut records_copy[..r],
         &mut debounce_copy[..d],
         &mut memory_copy[..m],
-        &mut changes_copy[..d],
     )
 }
 
@@ -197,19 +197,20 @@ pub(crate) fn carries_past(
     records: &[u8],
     debounce: &[i32],
     memory: &[u8],
-    time: Time,
+    board: Board,
+    ms: u32,
     frame: &[u8],
+    present: u32,
     counts: &[u32],
 ) -> bool
-    requires { (MayTick cfg.now (lent records.now debounce.now memory.now time.board) time.ms
-        frame.now) ×
+    requires { (MayTick cfg.now (lent records.now debounce.now memory.now board) ms frame.now) ×
         (AreFive counts.now) }
-    ensures { result ≡ carries_past (tick_log cfg.now time.ms frame.now time.present
-        (lent records.now debounce.now memory.now time.board)) counts.now }
+    ensures { result ≡ carries_past (tick_log cfg.now ms frame.now present
+        (lent records.now debounce.now memory.now board)) counts.now }
 {
     if !counts::some_near(counts) {
         return false;
     }
-    let rise = rehearse(cfg, records, debounce, memory, time, frame);
+    let rise = rehearse(cfg, records, debounce, memory, board, ms, frame, present);
     counts::some_past(counts, rise)
 }

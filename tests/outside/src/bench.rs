@@ -119,7 +119,6 @@ fn state(config: &Configuration, running: bool) -> State {
         debounce: vec![0; config.events],
         memory: vec![0; config.memory()],
         counts: vec![0; COUNTS],
-        changes: vec![0; config.events],
         board: Board {
             running: [running, false, false, false],
             overflow: false,
@@ -177,7 +176,6 @@ impl Door {
             debounce: asked.state.debounce.len(),
             memory: asked.state.memory.len(),
             counts: asked.state.counts.len(),
-            changes: asked.state.changes.len(),
             input: asked.call.input().len(),
             room: asked.room.len(),
         };

@@ -61,10 +61,6 @@ pub enum Call {
         event: usize,
         present: u32,
     },
-    /// The room by its length.
-    ChangesPage {
-        room: usize,
-    },
 }
 
 /// What a call answers beside its number and the board.
@@ -94,8 +90,8 @@ pub struct Outcome {
     pub values: Values,
 }
 
-/// The seventeen calls, and the numbers each can answer with.
-pub const ANSWERS: [(&str, &[u8]); 17] = [
+/// The sixteen calls, and the numbers each can answer with.
+pub const ANSWERS: [(&str, &[u8]); 16] = [
     ("fresh", &[0, 2, 3]),
     ("report", &[0, 2, 3, 4, 1, 6, 9, 5, 11, 12]),
     ("tick", &[0, 2, 3, 1, 9, 12]),
@@ -112,7 +108,6 @@ pub const ANSWERS: [(&str, &[u8]); 17] = [
     ("read paint", &[0, 2, 3, 4]),
     ("list grey", &[0, 2, 3, 7]),
     ("read missing", &[0, 2, 3, 4]),
-    ("changes page", &[0, 2, 3, 7]),
 ];
 
 impl Call {
@@ -135,14 +130,13 @@ impl Call {
             Call::ReadPaint { .. } => 13,
             Call::ListGrey { .. } => 14,
             Call::ReadMissing { .. } => 15,
-            Call::ChangesPage { .. } => 16,
         }
     }
 
     /// The bytes of the room that is lent; 0 for a call that takes none.
     pub fn room(&self) -> usize {
         match self {
-            Call::Save { room } | Call::Request { room, .. } | Call::ChangesPage { room } => *room,
+            Call::Save { room } | Call::Request { room, .. } => *room,
             Call::ReadTable => 2 * reference::TABLE,
             Call::ListGrey { numbers } => 2 * numbers,
             _ => 0,
@@ -197,21 +191,7 @@ impl Call {
                 | Call::ReadPaint { .. }
                 | Call::ListGrey { .. }
                 | Call::ReadMissing { .. }
-                | Call::ChangesPage { .. }
                 | Call::Save { .. }
-        )
-    }
-
-    /// Document 02: "Report, tick, start, stop, clear and the diagnostic request then fill a lent slice".
-    pub fn fills_changes(&self) -> bool {
-        matches!(
-            self,
-            Call::Report { .. }
-                | Call::Tick { .. }
-                | Call::Start { .. }
-                | Call::Stop { .. }
-                | Call::Clear { .. }
-                | Call::Request { .. }
         )
     }
 
@@ -248,7 +228,6 @@ impl Call {
             Call::ReadMissing { event, present } => {
                 missing(reference::read_missing(config, state, *event, *present))
             }
-            Call::ChangesPage { .. } => length(reference::changes_page(config, state, room)),
         }
     }
 }
@@ -380,7 +359,7 @@ impl fmt::Display for Call {
                 write!(f, "{name} event {event}")
             }
             Call::ListGrey { numbers } => write!(f, "{name} of {numbers} numbers"),
-            Call::Save { room } | Call::ChangesPage { room } => write!(f, "{name} room {room}"),
+            Call::Save { room } => write!(f, "{name} room {room}"),
             Call::Restore { image } => write!(f, "{name} image {}", hex(image)),
             Call::Request { request, room } => {
                 write!(f, "{name} {} room {room}", hex(request))

@@ -108,7 +108,6 @@ impl Asked<'_> {
             4 * self.state.debounce.len(),
             self.state.memory.len(),
             4 * self.state.counts.len(),
-            self.state.changes.len(),
             input.len(),
             self.room.len(),
         ];
@@ -126,7 +125,6 @@ impl Asked<'_> {
         to.extend(&self.state.memory);
         let counts = self.state.counts.iter();
         to.extend(counts.flat_map(|count| count.to_le_bytes()));
-        to.extend(&self.state.changes);
         to.extend(input);
         to.extend(self.room);
     }
@@ -139,7 +137,6 @@ pub struct Lengths {
     pub debounce: usize,
     pub memory: usize,
     pub counts: usize,
-    pub changes: usize,
     pub input: usize,
     pub room: usize,
 }
@@ -150,7 +147,7 @@ pub struct Answer {
     /// Verdict, status or paint.
     pub value: u8,
     /// A bit for each block beside which a byte was written, and one for the context.
-    pub broken: u16,
+    pub broken: u8,
     pub board: Board,
     pub turn: u64,
     /// Of a frame; or a counter, as a signed number; or how many conditions are missing.
@@ -163,44 +160,39 @@ pub struct Answer {
     pub debounce: Vec<i32>,
     pub memory: Vec<u8>,
     pub counts: Vec<u32>,
-    pub changes: Vec<u8>,
     pub input: Vec<u8>,
     pub room: Vec<u8>,
 }
 
 impl Answer {
     pub fn read(from: &mut impl Read, lengths: &Lengths) -> io::Result<Answer> {
-        let mut head = [0; HEAD];
+        let mut head = [0; 40];
         from.read_exact(&mut head)?;
-        let [number, value, low, high, a, b, c, d, overflow, ..] = head;
+        let [number, value, broken, a, b, c, d, overflow, ..] = head;
         Ok(Answer {
             number,
             value,
-            broken: u16::from_le_bytes([low, high]),
+            broken,
             board: Board {
                 running: [a, b, c, d],
                 overflow,
             },
-            turn: word(&head, 16),
-            start: word(&head, 24) as usize,
-            length: word(&head, 32) as usize,
-            nanoseconds: word(&head, 40),
+            turn: word(&head, 8),
+            start: word(&head, 16) as usize,
+            length: word(&head, 24) as usize,
+            nanoseconds: word(&head, 32),
             config: numbers(from, lengths.config, i32::from_le_bytes)?,
             records: bytes(from, lengths.records)?,
             debounce: numbers(from, lengths.debounce, i32::from_le_bytes)?,
             memory: bytes(from, lengths.memory)?,
             counts: numbers(from, lengths.counts, u32::from_le_bytes)?,
-            changes: bytes(from, lengths.changes)?,
             input: bytes(from, lengths.input)?,
             room: bytes(from, lengths.room)?,
         })
     }
 }
 
-/// Bytes of an answer before its blocks.
-const HEAD: usize = 48;
-
-fn word(head: &[u8; HEAD], at: usize) -> u64 {
+fn word(head: &[u8; 40], at: usize) -> u64 {
     let bytes = head[at..at + 8].try_into().expect("eight bytes");
     u64::from_le_bytes(bytes)
 }

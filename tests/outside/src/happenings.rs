@@ -4,12 +4,12 @@
 use crate::call::Call;
 use crate::making::NO_CONDITION;
 use crate::reference::{
-    changed_events, grey_events, Configuration, State, ADMITTED, ALL_CODES, CONFIRMED, COUNTS,
-    COUNTS_FULL, EDITION_1, EDITION_2, FAILED_THIS_CYCLE, KIND_TIME, NOT_COMPLETED_THIS_CYCLE,
-    PENDING, TEST_FAILED, WARNING,
+    grey_events, Configuration, State, ADMITTED, ALL_CODES, CONFIRMED, COUNTS, EDITION_1,
+    EDITION_2, FAILED_THIS_CYCLE, KIND_TIME, NOT_COMPLETED_THIS_CYCLE, PENDING, TEST_FAILED,
+    WARNING,
 };
 
-const NEEDED: [&str; 146] = [
+const NEEDED: [&str; 104] = [
     "an event confirms",
     "an event asks for the indicator",
     "an event fails by a tick",
@@ -114,48 +114,6 @@ const NEEDED: [&str; 146] = [
     "a list with every count at its limit",
     "a fresh state zeroes counts",
     "a restore sets counts that were others",
-    "a report changes some events, and not all",
-    "a tick changes some events, and not all",
-    "a start changes some events, and not all",
-    "a stop changes some events, and not all",
-    "a clear changes some events, and not all",
-    "a request changes some events, and not all",
-    "a tick changes several events",
-    "a start changes several events",
-    "a stop changes several events",
-    "a clear changes several events",
-    "a request changes several events",
-    "a report changes nothing, over bytes that were set",
-    "a tick changes nothing, over bytes that were set",
-    "a start changes nothing, over bytes that were set",
-    "a stop changes nothing, over bytes that were set",
-    "a clear changes nothing, over bytes that were set",
-    "a request changes nothing, over bytes that were set",
-    "a negative reply, over change bytes that were set",
-    "a suppressed reply, over change bytes that were set",
-    "an event changes in every bit",
-    "a report is refused, and leaves change bytes that were set",
-    "a tick is refused, and leaves change bytes that were set",
-    "a start is refused, and leaves change bytes that were set",
-    "a stop is refused, and leaves change bytes that were set",
-    "a clear is refused, and leaves change bytes that were set",
-    "a request is refused, and leaves change bytes that were set",
-    "a call is refused for its counts, and leaves change bytes that were set",
-    "a fresh state leaves change bytes that were set",
-    "a restore leaves change bytes that were set",
-    "a page of no event",
-    "a page of one event",
-    "a page of several events, and not of all",
-    "a page of every event of several",
-    "a page with an event above 255",
-    "a page of bytes that no call made",
-    "a page that fills its room",
-    "a page with bytes behind it",
-    "a page in a room of no bytes",
-    "a page is refused, short by one byte",
-    "a page is refused, short by an event",
-    "a page is refused, that would begin in its room",
-    "a page is refused, in a room of no bytes",
 ];
 
 /// The names of the counts, in their order.
@@ -241,7 +199,8 @@ impl Happenings {
             Call::Stop { .. } => self.stops(config, before, after),
             Call::Clear { code } => self.clears(config, *code, before, after),
             Call::Request { request, room: 3.. } => {
-                self.replies(config, request, room, stays(before, after));
+                self.replies(request, room, before == after);
+                self.two_frames(config, request, room);
             }
             Call::ReadFrame { event, which } => self.reads(config, *event, *which, after),
             Call::ReadPaint { event } => self.paints(config, *event, after),
@@ -255,82 +214,6 @@ impl Happenings {
             self.forget(before, after);
         }
         self.counted(call, room, before, after);
-        self.changed(call, room, before, after);
-    }
-
-    /// What a call did to the change bytes.
-    fn changed(&mut self, call: &Call, room: &[u8], before: &State, after: &State) {
-        let were_set = any_set(before);
-        match call {
-            Call::Fresh => self.met("a fresh state leaves change bytes that were set", were_set),
-            Call::Restore { .. } => {
-                self.met("a restore leaves change bytes that were set", were_set);
-            }
-            Call::Request { request, .. } => {
-                let negative = room.starts_with(&[0x7F, request[0]]);
-                let what = "a negative reply, over change bytes that were set";
-                self.met(what, negative && were_set);
-                let suppressed = !negative && matches!(request[..], [0x19, 0x80..=0xFF, ..]);
-                let what = "a suppressed reply, over change bytes that were set";
-                self.met(what, suppressed && were_set);
-            }
-            _ => {}
-        }
-        let Some(name) = fills(call) else {
-            return;
-        };
-        let all = after.changes.len();
-        let changed = after.changes.iter().filter(|byte| **byte != 0).count();
-        let some = 0 < changed && changed < all;
-        self.met(&format!("{name} changes some events, and not all"), some);
-        if changed > 1 {
-            self.met(&format!("{name} changes several events"), true);
-        }
-        let none = changed == 0 && were_set;
-        let what = format!("{name} changes nothing, over bytes that were set");
-        self.met(&what, none);
-        let every = after.changes.contains(&0xFF);
-        self.met("an event changes in every bit", every);
-    }
-
-    /// Looks at a call that was refused with this number, and at what it was lent.
-    pub fn refused(&mut self, call: &Call, number: u8, lent: &State) {
-        let were_set = any_set(lent);
-        if let Some(name) = fills(call) {
-            let what = format!("{name} is refused, and leaves change bytes that were set");
-            self.met(&what, were_set);
-            let what = "a call is refused for its counts, and leaves change bytes that were set";
-            self.met(what, were_set && number == COUNTS_FULL);
-        }
-        if let Call::ChangesPage { room } = call {
-            let short = 4 * changed_events(lent).len() - room;
-            self.met("a page is refused, short by one byte", short == 1);
-            self.met("a page is refused, short by an event", short == 4);
-            let begins = *room >= 4;
-            self.met("a page is refused, that would begin in its room", begins);
-            let none = *room == 0;
-            self.met("a page is refused, in a room of no bytes", none);
-        }
-    }
-
-    /// Looks at a page of bytes that a call made, or the caller.
-    pub fn pages(&mut self, config: &Configuration, room: usize, made: bool, state: &State) {
-        let page = changed_events(state);
-        let (changed, all) = (page.len(), config.events);
-        self.met("a page of no event", changed == 0);
-        self.met("a page of one event", changed == 1);
-        let some = 1 < changed && changed < all;
-        self.met("a page of several events, and not of all", some);
-        let every = 1 < changed && changed == all;
-        self.met("a page of every event of several", every);
-        let high = page.last().is_some_and(|line| line[0] > 0);
-        self.met("a page with an event above 255", high);
-        self.met("a page of bytes that no call made", !made && changed > 0);
-        let fills = changed > 0 && room == 4 * changed;
-        self.met("a page that fills its room", fills);
-        let behind = changed > 0 && room > 4 * changed;
-        self.met("a page with bytes behind it", behind);
-        self.met("a page in a room of no bytes", room == 0);
     }
 
     /// What a call did to the counts.
@@ -653,7 +536,7 @@ impl Happenings {
         }
     }
 
-    fn replies(&mut self, config: &Configuration, request: &[u8], room: &[u8], stays: bool) {
+    fn replies(&mut self, request: &[u8], room: &[u8], stays: bool) {
         let negative = room[0] == 0x7F && room[1] == request[0] && stays;
         let codes = [
             ("negative reply 11", 0x11),
@@ -674,7 +557,6 @@ impl Happenings {
         if let [0x19, second, _, _, _, _] = request {
             self.shows_one(*second, room);
         }
-        self.two_frames(config, request, room);
     }
 
     /// 04 with both frames in the room.
@@ -711,31 +593,6 @@ impl Happenings {
             suppress && unknown,
         );
     }
-}
-
-/// A call that fills the change bytes, in words.
-fn fills(call: &Call) -> Option<&'static str> {
-    Some(match call {
-        Call::Report { .. } => "a report",
-        Call::Tick { .. } => "a tick",
-        Call::Start { .. } => "a start",
-        Call::Stop { .. } => "a stop",
-        Call::Clear { .. } => "a clear",
-        Call::Request { .. } => "a request",
-        _ => return None,
-    })
-}
-
-/// Whether some change byte is set.
-fn any_set(state: &State) -> bool {
-    state.changes.iter().any(|byte| *byte != 0)
-}
-
-/// Whether all but the change bytes is as it was.
-fn stays(before: &State, after: &State) -> bool {
-    let mut as_before = after.clone();
-    as_before.changes.clone_from(&before.changes);
-    *before == as_before
 }
 
 /// What a call added to the counts.

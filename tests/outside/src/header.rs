@@ -181,7 +181,7 @@ fn numbers() -> Vec<String> {
     lines
 }
 
-fn sizes(n: usize, m: usize, f: usize) -> [String; 9] {
+fn sizes(n: usize, m: usize, f: usize) -> [String; 7] {
     let memory = 1 + m * (3 + 2 * f);
     let image = 20 + 4 * n + memory + 1;
     let reply = (3 + 4 * n).max(7 + 2 * f).max(11);
@@ -193,13 +193,11 @@ fn sizes(n: usize, m: usize, f: usize) -> [String; 9] {
         format!("GRELPICADO_IMAGE_BYTES({n},{m},{f}) {image}"),
         format!("GRELPICADO_REPLY_BYTES({n},{f}) {reply}"),
         format!("GRELPICADO_LIST_NUMBERS({n}) {n}"),
-        format!("GRELPICADO_CHANGES_BYTES({n}) {n}"),
-        format!("GRELPICADO_CHANGES_PAGE_BYTES({n}) {}", 4 * n),
     ]
 }
 
 const NAMED: [(&str, u32); 73] = [
-    ("HEADER_VERSION", 6000),
+    ("HEADER_VERSION", 5000),
     ("MAX_EVENTS", 512),
     ("MAX_PLACES", 64),
     ("MAX_FRAME", 32),

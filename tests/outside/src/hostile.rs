@@ -16,24 +16,13 @@ const ENOUGH: u64 = 100_000;
 const CALLS_EACH: usize = 30;
 
 /// The lengths of the counts that are lent beside the right one.
-const OTHER_COUNTS: [usize; 5] = [0, 1, 4, 6, 10];
-
-/// Those of the change bytes, in words.
-const OTHER_CHANGES: [&str; 5] = ["no", "n - 1", "n + 1", "2n", "256 + n"];
-
-fn other_changes(n: usize) -> [usize; OTHER_CHANGES.len()] {
-    [0, n - 1, n + 1, 2 * n, 256 + n]
-}
+const OTHER_LENGTHS: [usize; 5] = [0, 1, 4, 6, 10];
 
 /// How often each call gave each answer.
 pub type Counts = [[u64; 13]; ANSWERS.len()];
 
-/// How often each call was lent counts and change bytes of each other length, where nothing else was wrong.
-#[derive(Default)]
-struct Lent {
-    counts: [[u64; OTHER_COUNTS.len()]; ANSWERS.len()],
-    changes: [[u64; OTHER_CHANGES.len()]; ANSWERS.len()],
-}
+/// How often each call was lent counts of each other length, where nothing else was wrong.
+type Lent = [[u64; OTHER_LENGTHS.len()]; ANSWERS.len()];
 
 pub fn run(program: &Program, rounds: u64, seed: u64) -> (Tally, Counts) {
     let mut random = Random::new(!seed);
@@ -49,10 +38,8 @@ pub fn run(program: &Program, rounds: u64, seed: u64) -> (Tally, Counts) {
         for _ in 0..left {
             let made = attack(&mut random, &mut both, &numbers, &mut state);
             counts[made.call][made.number] += 1;
-            match made.alone {
-                Some(Other::Counts(at)) => lent.counts[made.call][at] += 1,
-                Some(Other::Changes(at)) => lent.changes[made.call][at] += 1,
-                None => {}
+            if let Some(at) = made.length {
+                lent[made.call][at] += 1;
             }
         }
     }
@@ -70,31 +57,20 @@ fn missed(tally: &mut Tally, counts: &Counts, lent: &Lent) {
                 tally.miss(format!("{name} answers {number}"));
             }
         }
-        for (at, length) in OTHER_COUNTS.iter().enumerate() {
-            if lent.counts[call][at] == 0 {
+        for (at, length) in OTHER_LENGTHS.iter().enumerate() {
+            if lent[call][at] == 0 {
                 tally.miss(format!("{name} with {length} counts"));
             }
         }
-        for (at, length) in OTHER_CHANGES.iter().enumerate() {
-            if lent.changes[call][at] == 0 {
-                tally.miss(format!("{name} with {length} change bytes"));
-            }
-        }
     }
-}
-
-/// Which of the other lengths the counts or the change bytes have.
-#[derive(Clone, Copy)]
-enum Other {
-    Counts(usize),
-    Changes(usize),
 }
 
 /// What is damaged of all that a call is lent.
 struct Damaged {
     config: bool,
     state: bool,
-    length: Option<Other>,
+    /// Which of the other lengths the counts have.
+    length: Option<usize>,
 }
 
 fn damaged(random: &mut Random) -> Damaged {
@@ -104,53 +80,29 @@ fn damaged(random: &mut Random) -> Damaged {
         13..40 => (false, true),
         _ => (false, false),
     };
-    let length = match random.below(8) {
-        0 => Some(Other::Counts(random.below(OTHER_COUNTS.len()))),
-        1 => Some(Other::Changes(random.below(OTHER_CHANGES.len()))),
-        _ => None,
-    };
     Damaged {
         config,
         state,
-        length,
+        length: random.one_in(8).then(|| random.below(OTHER_LENGTHS.len())),
     }
 }
 
-/// A call that was made: its row in ANSWERS, its answer, and which other length was lent, where nothing
-/// else was damaged.
+/// A call that was made: its row in ANSWERS, its answer, and which other length its counts had, where
+/// nothing else was damaged.
 struct Made {
     call: usize,
     number: usize,
-    alone: Option<Other>,
-}
-
-/// What the caller may set as it likes.
-fn set_beside(random: &mut Random, config: &Configuration, state: &mut State) {
-    if random.one_in(3) {
-        state.counts = making::counts_lent(random);
-    }
-    if random.one_in(3) {
-        state.changes = making::changes_lent(random, config.events);
-    }
-}
-
-fn resize(config: &Configuration, lent: &mut State, length: Option<Other>) {
-    match length {
-        Some(Other::Counts(at)) => lent.counts.resize(OTHER_COUNTS[at], u32::MAX),
-        Some(Other::Changes(at)) => {
-            let length = other_changes(config.events)[at];
-            lent.changes.resize(length, 0xA5);
-        }
-        None => {}
-    }
+    length: Option<usize>,
 }
 
 /// One call. Damage is done to copies, so that the state stays well formed.
 fn attack(random: &mut Random, both: &mut Comparison, numbers: &[i32], state: &mut State) -> Made {
     let config = Configuration::judge(numbers).expect("made to be right");
-    set_beside(random, &config, state);
     let call = call(random, &config, state);
     let fill = random.byte();
+    if random.one_in(3) {
+        state.counts = making::counts_lent(random);
+    }
     let of = damaged(random);
     // Fresh and restore would end a state that is worth attacking again.
     let replaces = matches!(call, Call::Fresh | Call::Restore { .. });
@@ -159,7 +111,9 @@ fn attack(random: &mut Random, both: &mut Comparison, numbers: &[i32], state: &m
         if of.state {
             damage::state(random, &config, &mut lent);
         }
-        resize(&config, &mut lent, of.length);
+        if let Some(at) = of.length {
+            lent.counts.resize(OTHER_LENGTHS[at], u32::MAX);
+        }
         let lent_numbers = match of.config {
             true => damage::configuration(random, numbers),
             false => numbers.to_vec(),
@@ -173,7 +127,7 @@ fn attack(random: &mut Random, both: &mut Comparison, numbers: &[i32], state: &m
     Made {
         call: call.index(),
         number: usize::from(outcome.number),
-        alone: of.length.filter(|_| !of.config && !of.state),
+        length: of.length.filter(|_| !of.config && !of.state),
     }
 }
 
@@ -220,9 +174,6 @@ fn call(random: &mut Random, config: &Configuration, state: &State) -> Call {
         12 => Call::ReadTable,
         14 => Call::ListGrey {
             numbers: list(random, config, state),
-        },
-        16 => Call::ChangesPage {
-            room: page_room(random, config, state),
         },
         which => reading(random, config, which),
     }
@@ -393,25 +344,6 @@ fn list(random: &mut Random, config: &Configuration, state: &State) -> usize {
     let any = random.below(config.events + 1);
     let short = exact.saturating_sub(1);
     random.pick(&[exact, exact, short, exact + 1, config.events, any, 0])
-}
-
-/// A room for the page of what changed: just long enough, or near, or any.
-fn page_room(random: &mut Random, config: &Configuration, state: &State) -> usize {
-    let exact = 4 * reference::changed_events(state).len();
-    let any = random.below(4 * config.events + 9);
-    let short = exact.saturating_sub(1 + random.below(4));
-    let all = 4 * config.events;
-    random.pick(&[
-        exact,
-        exact,
-        short,
-        short,
-        exact + 1,
-        exact + 4,
-        all,
-        any,
-        0,
-    ])
 }
 
 /// The image of some state of stopped cycles, of either edition, whole or damaged, or no image at all.

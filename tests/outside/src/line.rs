@@ -33,7 +33,6 @@ impl Expected {
             debounce: self.after.debounce.len(),
             memory: self.after.memory.len(),
             counts: self.after.counts.len(),
-            changes: self.after.changes.len(),
             input: self.call.input().len(),
             room: self.room.len(),
         }
@@ -76,7 +75,6 @@ impl Expected {
             .or_else(|| first_difference("debounce", &answer.debounce, &after.debounce))
             .or_else(|| first_difference("memory", &answer.memory, &after.memory))
             .or_else(|| first_difference("counts", &answer.counts, &after.counts))
-            .or_else(|| first_difference("change bytes", &answer.changes, &after.changes))
             .or_else(|| first_difference("room", &answer.room, &self.room))?;
         Some(match self.outcome.number {
             DONE => first,
@@ -108,10 +106,7 @@ fn outcome(call: &Call, answer: &Answer) -> Outcome {
             count: start,
             lowest: length,
         },
-        Call::Save { .. }
-        | Call::Request { .. }
-        | Call::ListGrey { .. }
-        | Call::ChangesPage { .. } => Values::Length(length),
+        Call::Save { .. } | Call::Request { .. } | Call::ListGrey { .. } => Values::Length(length),
         _ => Values::Nothing,
     };
     Outcome {
@@ -121,13 +116,12 @@ fn outcome(call: &Call, answer: &Answer) -> Outcome {
 }
 
 /// What the bits of an answer's `broken` stand for.
-const BLOCKS: [&str; 8] = [
+const BLOCKS: [&str; 7] = [
     "configuration",
     "records",
     "debounce numbers",
     "memory",
     "counts",
-    "change bytes",
     "frame, image or request",
     "room",
 ];

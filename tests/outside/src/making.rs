@@ -150,7 +150,6 @@ pub fn state(random: &mut Random, config: &Configuration, board: Board) -> State
         debounce: Vec::with_capacity(config.events),
         memory: vec![0; config.memory()],
         counts: counts_lent(random),
-        changes: changes_lent(random, config.events),
         board,
     };
     for row in config.rows() {
@@ -187,22 +186,6 @@ pub fn counts_near(random: &mut Random) -> Vec<u32> {
         _ => u32::MAX - random.below(4) as u32,
     };
     (0..COUNTS).map(|_| count()).collect()
-}
-
-/// Change bytes as they are lent, also such as no call makes: zeros, all set, or any with many zeros.
-pub fn changes_lent(random: &mut Random, events: usize) -> Vec<u8> {
-    let zeros = random.pick(&[0, 2, 10]);
-    match random.below(6) {
-        0 => vec![0; events],
-        1 => vec![0xFF; events],
-        _ => {
-            let mut change = || match random.below(12) < zeros {
-                true => 0,
-                false => random.byte(),
-            };
-            (0..events).map(|_| change()).collect()
-        }
-    }
 }
 
 /// "A restore sets admitted to the entries present and the rest to 0".
@@ -320,7 +303,6 @@ pub fn junk(random: &mut Random, config: &Configuration) -> State {
         debounce: (0..config.events).map(|_| random.next() as i32).collect(),
         memory: random.bytes(config.memory()),
         counts: (0..COUNTS).map(|_| random.next() as u32).collect(),
-        changes: random.bytes(config.events),
         board: board(random),
     }
 }

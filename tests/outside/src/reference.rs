@@ -97,9 +97,8 @@ pub struct State {
     pub records: Vec<u8>,
     pub debounce: Vec<i32>,
     pub memory: Vec<u8>,
-    /// A call that does not take the counts or the change bytes does not look at them.
+    /// A call that does not take the counts does not look at them.
     pub counts: Vec<u32>,
-    pub changes: Vec<u8>,
     pub board: Board,
 }
 
@@ -116,7 +115,6 @@ impl Clone for State {
         self.debounce.clone_from(&from.debounce);
         self.memory.clone_from(&from.memory);
         self.counts.clone_from(&from.counts);
-        self.changes.clone_from(&from.changes);
         self.board = from.board;
     }
 }
@@ -339,23 +337,13 @@ fn judge_lengths<'a>(config: &'a [i32], state: &State) -> Result<Configuration<'
     }
 }
 
-/// The same for a call that is lent counts and change bytes.
-fn judge_with_both<'a>(config: &'a [i32], state: &State) -> Result<Configuration<'a>, u8> {
-    let config = judge_with_changes(config, state)?;
+/// The same for a call that is lent the counts: "A slice of another length is 3."
+fn judge_with_counts<'a>(config: &'a [i32], state: &State) -> Result<Configuration<'a>, u8> {
+    let config = judge(config, state)?;
     counts_fit(state)?;
     Ok(config)
 }
 
-/// The same for a call that is lent the change bytes: "a wrong length is refusal 3".
-fn judge_with_changes<'a>(config: &'a [i32], state: &State) -> Result<Configuration<'a>, u8> {
-    let config = judge(config, state)?;
-    match state.changes.len() == config.events {
-        true => Ok(config),
-        false => Err(BAD_STATE),
-    }
-}
-
-/// "A slice of another length is 3."
 fn counts_fit(state: &State) -> Result<(), u8> {
     match state.counts.len() {
         COUNTS => Ok(()),
@@ -378,17 +366,8 @@ fn whole<T>(state: &mut State, work: impl FnOnce(&mut State, &mut Wide) -> T) ->
     for (count, wide) in copy.counts.iter_mut().zip(wide) {
         *count = u32::try_from(wide).map_err(|_| COUNTS_FULL)?;
     }
-    tell_changes(&state.records, &mut copy);
     *state = copy;
     Ok(done)
-}
-
-/// "Byte i is old status exclusive-or new status of event i": of a call that is done, by the records
-/// before and after it alone.
-fn tell_changes(before: &[u8], after: &mut State) {
-    let old = before.iter().step_by(4);
-    let new = after.records.iter().step_by(4);
-    after.changes = old.zip(new).map(|(old, new)| old ^ new).collect();
 }
 
 fn records_well_formed(config: &Configuration, state: &State) -> bool {
@@ -483,7 +462,7 @@ pub fn report(
     frame: &[u8],
     present: u32,
 ) -> Result<Verdict, u8> {
-    let config = judge_with_both(config, state)?;
+    let config = judge_with_counts(config, state)?;
     if event >= config.events {
         return Err(NO_SUCH);
     }
@@ -679,7 +658,7 @@ pub fn tick(
     frame: &[u8],
     present: u32,
 ) -> Result<(), u8> {
-    let config = judge_with_both(config, state)?;
+    let config = judge_with_counts(config, state)?;
     if ms > 60_000 {
         return Err(BAD_ARGUMENT);
     }
@@ -722,14 +701,13 @@ fn pass_time(
 }
 
 pub fn start(config: &[i32], state: &mut State, cycle: u32) -> Result<(), u8> {
-    let config = judge_with_changes(config, state)?;
+    let config = judge(config, state)?;
     if cycle > 3 {
         return Err(NO_SUCH);
     }
     if state.board.running[cycle as usize] {
         return Err(WRONG_CYCLE_STATE);
     }
-    let before = state.records.clone();
     state.board.running[cycle as usize] = true;
     for (event, row) in config.rows().enumerate() {
         if row.cycle as u32 == cycle {
@@ -738,12 +716,11 @@ pub fn start(config: &[i32], state: &mut State, cycle: u32) -> Result<(), u8> {
             *status |= NOT_COMPLETED_THIS_CYCLE;
         }
     }
-    tell_changes(&before, state);
     Ok(())
 }
 
 pub fn stop(config: &[i32], state: &mut State, cycle: u32) -> Result<(), u8> {
-    let config = judge_with_both(config, state)?;
+    let config = judge_with_counts(config, state)?;
     if cycle > 3 {
         return Err(NO_SUCH);
     }
@@ -801,7 +778,7 @@ fn age(row: &Row, record: &mut [u8; 4]) -> bool {
 }
 
 pub fn clear(config: &[i32], state: &mut State, code: u32) -> Result<(), u8> {
-    let config = judge_with_both(config, state)?;
+    let config = judge_with_counts(config, state)?;
     let covered = covered(&config, code).ok_or(NO_SUCH)?;
     clear_events(&config, state, covered)
 }
@@ -961,28 +938,6 @@ pub fn list_grey(config: &[i32], state: &State, list: &mut [u16]) -> Result<usiz
     Ok(grey.len())
 }
 
-/// Document 02: "the changed events, rising, each once, in 4 bytes (event number high first, old, new)".
-pub fn changed_events(state: &State) -> Vec<[u8; 4]> {
-    let statuses = state.records.iter().step_by(4);
-    let all = (0u16..).zip(statuses.zip(&state.changes));
-    all.filter(|(_, (_, change))| **change != 0)
-        .map(|(event, (new, change))| {
-            let [high, low] = event.to_be_bytes();
-            [high, low, new ^ change, *new]
-        })
-        .collect()
-}
-
-/// Document 02: the changes page "into a lent room, with 7 when they don't all fit and nothing written".
-/// Answers its length.
-pub fn changes_page(config: &[i32], state: &State, room: &mut [u8]) -> Result<usize, u8> {
-    judge_with_changes(config, state)?;
-    let page = changed_events(state).concat();
-    let front = room.get_mut(..page.len()).ok_or(ROOM_TOO_SMALL)?;
-    front.copy_from_slice(&page);
-    Ok(page.len())
-}
-
 /// The start of the frame asked for in the memory block, and its length.
 pub fn read_frame(
     config: &[i32],
@@ -1134,14 +1089,13 @@ pub fn request(
     request: &[u8],
     room: &mut [u8],
 ) -> Result<usize, u8> {
-    let config = judge_with_both(config, state)?;
+    let config = judge_with_counts(config, state)?;
     if room.len() < 3 {
         return Err(ROOM_TOO_SMALL);
     }
     let Some(service) = request.first() else {
         return Err(BAD_ARGUMENT);
     };
-    let before = state.records.clone();
     let reply = match service {
         0x19 => read_information(&config, state, request, room),
         &SERVICE_14 => match to_clear(&config, request) {
@@ -1154,8 +1108,6 @@ pub fn request(
         },
         _ => Err(0x11),
     };
-    // Whatever was replied: what clears nothing leaves zeros.
-    tell_changes(&before, state);
     Ok(reply.unwrap_or_else(|code| {
         room[..3].copy_from_slice(&[0x7F, *service, code]);
         3

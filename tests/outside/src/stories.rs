@@ -9,10 +9,9 @@ use crate::happenings::Happenings;
 use crate::making;
 use crate::random::Random;
 use crate::reference::{
-    changed_events, grey_events, Board, Configuration, State, ADMITTED, AGED, ALL_CODES,
-    ALL_PRESENT, BAD_IMAGE, CLEARED, COUNTS, COUNTS_FULL, DONE, EDITION_1, EDITION_2, FAILED,
-    KIND_INTERNAL, KIND_TIME, MISSING_CONDITION, NO_SUCH, PASSED, PRE_FAILED, PRE_PASSED,
-    PUSHED_OUT,
+    grey_events, Board, Configuration, State, ADMITTED, AGED, ALL_CODES, ALL_PRESENT, BAD_IMAGE,
+    CLEARED, COUNTS, COUNTS_FULL, DONE, EDITION_1, EDITION_2, FAILED, KIND_INTERNAL, KIND_TIME,
+    MISSING_CONDITION, NO_SUCH, PASSED, PRE_FAILED, PRE_PASSED, PUSHED_OUT,
 };
 use crate::tally::Tally;
 
@@ -39,7 +38,6 @@ pub fn run(program: &Program, rounds: u64, seed: u64) -> Tally {
             both: &mut both,
             happenings: &mut happenings,
             before: State::default(),
-            old: None,
             numbers: &numbers,
             config,
             rounds,
@@ -76,8 +74,6 @@ struct Mood {
     counting: usize,
     /// Percent of steps that move many entries at once.
     many: usize,
-    /// Percent of steps that ask what the last call changed.
-    paging: usize,
     /// Most reports go to this many events from `first` on.
     first: usize,
     events: usize,
@@ -94,7 +90,6 @@ impl Mood {
             switching: random.pick(&[0, 10, 40]),
             counting: random.pick(&[0, 0, 5, 20]),
             many: random.pick(&[0, 0, 1, 4]),
-            paging: random.pick(&[0, 4, 12]),
             first: random.below(config.events - events + 1),
             events,
         }
@@ -110,13 +105,7 @@ struct Story<'a> {
     mood: Mood,
     state: State,
     before: State,
-    /// The statuses before the last call that filled the change bytes; none where these are another's.
-    old: Option<Vec<u8>>,
     rounds: u64,
-}
-
-fn statuses(state: &State) -> Vec<u8> {
-    state.records.iter().step_by(4).copied().collect()
 }
 
 impl Story<'_> {
@@ -148,9 +137,6 @@ impl Story<'_> {
             self.happenings
                 .observe(&self.config, &call, room, &self.before, &self.state);
             self.add_up(&call);
-            self.tell_panel(&call);
-        } else {
-            self.happenings.refused(&call, outcome.number, &self.before);
         }
         match (outcome.number, &call) {
             (NO_SUCH, Call::Clear { code }) => self.happenings.unknown(&self.config, *code),
@@ -173,45 +159,6 @@ impl Story<'_> {
             let text = format!("the counts do not add up after {call}");
             self.both.tally.differ(text);
         }
-    }
-
-    /// What a panel that repaints by pages knows after a call that is done.
-    fn tell_panel(&mut self, call: &Call) {
-        match call {
-            Call::Fresh | Call::Restore { .. } => self.old = None,
-            Call::ChangesPage { room } => self.repaint(*room),
-            _ if call.fills_changes() => self.old = Some(statuses(&self.before)),
-            _ => {}
-        }
-    }
-
-    /// One that repaints what stands on the page of a call, and nothing else, shows every status.
-    fn repaint(&mut self, room: usize) {
-        let made = self.old.is_some();
-        self.happenings.pages(&self.config, room, made, &self.state);
-        let Some(mut shown) = self.old.clone() else {
-            return;
-        };
-        let length = 4 * changed_events(&self.state).len();
-        let page = self.both.room()[..length].to_vec();
-        for line in page.chunks_exact(4) {
-            let event = usize::from(line[0]) << 8 | usize::from(line[1]);
-            if shown[event] != line[2] {
-                let text = format!("event {event} had another status than its old one on the page");
-                self.both.tally.differ(text);
-            }
-            shown[event] = line[3];
-        }
-        if shown != statuses(&self.state) {
-            let text = "an event that changed does not stand on the page";
-            self.both.tally.differ(text.to_string());
-        }
-    }
-
-    /// The caller sets the change bytes, as no call left them.
-    fn scribble(&mut self) {
-        self.state.changes = making::changes_lent(self.random, self.config.events);
-        self.old = None;
     }
 
     /// A call that was refused for its counts: for those which refuse it alone too. The caller may then
@@ -256,7 +203,6 @@ impl Story<'_> {
             _ => other,
         };
         told.counts = making::counts_restored(&told);
-        told.changes.clone_from(&self.before.changes);
         if self.state != told {
             let text = "the state restored is not the state of the image";
             self.both.tally.differ(text.to_string());
@@ -283,14 +229,8 @@ impl Story<'_> {
         if self.random.percent(self.mood.counting) {
             self.state.counts = making::counts_near(self.random);
         }
-        if self.random.one_in(12) {
-            self.scribble();
-        }
         if self.random.percent(self.mood.many) {
             return self.many();
-        }
-        if self.random.percent(self.mood.paging) {
-            return self.page();
         }
         if self.random.percent(self.mood.turning) {
             return self.turn();
@@ -584,16 +524,6 @@ impl Story<'_> {
         Some(())
     }
 
-    /// A room that just holds the page, or all events, or is longer, or short by some bytes.
-    fn page(&mut self) -> Option<()> {
-        let exact = 4 * changed_events(&self.state).len();
-        let short = exact.saturating_sub(self.random.pick(&[1, 1, 2, 4]));
-        let all = 4 * self.config.events;
-        let room = self.random.pick(&[exact, exact, exact + 3, short, all]);
-        self.call(Call::ChangesPage { room })?;
-        Some(())
-    }
-
     /// Stops what runs, mostly, and saves; then brings the image back elsewhere.
     fn save(&mut self) -> Option<()> {
         if !self.random.one_in(4) {
@@ -619,7 +549,6 @@ impl Story<'_> {
         let junk = making::junk(self.random, &self.config);
         let mut saved = std::mem::replace(&mut self.state, junk);
         saved.counts = making::counts_restored(&saved);
-        saved.changes.clone_from(&self.state.changes);
         let room = image.len();
         self.call(Call::Restore {
             image: image.clone(),

@@ -8,14 +8,10 @@ use crate::reference::{self, Board, Configuration, State, ALL_PRESENT, COUNTS, D
 use crate::tally::{first_difference, Tally};
 
 /// The files, which the program `call_cases` runs too.
-const FILES: [(&str, &str); 7] = [
+const FILES: [(&str, &str); 6] = [
     (
         "calls.txt",
         include_str!("../../../crates/call_cases/data/calls.txt"),
-    ),
-    (
-        "changes.txt",
-        include_str!("../../../crates/call_cases/data/changes.txt"),
     ),
     (
         "counts.txt",
@@ -82,7 +78,6 @@ impl Case {
             .or_else(|| first_difference("debounce", &after.debounce, &self.after.debounce))
             .or_else(|| first_difference("memory", &after.memory, &self.after.memory))
             .or_else(|| first_difference("counts", &after.counts, &self.after.counts))
-            .or_else(|| first_difference("change bytes", &after.changes, &self.after.changes))
     }
 
     /// Sends it through the door. A board's bytes are 0 and 1 here, before and after.
@@ -201,16 +196,13 @@ impl Reader {
         self.config = config;
     }
 
-    /// The fresh state of a new story, made of blocks that hold anything; it leaves the change bytes.
+    /// The fresh state of a new story, made of blocks that hold anything.
     fn first(&mut self, line: usize, after: State) -> Case {
         self.state = after.clone();
         Case {
             line,
             begins: true,
-            before: State {
-                changes: after.changes.clone(),
-                ..junk(&self.config)
-            },
+            before: junk(&self.config),
             config: self.config.clone(),
             call: Call::Fresh,
             outcome: Outcome {
@@ -250,7 +242,6 @@ fn junk(config: &[i32]) -> State {
         debounce: vec![-1; sizes.events],
         memory: vec![FILL; sizes.memory()],
         counts: vec![u32::MAX; COUNTS],
-        changes: vec![0; sizes.events],
         board: Board::default(),
     }
 }
@@ -285,10 +276,10 @@ fn pairs(word: &str) -> Vec<u8> {
         .collect()
 }
 
-/// `RECORDS DEBOUNCE MEMORY CYCLES OVERFLOW COUNTS CHANGES`.
+/// `RECORDS DEBOUNCE MEMORY CYCLES OVERFLOW COUNTS`.
 fn state_of(text: &str) -> State {
     let words: Vec<&str> = text.split_whitespace().collect();
-    let [records, debounce, memory, cycles, overflow, counts, changes] = words[..] else {
+    let [records, debounce, memory, cycles, overflow, counts] = words[..] else {
         panic!("{text} is no state");
     };
     let mut board = Board {
@@ -303,7 +294,6 @@ fn state_of(text: &str) -> State {
         debounce: listed(debounce),
         memory: bytes(memory),
         counts: listed(counts),
-        changes: bytes(changes),
         board,
     }
 }
@@ -371,9 +361,6 @@ fn reading(words: &[&str]) -> Option<Call> {
         },
         ["grey_list", length] => Call::ListGrey {
             numbers: number(length.trim_start_matches("room16=")),
-        },
-        ["changes_page", room] => Call::ChangesPage {
-            room: room_of(room),
         },
         ["save", room] => Call::Save {
             room: room_of(room),
@@ -447,7 +434,7 @@ fn answer_of(call: &Call, text: &str) -> (Outcome, Vec<u8>) {
             room = pairs(after);
             Values::Length(number(length))
         }
-        (Call::Save { .. } | Call::Request { .. } | Call::ChangesPage { .. }, [length, after]) => {
+        (Call::Save { .. } | Call::Request { .. }, [length, after]) => {
             room = bytes(after);
             Values::Length(number(length))
         }

@@ -1,5 +1,4 @@
 -- `open_story` runs safely and returns.
-use mathlib.Core.Path.{◌∙◌}
 use borrow.Author.Rules.{rules}
 use Rattle.call_cases.proofs.open_story.Statement.{statement}
 use Rattle.call_cases.proofs.open_story.Tie as tie
@@ -8,22 +7,13 @@ same_length : tie.Need-same-length
 same_length c =
     let c8 = c.before.before.before.before.before.before.before.before in
     let c16 = c8.before.before.before.before.before.before.before.before in
-    c16.before.before.before.before.before.read-numbers.auto.1.1.1.0
-
-same-length-6 : tie.Need-same-length-6
-same-length-6 c =
-    let c8 = c.before.before.before.before.before.before.before.before in
-    let c16 = c8.before.before.before.before.before.before.before.before in
-    let c24 = c16.before.before.before.before.before.before.before.before in
-    c8.before.before.run_on.auto.1.1.1.1.1.1.1.1.0 ∙ c24.before.none.auto.0
+    c16.before.before.read-numbers.auto.1.1.1.0
 
 pub open-story-spec : {M : Type 1} → statement M
 open-story-spec =
     tie.close
     (tie.spec
-    (λ c κs. search rules) (λ c κs. search rules) (λ c κs. search rules) (λ c. search rules) (λ c. search rules)
-    (λ c. search rules) (λ c. search rules) (λ c κs. search rules) (λ c κs. search rules)
+    (λ c κs. search rules) (λ c κs. search rules) (λ c. search rules) (λ c. search rules) (λ c. search rules)
+    (λ c. search rules) (λ c κs. search rules) (λ c κs. search rules)
     same_length
-    (λ c. search rules) (λ c. search rules) (λ c. search rules) (λ c. search rules)
-    same-length-6
-    (λ c. search rules))
+    (λ c. search rules) (λ c. search rules) (λ c. search rules) (λ c. search rules) (λ c. search rules))

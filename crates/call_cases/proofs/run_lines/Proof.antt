@@ -6,24 +6,14 @@ use Rattle.call_cases.proofs.run_lines.Statement.{statement}
 use Rattle.call_cases.proofs.run_lines.Tie as tie
 
 abbrev invariant-loop : tie.invariant-loop
-invariant-loop name fd line₀ says₀ want₀ cfg₀ other₀ records₀ debounce₀ memory₀ counts₀ changes₀ now₀ counter₀ line says want
-    cfg other records debounce memory counts changes now counter =
+invariant-loop name fd line₀ says₀ want₀ cfg₀ other₀ records₀ debounce₀ memory₀ counts₀ now₀ counter₀ line says want cfg other
+    records debounce memory counts now counter =
     0 ≤ counter
 
 abbrev decreases-loop : tie.decreases-loop
-decreases-loop name fd line₀ says₀ want₀ cfg₀ other₀ records₀ debounce₀ memory₀ counts₀ changes₀ now₀ counter₀ line says want
-    cfg other records debounce memory counts changes now counter =
+decreases-loop name fd line₀ says₀ want₀ cfg₀ other₀ records₀ debounce₀ memory₀ counts₀ now₀ counter₀ line says want cfg other
+    records debounce memory counts now counter =
     1000000000 - counter
-
-add-counter : tie.Need-overflow-add-counter invariant-loop decreases-loop
-add-counter c =
-    let c8 = c.before.before.before.before.before.before.before.before in
-    omega (arith, c8.before.before.before.before.before.before.loop-test.true)
-
-loop-less : tie.Need-loop-smaller invariant-loop decreases-loop
-loop-less c =
-    let c8 = c.before.before.before.before.before.before.before.before in
-    omega (arith, c8.before.before.before.before.before.before.loop-test.true)
 
 pub run-lines-spec : {M : Type 1} → statement M
 run-lines-spec =
@@ -32,6 +22,4 @@ run-lines-spec =
     invariant-loop
     decreases-loop
     (λ c κs. search rules) (λ c. omega arith) (λ c κs. search rules) (λ c κs. search rules) (λ c. search rules)
-    add-counter
-    loop-less
-    (λ c. omega arith) (λ c. search rules))
+    (λ c. omega arith) (λ c. omega arith) (λ c. omega arith) (λ c. search rules))

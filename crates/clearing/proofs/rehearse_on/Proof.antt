@@ -2,7 +2,7 @@ use mathlib.Core.Path.{sym, ap, subst, ◌∙◌}
 use Rattle.manual.specs.State.{State}
 use Rattle.manual.specs.Counts.{rise_of}
 use Rattle.manual.specs.Calls.{clear_log}
-use Rattle.clearing.proofs.ClearRiseLaws.{InOrder}
+use Rattle.clearing.proofs.ClearRiseLaws.{MayClear}
 use borrow.Author.Rules.{rules}
 use Rattle.clearing.proofs.rehearse_on.Statement.{statement}
 use Rattle.clearing.proofs.rehearse_on.Tie as tie
@@ -12,7 +12,7 @@ clear-covered-requires c κs =
     let c8 = c.before.before.before.before.before.before.before.before in
     let c16 = c8.before.before.before.before.before.before.before.before in
     let a = c16.args in
-    subst (InOrder a.cfg.now) (sym (c8.copy_blocks.ensures a.board)) c16.requires.0
+    subst (MayClear a.cfg.now) (sym (c8.copy_blocks.ensures a.board)) c16.requires.0
 
 returns : tie.Need-returns
 returns c =

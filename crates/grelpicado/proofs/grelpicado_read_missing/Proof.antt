@@ -11,8 +11,7 @@ use Rattle.grelpicado.proofs.grelpicado_read_missing.Tie as tie
 returns : tie.Need-returns
 returns c = let a = c.before.before.before.before.before.args in
     through crosses_with_missing
-    (λ b. missing_read a.cfg.now a.event a.present alone
-    (lent a.records.now a.debounce.now a.memory.now b))
+    (λ b. missing_read a.cfg.now a.event a.present alone (lent a.records.now a.debounce.now a.memory.now b))
     a.board
     (c.missing-of.ensures
     (lent a.records.now a.debounce.now a.memory.now c.before.before.board-of.result) a.board)

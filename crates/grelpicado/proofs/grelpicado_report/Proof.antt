@@ -1,5 +1,5 @@
 -- `grelpicado_report` meets its contract.
-use Rattle.manual.specs.Answers.{lent_both}
+use Rattle.manual.specs.Answers.{lent_counts}
 use Rattle.manual.specs.State.{lent}
 use Rattle.manual.specs.Calls.{report}
 use Rattle.grelpicado.specs.Panel.{crosses}
@@ -12,18 +12,15 @@ returns : tie.Need-returns
 returns c =
     let c8 = c.before.before.before.before.before.before.before.before in
     let c16 = c8.before.before.before.before.before.before.before.before in
-    let a = c16.before.before.before.before.before.before.args in
-    through crosses
-    (λ b. report a.cfg.now a.event a.code a.frame.now a.present
-    (lent_both a.counts.now a.changes.now)
-    (lent a.records.now a.debounce.now a.memory.now b))
-    a.board (c.report-of.ensures _ _ _ _) c8.before.before.report.ensures
-    c16.board-of.ensures
+    let a = c16.before.before.args in through crosses (λ b. report a.cfg.now a.event a.code
+    a.frame.now a.present (lent_counts a.counts.now) (lent a.records.now a.debounce.now a.memory.now b))
+    a.board (c.report-of.ensures _ _ _ _) c8.report.ensures
+    c8.before.before.before.before.before.board-of.ensures
 
 pub grelpicado-report-spec : {M : Type 1} → statement M
 grelpicado-report-spec =
     tie.close
     (tie.spec
     (λ c κs. search rules) (λ c κs. search rules) (λ c κs. search rules) (λ c. search rules) (λ c. search rules)
-    (λ c. search rules) (λ c. search rules) (λ c. search rules)
+    (λ c. search rules) (λ c. search rules)
     returns)

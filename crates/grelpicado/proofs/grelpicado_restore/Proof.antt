@@ -12,12 +12,9 @@ returns : tie.Need-returns
 returns c =
     let c8 = c.before.before.before.before.before.before.before.before in
     let c16 = c8.before.before.before.before.before.before.before.before in
-    let a = c16.before.before.args in
-    through crosses
-    (λ b. restore a.cfg.now a.image.now (lent_counts a.counts.now)
-    (lent a.records.now a.debounce.now a.memory.now b))
-    a.board (c.answer-of.ensures _ _ _ _) c8.restore.ensures
-    c8.before.before.before.before.before.board-of.ensures
+    let a = c16.before.before.args in through crosses (λ b. restore a.cfg.now a.image.now (lent_counts
+    a.counts.now) (lent a.records.now a.debounce.now a.memory.now b)) a.board (c.answer-of.ensures _
+    _ _ _) c8.restore.ensures c8.before.before.before.before.before.board-of.ensures
 
 pub grelpicado-restore-spec : {M : Type 1} → statement M
 grelpicado-restore-spec =

@@ -1,5 +1,5 @@
 -- `grelpicado_stop` meets its contract.
-use Rattle.manual.specs.Answers.{lent_both}
+use Rattle.manual.specs.Answers.{lent_counts}
 use Rattle.manual.specs.State.{lent}
 use Rattle.manual.specs.Calls.{stop_cycle}
 use Rattle.grelpicado.specs.Panel.{crosses}
@@ -12,17 +12,14 @@ returns : tie.Need-returns
 returns c =
     let c8 = c.before.before.before.before.before.before.before.before in
     let c16 = c8.before.before.before.before.before.before.before.before in
-    let a = c16.before.before.before.before.before.args in
-    through crosses
-    (λ b. stop_cycle a.cfg.now a.cycle (lent_both a.counts.now a.changes.now)
-    (lent a.records.now a.debounce.now a.memory.now b))
-    a.board (c.answer-of.ensures _ _ _ _) c8.before.before.stop.ensures
-    c16.board-of.ensures
+    let a = c16.before.args in through crosses (λ b. stop_cycle a.cfg.now a.cycle (lent_counts
+    a.counts.now) (lent a.records.now a.debounce.now a.memory.now b)) a.board (c.answer-of.ensures _ _ _ _)
+    c8.stop.ensures c8.before.before.before.before.before.board-of.ensures
 
 pub grelpicado-stop-spec : {M : Type 1} → statement M
 grelpicado-stop-spec =
     tie.close
     (tie.spec
     (λ c κs. search rules) (λ c κs. search rules) (λ c κs. search rules) (λ c. search rules) (λ c. search rules)
-    (λ c. search rules) (λ c. search rules) (λ c. search rules)
+    (λ c. search rules) (λ c. search rules)
     returns)

@@ -14,37 +14,30 @@ use Rattle.one_event.proofs.moves.Tie as tie
 
 returns : tie.Need-returns
 returns c =
-    let c8 = c.before.before.before.before.before.before.before.before in
-    let a = c8.before.before.before.args in (
-      applied_is a.cfg.now a.event.0 a.frame.now a.records.now a.memory.now
-          (flagged a.board a.overflow)
-          a.debounce.now (answered a.d)
-          (c.before.before.before.write-number.ensures
-          ∙ ap (λ (z : ℤ). set a.debounce.now a.event.0 z)
-          (held refl c.before.before.before.before.struct_told.given.0.1))
-          (qualifies_by a.cfg.now a.event.0 a.frame.now a.records.now a.memory.now
-          (flagged a.board a.overflow) None
-          c.before.before.before.before.before.before.enum_told.given.1
-          (λ d. c.rests.ensures.0 d a.memory.now a.board)),
-      c.rests.ensures.1,
-    )
+    let c4 = c.before.before.before.before in
+    let a = c4.before.before.before.before.before.args in
+    applied_is a.cfg.now a.event.0 a.frame.now a.records.now a.memory.now
+    (flagged a.board a.overflow)
+    a.debounce.now (answered a.d)
+    (c.before.write-number.ensures
+    ∙ ap (λ (z : ℤ). set a.debounce.now a.event.0 z) (held refl c.before.before.struct_told.given.0.1))
+    (qualifies_by a.cfg.now a.event.0 a.frame.now a.records.now a.memory.now
+    (flagged a.board a.overflow) None
+    c4.enum_told.given.1 (λ d. refl))
 
 returns-2 : tie.Need-returns-2
 returns-2 c =
-    let c8 = c.before.before.before.before.before.before.before.before in
-    let a = c8.before.before.before.before.before.before.before.args in
+    let c9 = c.before.before.before.before.before.before.before.before.before in
+    let a = c9.before.before.before.before.before.args in
     let s = lent a.records.now a.debounce.now a.memory.now (flagged a.board a.overflow) in
-    let applies = c.before.before.before.before.before.before.applies in (
-      flagged_left a.cfg.now a.event.0 a.frame.now (answered a.d) s applies.ensures.0,
-      applies.ensures.1,
-    )
+    flagged_left a.cfg.now a.event.0 a.frame.now (answered a.d) s
+    c.before.before.before.before.before.applies.ensures
 
 pub moves-spec : {M : Type 1} → statement M
 moves-spec =
     tie.close
     (tie.spec
-    (λ c. search rules) (λ c κs. search rules) (λ c κs. search rules) (λ c κs. search rules) (λ c. search rules)
-    (λ c. search rules)
+    (λ c. search rules) (λ c κs. search rules) (λ c κs. search rules) (λ c. search rules)
     returns
     (λ c. search rules) (λ c. search rules) (λ c. search rules)
     returns-2)

@@ -20,18 +20,14 @@ returns : tie.Need-returns
 returns c =
     let c8 = c.before.before.before.before.before.before.before.before in
     let c16 = c8.before.before.before.before.before.before.before.before in
-    let a = c16.before.before.args in
-    let row_of = c8.before.before.before.before.before.before.row_of in
-    let read_number = c8.before.before.before.before.read_number in
-    let report-step = c8.before.before.before.report-step in
-    let applies = c.before.before.before.before.before.before.before.applies in (
-      reports_is a.cfg.now a.event.0
-          (lent a.records.now a.debounce.now a.memory.now a.board)
-          a.frame.now row_of.result
-          row_of.ensures (held read_number.ensures read_number.type-inv) (answered report-step.result)
-          applies.ensures.0 a.code report-step.ensures,
-      applies.ensures.1,
-    )
+    let a = c16.before.args in
+    let row_of = c8.before.before.before.before.before.row_of in
+    let read_number = c8.before.before.before.read_number in
+    let report-step = c8.before.before.report-step in
+    reports_is a.cfg.now a.event.0 (lent a.records.now a.debounce.now a.memory.now a.board)
+    a.frame.now row_of.result
+    row_of.ensures (held read_number.ensures read_number.type-inv) (answered report-step.result)
+    c.before.before.before.before.before.before.applies.ensures a.code report-step.ensures
 
 pub reports-spec : {M : Type 1} → statement M
 reports-spec =

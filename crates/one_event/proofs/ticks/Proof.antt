@@ -41,14 +41,11 @@ returns c =
     let a = c12.before.before.before.before.before.args in
     let read_number = c8.before.before.read_number in
     let tick-step = c8.before.tick-step in
-    let moves = c.before.before.before.before.before.moves in (
-      ticks_is a.cfg.now a.event.0
-          (lent a.records.now a.debounce.now a.memory.now (flagged a.board a.overflow))
-          a.frame.now c12.row_of.result
-          (row c12) (held read_number.ensures read_number.type-inv) (answered tick-step.result)
-          moves.ensures.0 a.ms tick-step.ensures,
-      moves.ensures.1,
-    )
+    ticks_is a.cfg.now a.event.0
+    (lent a.records.now a.debounce.now a.memory.now (flagged a.board a.overflow))
+    a.frame.now c12.row_of.result
+    (row c12) (held read_number.ensures read_number.type-inv) (answered tick-step.result)
+    c.before.before.before.before.before.moves.ensures a.ms tick-step.ensures
 
 pub ticks-spec : {M : Type 1} → statement M
 ticks-spec =

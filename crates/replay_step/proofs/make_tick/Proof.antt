@@ -8,13 +8,13 @@ use Rattle.replay_step.proofs.make_tick.Tie as tie
 returns : tie.Need-returns
 returns c =
     let c8 = c.before.before.before.before.before.before.before.before in
-    made_by (of_answer c8.before.tick.result.answer) c.made_of.ensures.0 c.made_of.ensures.1
-    c8.before.tick.ensures
+    made_by (of_answer c8.tick.result.answer) c.made_of.ensures.0 c.made_of.ensures.1
+    c8.tick.ensures
 
 pub make-tick-spec : {M : Type 1} → statement M
 make-tick-spec =
     tie.close
     (tie.spec
-    (λ c. search rules) (λ c κs. search rules) (λ c κs. search rules) (λ c. search rules) (λ c. search rules)
-    (λ c. search rules) (λ c. search rules)
+    (λ c κs. search rules) (λ c κs. search rules) (λ c. search rules) (λ c. search rules) (λ c. search rules)
+    (λ c. search rules)
     returns)

@@ -1,62 +1,43 @@
 -- `report` meets its contract: what passed the judge is accepted.
 use Rattle.manual.specs.Calls.{report}
 use Rattle.judgement.proofs.JudgedLaws.{passed_by, accepted_by, refused_by}
-use native.Mathlib.Omega.{arith}
 use borrow.Author.Rules.{rules}
 use Rattle.reporting.proofs.CountedLaws.{may_raise, raised_by}
-use Rattle.reporting.proofs.ReportLaws.{report_passed_lem, report_fits, report_counts, report_changes, report_left}
+use Rattle.reporting.proofs.ReportLaws.{report_passed_lem, report_counts, report_left}
 use Rattle.reporting.proofs.report.Statement.{statement}
 use Rattle.reporting.proofs.report.Tie as tie
 
 accept-report-requires : tie.Need-accept-report-requires
 accept-report-requires c κs =
-    report_passed_lem _ _ _ _ _ _ _ _
+    report_passed_lem _ _ _ _ _ _ _
     (passed_by _ c.before.before.before.before.before.judge-report.ensures
     c.before.before.before.enum_told.given.1)
 
 raise-requires : tie.Need-raise-requires
 raise-requires c κs =
     let c8 = c.before.before.before.before.before.before.before.before in
+    let judge-report = c8.before.before.before.before.judge-report in
+    let enum_told = c8.before.before.enum_told in
     may_raise _ _ _ c.before.before.before.before.before.before.accept-report.ensures.1
-    (report_counts _ _ _ _ _ _ _ _
-    (passed_by _ c8.before.before.before.before.judge-report.ensures c8.before.before.enum_told.given.1))
+    (report_counts _ _ _ _ _ _ _ (passed_by _ judge-report.ensures enum_told.given.1))
 
 returns : tie.Need-returns
 unfolding report
 returns c =
     let c8 = c.before.before.before.before.before.before.before.before in
     let c16 = c8.before.before.before.before.before.before.before.before in
-    let c24 = c16.before.before.before.before.before.before.before.before in
-    let accept-report = c8.before.before.before.before.before.before.accept-report in
-    let judge-report = c16.before.before.before.before.judge-report in
-    let enum_told = c16.before.before.enum_told in
-    let passed = passed_by _ judge-report.ensures enum_told.given.1 in
-    let raise = c.before.before.before.before.before.before.before.raise in
-    let changes = c24.before.before.before.before.before.before.before.args.changes.now in
-    let up = raised_by _ _ _ accept-report.ensures.1 raise.ensures in
-    let changed = report_changes _ _ _ _ _ accept-report.ensures.0 (report_passed_lem _ _ _ _ _ _ _ _ passed) _
-    accept-report.ensures.2 changes (report_fits _ _ _ _ _ _ _ _ passed).n_changes
-    c.before.before.before.only.ensures in
+    let accept-report = c8.before.before.accept-report in
+    let judge-report = c16.judge-report in
+    let enum_told = c8.before.before.before.before.before.before.enum_told in
+    let up = raised_by _ _ _ accept-report.ensures.1 c.before.before.before.raise.ensures in
     accepted_by _ judge-report.ensures _ _ _ enum_told.given.1
-    (report_left _ _ _ _ _ accept-report.ensures.0 _ changes up changed)
+    (report_left _ _ _ _ _ _ accept-report.ensures.0 up)
 
 returns-2 : tie.Need-returns-2
 unfolding report
 returns-2 c =
     refused_by _ c.before.before.before.before.judge-report.ensures _ _ _ _ c.before.before.r.given.1
     (c.refuse-report.ensures _ _ _ _)
-
-only-requires : tie.Need-only-requires
-only-requires c κs =
-    let c8 = c.before.before.before.before.before.before.before.before in
-    let c16 = c8.before.before.before.before.before.before.before.before in
-    let passed = passed_by _ c16.judge-report.ensures
-    c8.before.before.before.before.before.before.enum_told.given.1 in
-    omega (
-      arith,
-      (report_fits _ _ _ _ _ _ _ _ passed).n_changes,
-      (report_passed_lem _ _ _ _ _ _ _ _ passed).below,
-    )
 
 pub report-spec : {M : Type 1} → statement M
 report-spec =
@@ -65,9 +46,8 @@ report-spec =
     (λ c κs. search rules) (λ c. search rules)
     accept-report-requires
     raise-requires
-    only-requires
     (λ c. search rules) (λ c κs. search rules) (λ c. search rules) (λ c. search rules) (λ c. search rules)
-    (λ c. search rules) (λ c. search rules)
+    (λ c. search rules)
     returns
-    (λ c. search rules) (λ c. search rules) (λ c. search rules) (λ c. search rules) (λ c. search rules)
+    (λ c. search rules) (λ c. search rules) (λ c. search rules) (λ c. search rules)
     returns-2)

@@ -14,11 +14,9 @@ reports-requires c κs =
 
 returns : tie.Need-returns
 returns c =
-    let c8 = c.before.before.before.before.before.before.before.before in
-    let reports = c8.reports in (
-      ap (λ (x : Stepped Outcome). x.left) reports.ensures.0,
-      report_rise _ _ _ _ _ reports.ensures.0 c.rise-of.ensures,
-      reports.ensures.1,
+    let reports = c.before.before.before.before.before.before.before.reports in (
+      ap (λ (x : Stepped Outcome). x.left) reports.ensures,
+      report_rise _ _ _ _ _ reports.ensures c.rise-of.ensures,
     )
 
 pub accept-report-spec : {M : Type 1} → statement M

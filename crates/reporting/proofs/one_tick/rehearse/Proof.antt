@@ -1,7 +1,6 @@
 -- `rehearse` meets its contract: the copies have room.
-use mathlib.Core.Path.{sym, ◌∙◌}
+use mathlib.Core.Path.{sym}
 use lib.Seq.{length-take-le}
-use Rattle.manual.proofs.WellFormedLaws.{state_tells}
 use Rattle.rehearsal.proofs.CopiesLaws.{records_most, numbers_most, entries_most}
 use borrow.Author.Rules.{rules}
 use Rattle.reporting.proofs.one_tick.rehearse.Statement.{statement}
@@ -38,29 +37,16 @@ slice-aggregate-rehearse-on-3 c =
     sym (length-take-le _ _ (entries_most _ _ m.configured m.formed))
 
 rehearse-on-requires : tie.Need-rehearse-on-requires
-rehearse-on-requires c κs =
-    let m = c.before.before.before.before.before.before.before.requires in (
-      m,
-      (
-        sym (length-take-le _ _ (records_most _ _ m.configured m.formed)),
-        (
-          sym (length-take-le _ _ (numbers_most _ _ m.configured m.formed)),
-          sym (length-take-le _ _ (entries_most _ _ m.configured m.formed)),
-        ),
-      ),
-      length-take-le _ _ (numbers_most _ _ m.configured m.formed)
-          ∙ (state_tells _ _ m.formed).lengths.debounce,
-    )
-
-array-borrow-prefix-changes-copy : tie.Need-array-borrow-prefix-changes-copy
-array-borrow-prefix-changes-copy c =
-    let m = c.before.before.before.before.before.before.requires in
-    numbers_most _ _ m.configured m.formed
-
-slice-aggregate-rehearse-on-4 : tie.Need-slice-aggregate-rehearse-on-4
-slice-aggregate-rehearse-on-4 c =
-    let m = c.before.before.before.before.before.before.before.requires in
-    sym (length-take-le _ _ (numbers_most _ _ m.configured m.formed))
+rehearse-on-requires c κs = let m = c.before.before.before.before.before.before.requires in (
+  m,
+  (
+    sym (length-take-le _ _ (records_most _ _ m.configured m.formed)),
+    (
+      sym (length-take-le _ _ (numbers_most _ _ m.configured m.formed)),
+      sym (length-take-le _ _ (entries_most _ _ m.configured m.formed)),
+    ),
+  ),
+)
 
 pub rehearse-spec : {M : Type 1} → statement M
 rehearse-spec =
@@ -72,7 +58,5 @@ rehearse-spec =
     slice-aggregate-rehearse-on-2
     array-borrow-prefix-memory-copy
     slice-aggregate-rehearse-on-3
-    array-borrow-prefix-changes-copy
-    slice-aggregate-rehearse-on-4
     rehearse-on-requires
     (λ c. search rules))

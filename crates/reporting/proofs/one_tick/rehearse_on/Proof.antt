@@ -8,16 +8,20 @@ tick-events-requires : tie.Need-tick-events-requires
 tick-events-requires c κs =
     let c8 = c.before.before.before.before.before.before.before.before in
     let c16 = c8.before.before.before.before.before.before.before.before in
-    let a = c16.before.before.before.args in
-    let m = c16.before.before.before.requires in
-    (may_rehearse _ _ _ (c8.before.copy_blocks.ensures a.time.board) m.0, m.2)
+    let copy_blocks = c8.copy_blocks in
+    let a = c16.before.args in
+    let m = c16.before.requires in
+    may_rehearse _ _ _ (copy_blocks.ensures a.board) m.0
 
 returns : tie.Need-returns
 returns c =
     let c8 = c.before.before.before.before.before.before.before.before in
     let c16 = c8.before.before.before.before.before.before.before.before in
-    let a = c16.before.before.before.before.before.before.before.before.before.before.before.before.args in
-    rehearsed _ _ _ (c16.before.before.copy_blocks.ensures a.time.board) _ c8.tick-events.ensures.1
+    let c24 = c16.before.before.before.before.before.before.before.before in
+    let copy_blocks = c8.before.before.before.before.before.before.before.copy_blocks in
+    let a = c24.args in
+    rehearsed _ _ _ (copy_blocks.ensures a.board) _
+    c.before.before.before.before.before.before.tick-events.ensures.1
 
 pub rehearse-on-spec : {M : Type 1} → statement M
 rehearse-on-spec =
@@ -25,5 +29,5 @@ rehearse-on-spec =
     (tie.spec
     (λ c κs. search rules)
     tick-events-requires
-    (λ c. search rules) (λ c. search rules) (λ c. search rules) (λ c. search rules)
+    (λ c. search rules) (λ c. search rules) (λ c. search rules)
     returns)
