@@ -1,5 +1,7 @@
 // Document 01, "Numbers a call answers with": the number of each answer, and the verdict, status, counter, missing
 // conditions, paint or length beside it.
+#![tactic(auto)]
+
 ghost use Rattle.std.specs.Prelude.{◌≡◌};
 ghost use Rattle.manual.specs.Answers.{number_of, of_answer, of_report, of_status, of_counter, counter_answered, of_frame};
 ghost use Rattle.manual.specs.Answers.{of_missing, lowest_answered, of_paint, paint_answered, of_length};

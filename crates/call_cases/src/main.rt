@@ -8,6 +8,7 @@
 //   >       a call, and in the next line, which begins with <, what it answers
 //   =       those after the call; where there is none, they are as before
 //   #       a remark
+#![tactic(auto)]
 ghost use Rattle.std.specs.Prelude.{◌≤◌};
 
 use manual::{
@@ -15,7 +16,7 @@ use manual::{
 };
 
 // How much of each block is lent, and the board.
-#[derive(Drop)]
+#[derive(Clone, Copy)]
 struct Lent {
     config: usize,
     records: usize,
@@ -27,7 +28,7 @@ struct Lent {
 
 // The last case: whether its blocks are still to be compared, whether it is a call or the first fresh state, whether
 // its answer agrees, and its line.
-#[derive(Drop)]
+#[derive(Clone, Copy)]
 struct Case {
     open: bool,
     is_call: bool,
@@ -37,7 +38,7 @@ struct Case {
 
 // The calls that ran, the cases that differed, and the line of the one that was last found to differ, 0 where it was
 // told.
-#[derive(Drop)]
+#[derive(Clone, Copy)]
 struct Tally {
     ran: u32,
     differed: u32,
@@ -45,7 +46,7 @@ struct Tally {
 }
 
 // A story so far.
-#[derive(Drop)]
+#[derive(Clone, Copy)]
 struct Story {
     lent: Lent,
     // the configuration of the next call, where it is lent one of its own
@@ -59,13 +60,13 @@ struct Story {
 }
 
 // What a call left beside the blocks: the board, and whether it answered as its case says.
-#[derive(Drop)]
+#[derive(Clone, Copy)]
 struct Given {
     agrees: bool,
     board: Board,
 }
 
-#[derive(Drop)]
+#[derive(Clone, Copy)]
 enum Call {
     Report,
     Diagnose,
@@ -75,7 +76,7 @@ enum Call {
 }
 
 // The calls that only read.
-#[derive(Drop)]
+#[derive(Clone, Copy)]
 enum Reading {
     ReadStatus,
     ReadCounter,
@@ -88,7 +89,7 @@ enum Reading {
 }
 
 // The calls that answer a number alone.
-#[derive(Drop)]
+#[derive(Clone, Copy)]
 enum Plain {
     Fresh,
     Tick,

@@ -1,5 +1,6 @@
 // Document 02, W13, for a caller in C: a frame, a sender, a receiver and the answers as plain numbers and bytes, and
 // the four calls over them.
+#![tactic(auto)]
 ghost use Rattle.std.specs.Prelude.{◌≡◌};
 ghost use Rattle.transport.specs.Frames.{frame_of};
 ghost use Rattle.can_panel.specs.CanPanel.{sender_of, receiver_of, frame_bytes, no_frame, sender_bytes, receiver_bytes};
@@ -12,14 +13,14 @@ use transport::{CanFrame, FlowAnswer, Next, Receiver, Sender, Started, TakeAnswe
 
 // "8-byte frames"
 #[repr(C)]
-#[derive(Drop)]
+#[derive(Clone, Copy)]
 pub struct PanelCanFrame {
     pub bytes: [u8; 8],
 }
 
 // A sender: 0 idle, 1 waiting, 2 running; what is left of the block; the number of the next consecutive frame.
 #[repr(C)]
-#[derive(Drop)]
+#[derive(Clone, Copy)]
 pub struct PanelSender {
     pub state: u8,
     pub left: u8,
@@ -29,7 +30,7 @@ pub struct PanelSender {
 // A receiver: 0 idle, 1 collecting; what is left of the block; the number of the next consecutive frame; the length of
 // the message.
 #[repr(C)]
-#[derive(Drop)]
+#[derive(Clone, Copy)]
 pub struct PanelReceiver {
     pub state: u8,
     pub left: u8,
@@ -39,7 +40,7 @@ pub struct PanelReceiver {
 
 // The answer of start.
 #[repr(C)]
-#[derive(Drop)]
+#[derive(Clone, Copy)]
 pub struct PanelStarted {
     pub number: u8,
     pub frame: PanelCanFrame,
@@ -48,7 +49,7 @@ pub struct PanelStarted {
 
 // The answer of flow: what it says is 1 go, 2 wait, 3 aborted; 0 on a refusal.
 #[repr(C)]
-#[derive(Drop)]
+#[derive(Clone, Copy)]
 pub struct PanelFlowed {
     pub number: u8,
     pub says: u8,
@@ -58,7 +59,7 @@ pub struct PanelFlowed {
 
 // The answer of next: whether a frame is due.
 #[repr(C)]
-#[derive(Drop)]
+#[derive(Clone, Copy)]
 pub struct PanelNext {
     pub due: u8,
     pub frame: PanelCanFrame,
@@ -67,7 +68,7 @@ pub struct PanelNext {
 
 // The answer of take: what it says is 1 going, 2 control, 3 complete; 0 on a refusal.
 #[repr(C)]
-#[derive(Drop)]
+#[derive(Clone, Copy)]
 pub struct PanelTaken {
     pub number: u8,
     pub says: u8,

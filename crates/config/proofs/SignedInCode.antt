@@ -16,7 +16,7 @@ use Rattle.manual.proofs.WordsLaws.{clash, eq_z_true}
 
 -- a number that went through a local, an argument or an answer is itself again
 pub back : (z : ℤ) → mag z < 2 ^ 31 → to_z w32 (of_z w32 z) ≡ z
-back z h = to_z-of_z (record { sfits = h })
+back z h = to_z-of_z {w = w32} (record { sfits = h })
 
 -- ---- as a count
 

@@ -1,5 +1,7 @@
 // Document 01, "The parts the manager works on": reading the configuration, judging it, and the search of a trouble
 // code.
+#![tactic(auto)]
+
 ghost use Rattle.std.specs.Prelude.{◌≡◌, true, [], ◌∷◌, ◌^◌, ◌*◌, ◌<◌, pos, negsuc};
 ghost use Rattle.history.specs.Words.{holds};
 ghost use Rattle.manual.specs.Words.{all_below, between, eq_z, nat_of};
@@ -215,7 +217,7 @@ pub fn jumps_of(cfg: &[i32], event: EventNumber) -> usize
 }
 
 // What a row limits an event's record by.
-#[derive(Drop)]
+#[derive(Clone, Copy)]
 pub struct Limits {
     pub confirm: usize,
     pub heal: usize,
@@ -468,14 +470,14 @@ pub fn config_ok(cfg: &[i32]) -> bool
 // ---- the search of a trouble code
 
 // The event that was found, or nothing.
-#[derive(Drop)]
+#[derive(Clone, Copy)]
 pub enum CodeSearch {
     At(EventNumber),
     Nothing,
 }
 
 // The rows where the search goes on, from low to high, both among them.
-#[derive(Drop)]
+#[derive(Clone, Copy)]
 struct Range {
     low: usize,
     high: usize,

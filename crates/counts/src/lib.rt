@@ -1,4 +1,6 @@
 // Document 02, W7: the five counts, and what a call adds to them.
+#![tactic(auto)]
+
 ghost use Rattle.std.specs.Prelude.{◌≡◌, false, List, [], ◌∷◌, ℕ, ◌+◌, length, ltb};
 ghost use Rattle.manual.specs.Memory.{Entry};
 ghost use Rattle.manual.specs.Counts.{of_store, rise_of, numbers, raised, most_count, past};

@@ -95,7 +95,7 @@ back z h = to_z-of_z (fits z h)
 
 -- a call's result, by what the call ensures of it
 pub held : {z w : ℤ} → z ≡ w → mag z < 2 ^ 31 → to_z w32 (of_z w32 z) ≡ w
-held e h = to_z-of_z (record { sfits = h }) ∙ e
+held e h = to_z-of_z {w = w32} (record { sfits = h }) ∙ e
 
 same_self : (a : ℤ) → eq_z a a ≡ true
 same_self (pos n) = eq-eqb n n refl

@@ -1,4 +1,6 @@
 // Document 01, "Debouncing": what a report and what a tick do to a debounce number, and the verdict.
+#![tactic(auto)]
+
 ghost use Rattle.std.specs.Prelude.{◌≡◌, cond, [], ◌+◌, ◌≤◌, ◌<◌, pos, nat_abs, ◌+ℤ◌, ◌-ℤ◌};
 ghost use Rattle.manual.specs.Configuration.{most_events};
 ghost use Rattle.manual.specs.Words.{smaller, larger};
@@ -12,7 +14,7 @@ use manual::{EventNumber, Verdict};
 mod signed;
 
 // What debouncing reads of an event's row, the numbers 4 to 9: kind, P, Q, up, down and jumps.
-#[derive(Drop)]
+#[derive(Clone, Copy)]
 pub struct Row {
     pub kind: usize,
     pub low: i32,
@@ -38,7 +40,7 @@ pub fn row_of(cfg: &[i32], event: EventNumber) -> Row
 }
 
 // The new D, and the verdict.
-#[derive(Drop)]
+#[derive(Clone, Copy)]
 pub struct Debounced {
     pub number: i32,
     pub verdict: Verdict,

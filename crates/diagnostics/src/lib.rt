@@ -1,4 +1,5 @@
 // Document 01, "Diagnostic requests", with the sub-functions of document 02, W1 and W4.
+#![tactic(auto)]
 ghost use Rattle.std.specs.Prelude.{◌≡◌, true, cond, List, [], ◌∷◌, ◌+◌, ◌*◌, ◌%◌, ◌<◌, ◌≤◌, ℤ, pos, length, get_or, eqb, ltb};
 ghost use Rattle.manual.specs.Words.{count_below, three_at, between, twos_complement};
 ghost use Rattle.manual.specs.Configuration.{Configuration, most_events, events, entry_frames, config_ok};
@@ -42,7 +43,7 @@ const CODE_14: u8 = 0x14;
 
 // The events that a reply lists or counts: all, those that match a mask, or those that are near a fault. A line of
 // these shows the counter, any other the status.
-#[derive(Drop)]
+#[derive(Clone, Copy)]
 enum Asked {
     All,
     Matching(u8),
@@ -50,21 +51,21 @@ enum Asked {
 }
 
 // The byte that a line shows of an event, or nothing of one that is not asked for.
-#[derive(Drop)]
+#[derive(Clone, Copy)]
 enum LineByte {
     Shown(u8),
     Nothing,
 }
 
 // What a reply shows of an event's entry: its frames, or its details.
-#[derive(Drop)]
+#[derive(Clone, Copy)]
 enum Told {
     Frame,
     Details,
 }
 
 // What a sub-function of service 19 does: write its positive reply, write nothing, or reply with this negative code.
-#[derive(Drop)]
+#[derive(Clone, Copy)]
 enum Turn {
     Write,
     Suppressed,
@@ -72,7 +73,7 @@ enum Turn {
 }
 
 // What service 14 does: clear the events of this trouble code, or reply with this negative code.
-#[derive(Drop)]
+#[derive(Clone, Copy)]
 enum ClearRequest {
     Clear(u32),
     Negative(u8),
@@ -80,14 +81,14 @@ enum ClearRequest {
 
 // What is left to do once the reply stands in the room: nothing, and this is its length; or its length is 1, and the
 // events of this trouble code are still to be cleared.
-#[derive(Drop)]
+#[derive(Clone, Copy)]
 enum Service {
     Replied(usize),
     Clear(u32),
 }
 
 // What the call hands back: how long the reply is, and the board.
-#[derive(Drop)]
+#[derive(Clone, Copy)]
 pub struct RequestReturned {
     pub answer: LengthAnswer,
     pub board: Board,

@@ -1,5 +1,6 @@
 // The sixteen calls for a caller in C, as grelpicado.h declares them. Each reads the board's bytes, makes the call, and
 // hands back its numbers and the board. Those of replies over CAN stand in can.rt.
+#![tactic(auto)]
 ghost use Rattle.std.specs.Prelude.{◌≡◌, cond, List, [], ℕ, eqb, ℤ};
 ghost use Rattle.manual.specs.State.{State, lent};
 ghost use Rattle.manual.specs.Answers.{Beside, lent_counts, lent_both, alone, lent_room};
@@ -30,7 +31,7 @@ mod can;
 
 // "Board: which of the four cycles run, and an overflow flag.": each byte a flag, 0 no, anything else yes.
 #[repr(C)]
-#[derive(Drop)]
+#[derive(Clone, Copy)]
 pub struct PanelBoard {
     pub running: [u8; manual::CYCLES],
     pub overflow: u8,
@@ -38,7 +39,7 @@ pub struct PanelBoard {
 
 // The answer of fresh, tick, start, stop, clear and restore.
 #[repr(C)]
-#[derive(Drop)]
+#[derive(Clone, Copy)]
 pub struct PanelAnswer {
     pub number: u8,
     pub board: PanelBoard,
@@ -46,7 +47,7 @@ pub struct PanelAnswer {
 
 // The answer of a report. Its verdict: 0 none, 1 passed, 2 failed.
 #[repr(C)]
-#[derive(Drop)]
+#[derive(Clone, Copy)]
 pub struct PanelReport {
     pub number: u8,
     pub verdict: u8,
@@ -55,7 +56,7 @@ pub struct PanelReport {
 
 // The answer of read status.
 #[repr(C)]
-#[derive(Drop)]
+#[derive(Clone, Copy)]
 pub struct PanelStatus {
     pub number: u8,
     pub status: u8,
@@ -63,7 +64,7 @@ pub struct PanelStatus {
 
 // The answer of read counter.
 #[repr(C)]
-#[derive(Drop)]
+#[derive(Clone, Copy)]
 pub struct PanelCounter {
     pub number: u8,
     pub counter: i8,
@@ -71,7 +72,7 @@ pub struct PanelCounter {
 
 // The answer of read missing.
 #[repr(C)]
-#[derive(Drop)]
+#[derive(Clone, Copy)]
 pub struct PanelMissing {
     pub number: u8,
     pub count: u32,
@@ -80,7 +81,7 @@ pub struct PanelMissing {
 
 // The answer of read table: cycle by cycle, bit 0 first.
 #[repr(C)]
-#[derive(Drop)]
+#[derive(Clone, Copy)]
 pub struct PanelTable {
     pub number: u8,
     pub counts: [u16; manual::CYCLES * manual::BITS],
@@ -88,7 +89,7 @@ pub struct PanelTable {
 
 // The answer of read paint. The paint: 0 grey, 1 red, 2 live.
 #[repr(C)]
-#[derive(Drop)]
+#[derive(Clone, Copy)]
 pub struct PanelPaint {
     pub number: u8,
     pub paint: u8,
@@ -96,7 +97,7 @@ pub struct PanelPaint {
 
 // The answer of read frame: where the frame starts in the caller's own memory block, and its length.
 #[repr(C)]
-#[derive(Drop)]
+#[derive(Clone, Copy)]
 pub struct PanelFrame {
     pub number: u8,
     pub start: usize,
@@ -105,7 +106,7 @@ pub struct PanelFrame {
 
 // The answer of save and of list grey: how many bytes of the room, or numbers of the list, were written.
 #[repr(C)]
-#[derive(Drop)]
+#[derive(Clone, Copy)]
 pub struct PanelLength {
     pub number: u8,
     pub length: usize,
@@ -113,7 +114,7 @@ pub struct PanelLength {
 
 // The answer of a diagnostic request.
 #[repr(C)]
-#[derive(Drop)]
+#[derive(Clone, Copy)]
 pub struct PanelRequest {
     pub number: u8,
     pub length: usize,

@@ -1,1 +1,2 @@
 // One event's status byte and its history: definitions (specs/) and theorems (proofs/), no code.
+#![tactic(auto)]

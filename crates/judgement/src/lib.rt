@@ -1,4 +1,5 @@
 // Document 01, "A state is well formed when …", and how every call begins.
+#![tactic(auto)]
 ghost use Rattle.std.specs.Prelude.{◌≡◌, true, [], pos, length, get_or, ◌+◌, ◌*◌, ◌≤◌};
 ghost use Rattle.manual.specs.declared.Board.{Board};
 ghost use Rattle.manual.specs.Words.{all_below};
@@ -15,7 +16,7 @@ ghost use Rattle.judgement.specs.Fits.{EventIn, RecordsFor, NumbersFor};
 use manual::{Board, EventNumber, Refusal};
 
 // Whether a call goes on, or why it is refused.
-#[derive(Drop)]
+#[derive(Clone, Copy)]
 pub enum Check {
     Go,
     Stop(Refusal),

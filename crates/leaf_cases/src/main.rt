@@ -1,5 +1,6 @@
 // Runs the leaves of the manager on cases whose answers are written from document 01, and prints each case that
 // differs, by its table and its line there, and how many ran and how many differed.
+#![tactic(auto)]
 ghost use Rattle.std.specs.Prelude.{◌≡◌, true, ◌≤◌, min, length};
 ghost use Rattle.manual.specs.Words.{between};
 ghost use Rattle.manual.specs.Configuration.{config_ok};
@@ -16,7 +17,7 @@ mod tables;
 // ---- counting
 
 // The cases that ran and that differed, and the line of the last one in its table: each table has a line for each case.
-#[derive(Drop)]
+#[derive(Clone, Copy)]
 struct Tally {
     ran: u32,
     differed: u32,
@@ -363,7 +364,7 @@ fn tick_agrees(table: &[i32], at: usize) -> bool {
 // ---- status
 
 // A record after a step, and 1 where memory is told of a fresh failure or of an event that aged.
-#[derive(Drop)]
+#[derive(Clone, Copy)]
 struct After {
     record: Record,
     told: usize,
@@ -492,7 +493,7 @@ fn record_agrees(table: &[i32], at: usize) -> bool {
 
 // ---- running
 
-#[derive(Drop)]
+#[derive(Clone, Copy)]
 enum Cases {
     Bounds,
     Lengths,

@@ -1,15 +1,16 @@
 // The types that the calls of document 01 speak of, and the numbers that they share. What the calls do is defined in
 // specs/.
+#![tactic(auto)]
 
 // "An event number is never taken for a place in memory."
-#[derive(Drop)]
+#[derive(Clone, Copy)]
 pub struct EventNumber(pub usize);
 
-#[derive(Drop)]
+#[derive(Clone, Copy)]
 pub struct Place(pub usize);
 
 // "Each accepted report gives a verdict: none, passed or failed."
-#[derive(Drop)]
+#[derive(Clone, Copy)]
 pub enum Verdict {
     None,
     Passed,
@@ -50,7 +51,7 @@ pub const CYCLES: usize = 4;
 pub const BITS: usize = 8;
 
 // "Board: which of the four cycles run, and an overflow flag."
-#[derive(Drop)]
+#[derive(Clone, Copy)]
 pub struct Board {
     pub running: [bool; CYCLES],
     pub overflow: bool,
@@ -59,7 +60,7 @@ pub struct Board {
 // What memory did at an event's part of a call: it was not told, since there was no fresh failure; or, by rules 1 to 4
 // of a fresh failure, the event's entry was renewed, one was added, one was displaced (the event is that of the entry
 // that rule 3 takes out), or the failure was not stored.
-#[derive(Drop)]
+#[derive(Clone, Copy)]
 pub enum StoreAnswer {
     Untold,
     Renewed,
@@ -73,7 +74,7 @@ pub const COUNTS: usize = 5;
 
 // "entries admitted, pushed out, aged, cleared, and failures not stored": five numbers in their order, as what a call
 // adds to the counts.
-#[derive(Drop)]
+#[derive(Clone, Copy)]
 pub struct Rise {
     pub admitted: u32,
     pub pushed_out: u32,
@@ -83,7 +84,7 @@ pub struct Rise {
 }
 
 // Why a call was refused: document 01's numbers 1 to 10 and document 02's 11 and 12, in their order.
-#[derive(Drop)]
+#[derive(Clone, Copy)]
 pub enum Refusal {
     BadArgument,
     BadConfiguration,
@@ -100,28 +101,28 @@ pub enum Refusal {
 }
 
 // The answer of fresh, tick, start, stop, clear and restore.
-#[derive(Drop)]
+#[derive(Clone, Copy)]
 pub enum Answer {
     Done,
     Refused(Refusal),
 }
 
 // The answer of a report.
-#[derive(Drop)]
+#[derive(Clone, Copy)]
 pub enum ReportAnswer {
     Accepted(Verdict),
     Refused(Refusal),
 }
 
 // The answer of read status: the status byte.
-#[derive(Drop)]
+#[derive(Clone, Copy)]
 pub enum StatusAnswer {
     Status(u8),
     Refused(Refusal),
 }
 
 // The answer of read counter: the fault detection counter.
-#[derive(Drop)]
+#[derive(Clone, Copy)]
 pub enum CounterAnswer {
     Counter(i8),
     Refused(Refusal),
@@ -129,21 +130,21 @@ pub enum CounterAnswer {
 
 // Document 02, W5: "how many of the conditions it needs are still missing, and the lowest missing number, or 32 when
 // none is".
-#[derive(Drop)]
+#[derive(Clone, Copy)]
 pub struct StillMissing {
     pub count: u32,
     pub lowest: u32,
 }
 
 // The answer of read missing.
-#[derive(Drop)]
+#[derive(Clone, Copy)]
 pub enum MissingAnswer {
     Missing(StillMissing),
     Refused(Refusal),
 }
 
 // Document 02, W10: "each event gets a paint".
-#[derive(Drop)]
+#[derive(Clone, Copy)]
 pub enum Paint {
     Grey,
     Red,
@@ -151,28 +152,28 @@ pub enum Paint {
 }
 
 // The answer of read paint.
-#[derive(Drop)]
+#[derive(Clone, Copy)]
 pub enum PaintAnswer {
     Painted(Paint),
     Refused(Refusal),
 }
 
 // Document 02, W6: "Reading a frame takes a choice of which": the frame of the first failure, or of the latest.
-#[derive(Drop)]
+#[derive(Clone, Copy)]
 pub enum Which {
     First,
     Latest,
 }
 
 // A stored frame, as a part of the caller's own memory block: where it starts, and its length.
-#[derive(Drop)]
+#[derive(Clone, Copy)]
 pub struct FramePart {
     pub start: usize,
     pub length: usize,
 }
 
 // The answer of read frame: where the frame is.
-#[derive(Drop)]
+#[derive(Clone, Copy)]
 pub enum FrameAnswer {
     At(FramePart),
     Refused(Refusal),
@@ -180,28 +181,28 @@ pub enum FrameAnswer {
 
 // The answer of save and of a diagnostic request: how many bytes of the room were written; and of list grey: how many
 // numbers.
-#[derive(Drop)]
+#[derive(Clone, Copy)]
 pub enum LengthAnswer {
     Written(usize),
     Refused(Refusal),
 }
 
 // What a call that can change the board hands back: its answer, and the board.
-#[derive(Drop)]
+#[derive(Clone, Copy)]
 pub struct Returned {
     pub answer: Answer,
     pub board: Board,
 }
 
 // The same of a report.
-#[derive(Drop)]
+#[derive(Clone, Copy)]
 pub struct ReportReturned {
     pub answer: ReportAnswer,
     pub board: Board,
 }
 
 // What read table hands back: its answer, and "a four by eight table of counts", cycle by cycle, bit 0 first.
-#[derive(Drop)]
+#[derive(Clone, Copy)]
 pub struct TableReturned {
     pub answer: Answer,
     pub counts: [u16; CYCLES * BITS],

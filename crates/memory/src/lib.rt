@@ -1,4 +1,6 @@
 // Document 01, "Memory": the entries of events that failed, in the lent block of bytes.
+#![tactic(auto)]
+
 use manual::{EventNumber, Place, StoreAnswer};
 
 mod block;
@@ -19,7 +21,7 @@ ghost use Rattle.memory.specs.Store.{MayStore, quiet_in, left_with, admits, stor
 ghost use Rattle.memory.specs.Block.{gap_closed, entered, removed, added, replaced, renewed_at};
 
 // Where an entry was found.
-#[derive(Drop)]
+#[derive(Clone, Copy)]
 pub enum Find {
     At(Place),
     Nothing,

@@ -1,4 +1,5 @@
 // Document 01, "Status byte" and "Memory": what happens to one event, in the lent blocks.
+#![tactic(auto)]
 ghost use Rattle.std.specs.Prelude.{◌≡◌, cond, List, ℕ, ◌+◌, ◌*◌, ◌≤◌, ◌<◌, ℤ, pos, length, set};
 ghost use Rattle.history.specs.StatusByte.{ages_at_stop};
 ghost use Rattle.history.specs.History.{passed, start};
@@ -135,7 +136,7 @@ fn is_lost(did: StoreAnswer) -> bool
 }
 
 // What an event's part of a call leaves beside the lent blocks: the board, and what memory did.
-#[derive(Drop)]
+#[derive(Clone, Copy)]
 pub struct Part {
     pub board: Board,
     pub did: StoreAnswer,
@@ -252,7 +253,7 @@ pub fn applies(
 }
 
 // The same of a report, with its verdict.
-#[derive(Drop)]
+#[derive(Clone, Copy)]
 pub struct Reported {
     pub verdict: Verdict,
     pub board: Board,
@@ -292,7 +293,7 @@ pub fn reports(
 }
 
 // What an event's part of a tick leaves beside the lent blocks: the overflow flag, and what memory did.
-#[derive(Drop)]
+#[derive(Clone, Copy)]
 pub struct TickPart {
     pub overflow: bool,
     pub did: StoreAnswer,

@@ -1,5 +1,6 @@
 // "A support engineer has a log of a machine": reads it from standard input, as the replay program does, and writes one
 // static HTML page of the machine after the last call. Its argument names a file with the names of the signals.
+#![tactic(auto)]
 ghost use Rattle.std.specs.Prelude.{◌≡◌, ◌≤◌, length};
 ghost use Rattle.page_names.specs.Names.{most_names};
 

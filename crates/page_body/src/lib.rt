@@ -1,4 +1,5 @@
 // The page below its style: every part of it put into a lent buffer, in their order.
+#![tactic(auto)]
 ghost use Rattle.std.specs.Prelude.{◌≡◌, true, List, ℕ, ◌+◌, ◌≤◌, ℤ, length};
 ghost use Rattle.manual.specs.Configuration.{config_ok};
 ghost use Rattle.judgement.specs.Fits.{RecordsFor};
@@ -15,7 +16,7 @@ use page_rows::Listing;
 
 // What is told of the log beside the state: how many calls were made and how many of them were refused, the answer of
 // the last; whether it is bad, and behind which byte; why no name is shown.
-#[derive(Drop)]
+#[derive(Clone, Copy)]
 pub struct Log {
     pub made: u16,
     pub refused: u16,

@@ -1,5 +1,6 @@
 // Makes the page of every case of data/ by the library function of the page program, compares it with the page that is
 // expected, and prints the file and the first line of each that differs, and how many cases ran and how many differed.
+#![tactic(auto)]
 ghost use Rattle.std.specs.Prelude.{◌≡◌, ◌≤◌, length};
 ghost use Rattle.page_names.specs.Names.{most_names};
 
@@ -122,7 +123,7 @@ fn run_case(log: &[u8], names: &[u8], expected: &[u8]) -> u32 {
     differing_line_of(&buffer[..length], expected)
 }
 
-#[derive(Drop)]
+#[derive(Clone, Copy)]
 struct Tally {
     at: usize,
     ran: u32,

@@ -1,4 +1,6 @@
 // The names file of the page: "lines of a trouble code in hexadecimal and a name in UTF-8".
+#![tactic(auto)]
+
 ghost use Rattle.std.specs.Prelude.{◌≡◌, ◌+◌, ◌≤◌, ◌<◌, length, drop};
 ghost use Rattle.page_names.specs.Utf8.{within, awaits, after_long, after_first, after, is_text};
 ghost use Rattle.page_names.specs.Names.{is_hex, passes, leading, code_end, name_start, is_good, worth_of, worth};
@@ -7,7 +9,7 @@ ghost use Rattle.page_names.specs.Names.{kept_of, is_of, name_of, is_bad, first_
 // ---- "a name in UTF-8"
 
 // How many bytes of a character are still to come, and from where to where the next of them lies.
-#[derive(Drop)]
+#[derive(Clone, Copy)]
 struct Awaited {
     left: u8,
     low: u8,
@@ -93,7 +95,7 @@ fn is_text(bytes: &[u8]) -> bool
 // ---- bytes in front
 
 // A digit of a code, a space behind it, a byte of a line.
-#[derive(Drop)]
+#[derive(Clone, Copy)]
 enum Kind {
     Hex,
     Space,
@@ -224,7 +226,7 @@ fn kept(line: &[u8]) -> usize
 // ---- the file
 
 // A part of the file.
-#[derive(Drop)]
+#[derive(Clone, Copy)]
 struct Part {
     start: usize,
     end: usize,

@@ -1,4 +1,5 @@
 // What the page tells of one signal: its values read off the lent blocks, and its rows with its name.
+#![tactic(auto)]
 ghost use Rattle.std.specs.Prelude.{◌≡◌, ◌+◌, ◌≤◌, length};
 ghost use Rattle.manual.specs.Configuration.{code_of, cycle_of, entry_frames};
 ghost use Rattle.manual.specs.State.{lent};
@@ -17,7 +18,7 @@ use memory::Find;
 // ---- its values
 
 // What the page tells of a signal beside its name.
-#[derive(Drop)]
+#[derive(Clone, Copy)]
 pub struct Signal {
     pub paint: Paint,
     pub code: u32,
@@ -127,7 +128,7 @@ pub fn signal_of(
 // ---- its rows
 
 // The three lists of the page.
-#[derive(Drop)]
+#[derive(Clone, Copy)]
 pub enum Listing {
     Untested,
     Failed,

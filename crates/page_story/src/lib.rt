@@ -1,5 +1,6 @@
 // The page of a log: its calls made on the manager as the replay program makes them, and the page of the state after
 // the last put into a buffer.
+#![tactic(auto)]
 ghost use Rattle.std.specs.Prelude.{◌≡◌, true, List, ℕ, ◌+◌, ◌≤◌, ◌<◌, ℤ, length};
 ghost use Rattle.manual.specs.State.{lent};
 ghost use Rattle.replay_step.specs.Beginning.{beginning};
@@ -19,7 +20,7 @@ use transcript::Cursor;
 
 // How far the log is played: the board, the cursor behind the last call, whether a further call may follow, how many
 // were made and how many of these were refused, the answer of the last, and whether what follows cannot be read.
-#[derive(Drop)]
+#[derive(Clone, Copy)]
 struct Played {
     board: Board,
     next: Cursor,
@@ -421,7 +422,7 @@ pub fn page(buffer: &mut [u8], text: &[u8], longer: bool, names: &[u8], unused: 
 
 // How many bytes of names were read, and why there are none: 0 for no reason, 1 for a file that cannot be read, 2 for
 // one that is too long.
-#[derive(Drop)]
+#[derive(Clone, Copy)]
 pub struct Names {
     pub length: usize,
     pub unused: u16,

@@ -1,4 +1,6 @@
 // The text of a page: fixed texts, names and numbers put into a lent buffer.
+#![tactic(auto)]
+
 ghost use Rattle.std.specs.Prelude.{◌≡◌, cond, [], ◌+◌, ◌*◌, ◌≤◌, ◌<◌, length};
 ghost use Rattle.page_text.specs.Text.{Puts};
 ghost use Rattle.page_text.specs.Escape.{escaped_byte, escaped};

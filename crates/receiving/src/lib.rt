@@ -1,4 +1,6 @@
 // Document 02, W13: a receiver. The call takes any receiver, room and frame whatever.
+#![tactic(auto)]
+
 ghost use Rattle.std.specs.Prelude.{◌≡◌, true, ◌+◌, ◌*◌, ◌%◌, ◌≤◌, length, take, drop};
 ghost use Rattle.std.proofs.lemmas.List.Edits.{sets};
 ghost use Rattle.transport.specs.Frames.{bytes_of, has, control};

@@ -1,5 +1,6 @@
 // Document 02, W7: what a call would add to the counts is known before anything lent changes. Where a count is near its
 // limit, the work of the call is done on copies of the blocks first.
+#![tactic(auto)]
 ghost use Rattle.std.specs.Prelude.{◌≡◌, [], ◌∷◌};
 ghost use Rattle.manual.specs.declared.Board.{Board};
 ghost use Rattle.manual.specs.State.{lent};
@@ -11,7 +12,7 @@ use judgement::Check;
 use manual::{Board, Refusal, Rise};
 
 // What the work of a call leaves beside the lent blocks: the board, and what it adds to the counts.
-#[derive(Drop)]
+#[derive(Clone, Copy)]
 pub struct Counted {
     pub board: Board,
     pub rise: Rise,

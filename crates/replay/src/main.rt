@@ -1,5 +1,6 @@
 // Document 01, "Replay program": reads a story of calls from standard input, makes them on the manager, and writes a
 // line a call.
+#![tactic(auto)]
 ghost use Rattle.std.specs.Prelude.{true, length};
 ghost use Rattle.replay_step.specs.Turn.{Playable, Buffers};
 
@@ -16,7 +17,7 @@ fn bad_input() {
 }
 
 // How far the input is played: the board, the cursor behind the last call, and whether a further call may follow.
-#[derive(Drop)]
+#[derive(Clone, Copy)]
 struct Played {
     board: Board,
     next: Cursor,

@@ -1,5 +1,6 @@
 // Plays every case of data/ through the library step of the replay program, compares what it would print with what is
 // expected, and prints the file and the first line of each that differs, and how many cases ran and how many differed.
+#![tactic(auto)]
 ghost use Rattle.std.specs.Prelude.{length};
 ghost use Rattle.replay_step.specs.Turn.{Playable, Buffers};
 
@@ -11,7 +12,7 @@ use transcript::Cursor;
 
 // How much of the expected output was printed so far, whether all of it was as expected, and the first line that is not
 // so far.
-#[derive(Drop)]
+#[derive(Clone, Copy)]
 struct Printed {
     to: usize,
     agrees: bool,
@@ -84,7 +85,7 @@ fn nothing() -> Printed {
 
 // How far the input is played: the board, the cursor behind the last call, whether a further call may follow, and what
 // was printed.
-#[derive(Drop)]
+#[derive(Clone, Copy)]
 struct Played {
     board: Board,
     next: Cursor,
@@ -270,7 +271,7 @@ fn differing_line(input: &[u8], output: &[u8]) -> u32 {
     }
 }
 
-#[derive(Drop)]
+#[derive(Clone, Copy)]
 struct Tally {
     at: usize,
     ran: u32,

@@ -1,4 +1,5 @@
 // Document 01, "Replay program": what its input asks for, and one call of it made, with its line.
+#![tactic(auto)]
 ghost use Rattle.std.specs.Prelude.{◌≡◌, ◌≤◌, ◌<◌, pos, length, take};
 ghost use Rattle.manual.specs.Words.{between, nat_of};
 ghost use Rattle.manual.specs.Configuration.{most_numbers};
@@ -20,7 +21,7 @@ use transcript::{Cursor, Word};
 // ---- the calls that the input asks for
 
 // One of the five calls, with its arguments.
-#[derive(Drop)]
+#[derive(Clone, Copy)]
 pub enum Call {
     Report(EventNumber, u32),
     Start(u32),
@@ -30,7 +31,7 @@ pub enum Call {
 }
 
 // What the input asks for next: a call, with the cursor behind it; nothing more; or what cannot be read.
-#[derive(Drop)]
+#[derive(Clone, Copy)]
 pub enum Asked {
     Makes(Call, Cursor),
     Nothing,
@@ -38,7 +39,7 @@ pub enum Asked {
 }
 
 // An argument, with the cursor behind it, or none that can be read.
-#[derive(Drop)]
+#[derive(Clone, Copy)]
 enum Argument {
     Is(u32, Cursor),
     Unreadable,
@@ -130,7 +131,7 @@ pub fn next_call(text: &[u8], from: Cursor) -> Asked
 // ---- the configuration
 
 // The configuration numbers are read, with the cursor behind them, or one of them cannot be.
-#[derive(Drop)]
+#[derive(Clone, Copy)]
 enum Numbers {
     Read(Cursor),
     Unreadable,
@@ -173,7 +174,7 @@ fn read_numbers(text: &[u8], from: Cursor, cfg: &mut [i32], count: usize) -> Num
 
 // How the input begins: with an accepted configuration of so many numbers, and the cursor behind it; with one that is
 // refused; or with what cannot be read.
-#[derive(Drop)]
+#[derive(Clone, Copy)]
 pub enum Begun {
     Ready(usize, Cursor),
     Refused,
@@ -250,7 +251,7 @@ pub fn begin(text: &[u8], longer: bool, cfg: &mut [i32]) -> Begun
 
 // What a turn answers: the length of the line in front of the buffer, the call's answer, and the cursor behind it; that
 // the input ends; or that it is bad.
-#[derive(Drop)]
+#[derive(Clone, Copy)]
 pub enum Stepped {
     Line(usize, u8, Cursor),
     End,
@@ -258,14 +259,14 @@ pub enum Stepped {
 }
 
 // What a turn answers, and the board after it.
-#[derive(Drop)]
+#[derive(Clone, Copy)]
 pub struct Turn {
     pub stepped: Stepped,
     pub board: Board,
 }
 
 // A call's number, and the board after it.
-#[derive(Drop)]
+#[derive(Clone, Copy)]
 struct Made {
     answer: u8,
     board: Board,

@@ -1,4 +1,6 @@
 // Document 02, W13: a sender. Each call takes any sender, message and frame whatever.
+#![tactic(auto)]
+
 ghost use Rattle.std.specs.Prelude.{◌≡◌, true, ◌+◌, ◌≤◌, length};
 ghost use Rattle.std.proofs.lemmas.List.Edits.{sets};
 ghost use Rattle.transport.specs.Frames.{frame_of, single, first, consecutive, longest, has};

@@ -1,5 +1,7 @@
 // Document 01, "Status byte": the status byte, the steps of an event's record, and the records and debounce numbers in
 // the lent blocks.
+#![tactic(auto)]
+
 ghost use Rattle.std.specs.Prelude.{◌≡◌, Bool, not, ◌&&◌, cond, ℕ, suc, ◌+◌, ◌-◌, ◌*◌, min, ◌≤◌, ◌<◌, eqb, ltb, pos, length, get_or, set};
 ghost use Rattle.std.specs.Int.Bits.{bit_and, bit_or};
 ghost use Rattle.history.specs.Words.{implies, same};
@@ -16,7 +18,7 @@ ghost use Rattle.status.specs.Clauses.{bytes_ok, is_limited, limits_ok};
 use manual::EventNumber;
 
 // "The eight bits have the names and weights of ISO 14229-1."
-#[derive(Drop)]
+#[derive(Clone, Copy)]
 pub struct Status(pub u8);
 
 impl Status {
@@ -90,7 +92,7 @@ impl Status {
 }
 
 // "per event status, K (failed cycles), h (healing count), g (ageing count)"
-#[derive(Drop)]
+#[derive(Clone, Copy)]
 pub struct Record {
     pub status: Status,
     pub k: u8,
@@ -99,14 +101,14 @@ pub struct Record {
 }
 
 // An event's record after a failed result, and whether that is a fresh failure: then memory is told.
-#[derive(Drop)]
+#[derive(Clone, Copy)]
 pub struct AfterFailed {
     pub record: Record,
     pub fresh_failure: bool,
 }
 
 // An event's record after its cycle's stop, and whether the event aged: then its entry leaves memory.
-#[derive(Drop)]
+#[derive(Clone, Copy)]
 pub struct AfterStop {
     pub record: Record,
     pub aged: bool,

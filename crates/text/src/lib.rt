@@ -1,8 +1,9 @@
 // A line of a file of stored cases, and the numbers and bytes in it. A place past the end of the line reads as byte 0.
+#![tactic(auto)]
 ghost use Rattle.std.specs.Prelude.{◌≡◌, ◌≤◌, length, take};
 
 // The next byte of a file.
-#[derive(Drop)]
+#[derive(Clone, Copy)]
 enum NextByte {
     Byte(u8),
     End,

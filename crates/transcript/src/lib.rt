@@ -1,4 +1,6 @@
 // The replay program's text: numbers read out of the input, and a line written for each call.
+#![tactic(auto)]
+
 ghost use Rattle.std.specs.Prelude.{◌≡◌, true, ◌+◌, ◌-◌, ◌*◌, ◌≤◌, ◌<◌, length, drop};
 ghost use mathlib.Core.List.{flat_map};
 ghost use Rattle.history.specs.Words.{all_of};
@@ -8,13 +10,13 @@ ghost use Rattle.transcript.specs.Text.{worth, largest, with_sign, read_word, ne
 ghost use Rattle.transcript.specs.Line.{decimal, spaced, status_bytes, line, Room};
 
 // A place in the input.
-#[derive(Drop)]
+#[derive(Clone, Copy)]
 pub struct Cursor {
     pub at: usize,
 }
 
 // A number of the input, and the cursor behind its word.
-#[derive(Drop)]
+#[derive(Clone, Copy)]
 pub struct Read {
     pub value: i32,
     pub minus: bool,
@@ -22,7 +24,7 @@ pub struct Read {
 }
 
 // The next word of the input: a number, a word that is none, or no word at all.
-#[derive(Drop)]
+#[derive(Clone, Copy)]
 pub enum Word {
     Number(Read),
     Unreadable,

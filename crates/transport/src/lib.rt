@@ -1,10 +1,12 @@
 // Document 02, W13, "Carry replies over CAN": the types of a sender and a receiver of ISO 15765-2, and what both ask of
 // a message and of a frame. What the calls do is defined in specs/.
+#![tactic(auto)]
+
 ghost use Rattle.std.specs.Prelude.{◌≡◌, min};
 ghost use Rattle.transport.specs.Frames.{frame_of, bytes_of, has};
 
 // "8-byte frames, normal addressing": a frame's bytes. Its identifier is the driver's.
-#[derive(Drop)]
+#[derive(Clone, Copy)]
 pub struct CanFrame {
     pub b0: u8,
     pub b1: u8,
@@ -18,7 +20,7 @@ pub struct CanFrame {
 
 // Where a sender stands: nothing is under way; flow control is due before the consecutive frame of this number; that
 // frame is due, and so many are left of the block (0: no limit).
-#[derive(Drop)]
+#[derive(Clone, Copy)]
 pub enum Sender {
     Idle,
     Waiting(usize),
@@ -27,14 +29,14 @@ pub enum Sender {
 
 // Where a receiver stands: nothing is under way; of a message of this length the consecutive frame of this number is
 // due, and so many are left of the block (0: no limit).
-#[derive(Drop)]
+#[derive(Clone, Copy)]
 pub enum Receiver {
     Idle,
     Collecting(usize, usize, u8),
 }
 
 // What a start answers: this frame is to be sent, and the sender then stands so; or 13.
-#[derive(Drop)]
+#[derive(Clone, Copy)]
 pub enum Started {
     Send(CanFrame, Sender),
     Refused,
@@ -42,7 +44,7 @@ pub enum Started {
 
 // What flow control tells the driver: to go on, with this separation time; to wait; that the message is given up; or
 // 13.
-#[derive(Drop)]
+#[derive(Clone, Copy)]
 pub enum FlowAnswer {
     Go(u8),
     Wait,
@@ -50,14 +52,14 @@ pub enum FlowAnswer {
     Refused,
 }
 
-#[derive(Drop)]
+#[derive(Clone, Copy)]
 pub struct Flowed {
     pub answer: FlowAnswer,
     pub sender: Sender,
 }
 
 // What is to be sent next: this frame, and the sender then stands so; or nothing is due.
-#[derive(Drop)]
+#[derive(Clone, Copy)]
 pub enum Next {
     Send(CanFrame, Sender),
     Nothing,
@@ -65,7 +67,7 @@ pub enum Next {
 
 // What a received frame asks of the driver: nothing yet; to send this flow control; to fetch the message of this length
 // from the room; or 13.
-#[derive(Drop)]
+#[derive(Clone, Copy)]
 pub enum TakeAnswer {
     Going,
     Control(CanFrame),
@@ -73,14 +75,14 @@ pub enum TakeAnswer {
     Refused,
 }
 
-#[derive(Drop)]
+#[derive(Clone, Copy)]
 pub struct Taken {
     pub answer: TakeAnswer,
     pub receiver: Receiver,
 }
 
 // How far an exchange is: this frame is on the line; a message of this length stands in the room; or it failed.
-#[derive(Drop)]
+#[derive(Clone, Copy)]
 pub enum Stage {
     Coming(CanFrame),
     Arrived(usize),
@@ -88,7 +90,7 @@ pub enum Stage {
 }
 
 // A sender and a receiver that are joined by a line.
-#[derive(Drop)]
+#[derive(Clone, Copy)]
 pub struct Line {
     pub sender: Sender,
     pub receiver: Receiver,

@@ -6,6 +6,7 @@
 //   sender    a new idle sender; the message lent to next is that of the last start that was accepted
 //   >         a step, and in the next line, which begins with <, what it answers, and a receiver's room
 //   #         a remark
+#![tactic(auto)]
 use transport::{CanFrame, FlowAnswer, Next, Receiver, Sender, Started, TakeAnswer};
 
 type Line = [u8; 16384];
@@ -15,7 +16,7 @@ type Room = [u8; 4224];
 type Message = [u8; 4224];
 
 // How much of the room is lent, and what flow control is to say.
-#[derive(Drop)]
+#[derive(Clone, Copy)]
 struct Lent {
     space: usize,
     block: u8,
@@ -23,7 +24,7 @@ struct Lent {
 }
 
 // The steps that ran and that differed, and the line that was read last.
-#[derive(Drop)]
+#[derive(Clone, Copy)]
 struct Tally {
     ran: u32,
     differed: u32,
@@ -31,7 +32,7 @@ struct Tally {
 }
 
 // A story so far; of the message, its length.
-#[derive(Drop)]
+#[derive(Clone, Copy)]
 struct Story {
     receiver: Receiver,
     sender: Sender,

@@ -1,0 +1,11 @@
+use mathlib.Core.Path.{◌∙◌, ap}
+use borrow.Author.Rules.{rules}
+use Rattle.manual.specs.Words.{nat_of}
+use Rattle.config.proofs.SignedInCode.{back}
+use Rattle.config.proofs.count_in_row.Goals as goal
+
+pub returns : goal.returns
+returns c =
+    c.count_of.ensures
+    ∙ ap nat_of
+    (back c.number_in_row.result c.number_in_row.type_inv ∙ c.number_in_row.ensures)

@@ -1,0 +1,8 @@
+use mathlib.Core.Path.{ap}
+use Prim.Native.Nat.{ℕ}
+use lib.Dec.{eqb}
+use borrow.Author.Rules.{rules}
+use Rattle.config.proofs.has_code.Goals as goal
+
+pub returns : goal.returns
+returns c = ap (λ (own : ℕ). eqb own c.args.code) c.code_of.ensures

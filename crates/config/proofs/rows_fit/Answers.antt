@@ -1,0 +1,25 @@
+use mathlib.Core.Path.{◌≡◌, sym}
+use Prim.Native.Nat.{◌-◌, ◌≤◌}
+use native.Mathlib.Omega.{arith}
+use Rattle.manual.specs.Words.{all_below}
+use Rattle.config.specs.Rows.{row_fits}
+use Rattle.config.proofs.Tests.{all_none, all_more}
+use Rattle.config.proofs.rows_fit.Goals as goal
+
+pub loop-event-init : goal.loop-event-init
+loop-event-init c = (omega arith, sym (all_none _))
+
+pub row_fits-fit-requires : goal.row_fits-fit-requires
+row_fits-fit-requires c =
+    record {
+      event_below_lem = omega (arith, c.requires.most);
+      within = omega (arith, c.requires.within);
+    }
+
+pub loop-event-preserved : goal.loop-event-preserved
+loop-event-preserved c = (omega arith, rw (all_more, c.loop-event.invariant.1, c.row_fits-fit.ensures))
+
+pub returns : goal.returns
+returns c =
+    let e : c.loop-event.event ≡ c.args.n = omega arith in
+    rw (c.loop-event.invariant.1, e)

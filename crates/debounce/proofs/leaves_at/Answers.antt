@@ -1,0 +1,8 @@
+use mir.Facts.{to_z-of_z}
+use borrow.Author.Rules.{rules}
+use Rattle.manual.specs.Debouncing.{leaves_at}
+use Rattle.debounce.proofs.leaves_at.Goals as goal
+
+pub returns : goal.returns
+unfolding leaves_at
+returns c = simp (to_z-of_z c.ranges.d, c.verdict_at.ensures)

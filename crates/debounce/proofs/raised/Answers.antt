@@ -1,0 +1,24 @@
+use native.Mathlib.Omega.{arith}
+use mir.Facts.{to_z-of_z}
+use borrow.Author.Rules.{rules}
+use Rattle.debounce.proofs.SmallNumbersLaws.{abs_start, held}
+use Rattle.debounce.proofs.raised.Goals as goal
+
+pub plus-requires : goal.plus-requires
+plus-requires c =
+    let a = c.args in
+    rw (
+      held c.start.ensures c.start.type_inv,
+      to_z-of_z c.ranges.d,
+      to_z-of_z c.ranges.up,
+    )
+    (omega (arith, abs_start a.jump a.d))
+
+pub returns : goal.returns
+returns c =
+    simp (
+      held c.plus.ensures c.plus.type_inv,
+      held c.start.ensures c.start.type_inv,
+      to_z-of_z c.ranges.d,
+      to_z-of_z c.ranges.up,
+    )

@@ -1,0 +1,25 @@
+use mathlib.Core.Path.{sym, ap, ◌∙◌}
+use native.Mathlib.Omega.{arith}
+use lib.ListN.{length, take}
+use Rattle.writing.proofs.PartlyWritten.{laid_whole}
+use Rattle.memory.proofs.PlacesLaws.{front_long}
+use borrow.Author.Rules.{rules}
+use Rattle.memory.proofs.copy_first.Goals as goal
+
+pub slice_bounds-copy_bytes-end : goal.slice_bounds-copy_bytes-end
+slice_bounds-copy_bytes-end c =
+    let pre = c.requires in
+    sym (front_long _ _ _ _ _ pre.0 c.payload_at-payload.ensures pre.1)
+
+pub copy_bytes-requires : goal.copy_bytes-requires
+copy_bytes-requires c =
+    let pre = c.requires in
+    omega (arith, front_long _ _ _ _ _ pre.0 c.payload_at-payload.ensures pre.1)
+
+pub returns : goal.returns
+returns c =
+    let first = c.args.first.now in
+    let payload = c.payload_at-payload.ensures in
+    c.copy_bytes.ensures
+    ∙ laid_whole _ first (omega (arith, front_long _ _ _ _ _ c.requires.0 payload c.requires.1))
+    ∙ ap (take (length first)) payload

@@ -1,0 +1,22 @@
+use mathlib.Core.Path.{◌≡◌, refl, sym, ◌∙◌}
+use mathlib.Core.Bool.{true, false}
+use Prim.Native.Nat.{◌≤◌, ◌<◌, ◌-◌}
+use native.Mathlib.Omega.{arith}
+use borrow.Author.Tests.{not-true, not-false}
+use lib.ListN.{length, drop}
+use Rattle.history.specs.Words.{all_of}
+use Rattle.manual.specs.Memory.{entries_of}
+use Rattle.memory.specs.Places.{blank, at_place}
+use Rattle.memory.specs.Judgement.{sound_entry}
+use Rattle.memory.proofs.PlacesLaws.{entries_are_count}
+use Rattle.memory.proofs.JudgementLaws.{all_ends, all_goes_on, all_through}
+use Rattle.memory.proofs.each_ok.Given as goal
+
+abbrev pub invariant-loop-i : goal.invariant-loop-i
+invariant-loop-i l =
+    (l.i ≤ l.entries) ×
+    (all_of (sound_entry l.events l.records) (entries_of l.payload_bytes l.memory)
+    ≡ all_of (sound_entry l.events l.records) (drop l.i (entries_of l.payload_bytes l.memory)))
+
+abbrev pub decreases-loop-i : goal.decreases-loop-i
+decreases-loop-i l = l.entries - l.i

@@ -1,0 +1,5 @@
+use borrow.Author.Rules.{rules}
+use Rattle.memory.proofs.gives_way.Goals as goal
+
+pub returns : goal.returns
+returns c = rw (c.is_quiet.ensures, c.priority_of.ensures)

@@ -1,0 +1,67 @@
+use mathlib.Core.Path.{◌≡◌, refl, sym, ◌∙◌}
+use Prim.Native.Nat.{◌≤◌, ◌<◌, ◌-◌}
+use native.Mathlib.Omega.{arith}
+use lib.ListN.{length, drop}
+use Rattle.manual.specs.Memory.{is_of, entries_of}
+use Rattle.memory.specs.Places.{place_of, first_place_from}
+use Rattle.memory.proofs.PlacesLaws.{entries_are_count, first_hit, first_miss, first_end}
+use Rattle.memory.proofs.place_of.Goals as goal
+
+pub entry_count-entries-requires : goal.entry_count-entries-requires
+entry_count-entries-requires c = omega (arith, c.requires.within)
+
+pub loop-i-init : goal.loop-i-init
+loop-i-init c = (omega arith, refl)
+
+pub is_of-requires : goal.is_of-requires
+is_of-requires c =
+    record {
+      entries = c.requires;
+      below = omega (arith, c.entry_count-entries.ensures, c.loop-i-test.true);
+    }
+
+pub returns-then-is_of : goal.returns-then-is_of
+returns-then-is_of c =
+    let xs = entries_of c.args.payload_bytes c.args.memory.now in
+    let h : c.loop-i.i < length xs =
+    omega (
+      arith,
+      entries_are_count c.args.payload_bytes c.args.memory.now,
+      c.entry_count-entries.ensures,
+      c.loop-i-test.true,
+    ) in
+    sym
+    (c.loop-i.invariant.1
+    ∙ first_hit (is_of c.args.event.0) xs c.loop-i.i h
+    (sym c.is_of.ensures ∙ c.if-is_of.true))
+
+pub loop-i-preserved : goal.loop-i-preserved
+loop-i-preserved c =
+    let xs = entries_of c.args.payload_bytes c.args.memory.now in
+    let h : c.loop-i.i < length xs =
+    omega (
+      arith,
+      entries_are_count c.args.payload_bytes c.args.memory.now,
+      c.entry_count-entries.ensures,
+      c.loop-i-test.true,
+    ) in (
+      omega arith,
+      c.loop-i.invariant.1
+          ∙ first_miss (is_of c.args.event.0) xs c.loop-i.i h
+          (sym c.is_of.ensures ∙ c.if-is_of.false),
+    )
+
+pub returns : goal.returns
+returns c =
+    let xs = entries_of c.args.payload_bytes
+    c.args.memory.now in
+    sym
+    (c.loop-i.invariant.1
+    ∙ first_end (is_of c.args.event.0) xs c.loop-i.i
+    (omega (
+      arith,
+      entries_are_count c.args.payload_bytes
+          c.args.memory.now,
+      c.entry_count-entries.ensures,
+      c.loop-i-test.false,
+    )))

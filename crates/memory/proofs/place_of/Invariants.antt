@@ -1,0 +1,17 @@
+use mathlib.Core.Path.{◌≡◌, refl, sym, ◌∙◌}
+use Prim.Native.Nat.{◌≤◌, ◌<◌, ◌-◌}
+use native.Mathlib.Omega.{arith}
+use lib.ListN.{length, drop}
+use Rattle.manual.specs.Memory.{is_of, entries_of}
+use Rattle.memory.specs.Places.{place_of, first_place_from}
+use Rattle.memory.proofs.PlacesLaws.{entries_are_count, first_hit, first_miss, first_end}
+use Rattle.memory.proofs.place_of.Given as goal
+
+abbrev pub invariant-loop-i : goal.invariant-loop-i
+invariant-loop-i l =
+    (l.i ≤ l.entries) ×
+    (place_of l.event.0 (entries_of l.payload_bytes l.memory)
+    ≡ first_place_from (is_of l.event.0) l.i (drop l.i (entries_of l.payload_bytes l.memory)))
+
+abbrev pub decreases-loop-i : goal.decreases-loop-i
+decreases-loop-i l = l.entries - l.i

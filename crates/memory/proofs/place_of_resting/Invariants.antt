@@ -1,0 +1,20 @@
+use Rattle.memory.proofs.VictimLaws.{rests_at}
+use mathlib.Core.Path.{◌≡◌, refl, sym, ap, ◌∙◌}
+use Prim.Native.Nat.{ℕ, ◌≤◌, ◌<◌, ◌-◌}
+use native.Mathlib.Omega.{arith}
+use lib.ListN.{length, drop}
+use Rattle.manual.specs.Configuration.{priority_of}
+use Rattle.manual.specs.Memory.{entries_of}
+use Rattle.memory.specs.Places.{first_place_from, first_place}
+use Rattle.memory.specs.Store.{quiet_in}
+use Rattle.memory.proofs.PlacesLaws.{entries_are_count, event_small, first_hit, first_miss, first_end}
+use Rattle.memory.proofs.place_of_resting.Given as goal
+
+abbrev pub invariant-loop-i : goal.invariant-loop-i
+invariant-loop-i l =
+    (l.i ≤ l.entries) ×
+    (first_place (rests_at (priority_of l.cfg) (quiet_in l.records) l.p) (entries_of l.payload_bytes l.memory)
+    ≡ first_place_from (rests_at (priority_of l.cfg) (quiet_in l.records) l.p) l.i (drop l.i (entries_of l.payload_bytes l.memory)))
+
+abbrev pub decreases-loop-i : goal.decreases-loop-i
+decreases-loop-i l = l.entries - l.i

@@ -1,0 +1,14 @@
+-- `first_bad` meets its contract.
+use Rattle.page_names.proofs.NamesLaws.{line_ends, stop_within, kept_is, bad_hit, bad_miss, no_bad}
+use Rattle.page_names.specs.Names.{bad_among, lines_of, first_bad, is_bad}
+use lib.ListN.{length, drop}
+use Prim.Native.Nat.{◌+◌, ◌-◌, ◌≤◌}
+use native.Mathlib.Omega.{arith}
+use mathlib.Core.Path.{◌≡◌, refl, sym, ap, ◌∙◌}
+use Rattle.page_names.proofs.first_bad.Given as goal
+
+abbrev pub invariant-loop-at : goal.invariant-loop-at
+invariant-loop-at l = (first_bad l.file ≡ bad_among l.number (lines_of (drop l.at l.file))) × (l.number ≤ l.at + 1)
+
+abbrev pub decreases-loop-at : goal.decreases-loop-at
+decreases-loop-at l = length l.file - l.at

@@ -1,0 +1,8 @@
+-- `is_bad` meets its contract.
+use Rattle.page_names.specs.Names.{is_bad}
+use borrow.Author.Rules.{rules}
+use Rattle.page_names.proofs.is_bad.Goals as goal
+
+pub returns : goal.returns
+unfolding is_bad
+returns c = rw c.is_good.ensures

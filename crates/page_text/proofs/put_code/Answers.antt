@@ -1,0 +1,13 @@
+-- `put_code` meets its contract.
+use native.Mathlib.Nat.{le_refl}
+use Rattle.page_text.specs.Numbers.{hex_code}
+use Rattle.page_text.proofs.TextLaws.{puts_most}
+use borrow.Author.Rules.{rules}
+use Rattle.page_text.proofs.put_code.Goals as goal
+
+pub returns : goal.returns
+unfolding hex_code
+returns c =
+    rw (← c.hex_code.ensures)
+    (puts_most (rw c.hex_code.ensures (le_refl 7))
+    c.put.ensures)

@@ -1,0 +1,6 @@
+-- `asks` meets its contract.
+use borrow.Author.Rules.{rules}
+use Rattle.receiving.proofs.asks.Goals as goal
+
+pub returns : goal.returns
+returns c = rw c.control.ensures

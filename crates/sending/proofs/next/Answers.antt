@@ -1,0 +1,6 @@
+-- `next` meets its contract.
+use borrow.Author.Rules.{rules}
+use Rattle.sending.proofs.next.Goals as goal
+
+pub returns-in-Running : goal.returns-in-Running
+returns-in-Running c = rw c.in-Running.is c.running.ensures

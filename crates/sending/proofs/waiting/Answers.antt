@@ -1,0 +1,22 @@
+-- `waiting` meets its contract.
+use borrow.Author.Tests.{not-true, not-false}
+use Rattle.transport.specs.Sending.{waiting}
+use borrow.Author.Rules.{rules}
+use Rattle.sending.proofs.waiting.Goals as goal
+
+pub returns-then-not-has : goal.returns-then-not-has
+unfolding waiting
+returns-then-not-has c =
+    simp (
+      c.refused.ensures,
+      ← c.has.ensures,
+      c.if-not-has.true,
+    )
+
+pub returns : goal.returns
+unfolding waiting
+returns c =
+    simp (
+      ← c.has.ensures,
+      c.if-not-has.false,
+    ) c.controlled.ensures
