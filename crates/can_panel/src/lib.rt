@@ -1,6 +1,7 @@
 // Document 02, W13, for a caller in C: a frame, a sender, a receiver and the answers as plain numbers and bytes, and
 // the four calls over them.
 #![tactic(auto)]
+
 ghost use Rattle.std.specs.Prelude.{◌≡◌};
 ghost use Rattle.transport.specs.Frames.{frame_of};
 ghost use Rattle.can_panel.specs.CanPanel.{sender_of, receiver_of, frame_bytes, no_frame, sender_bytes, receiver_bytes};

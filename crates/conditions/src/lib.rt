@@ -1,5 +1,6 @@
 // Document 02, W5: which of the conditions that an event needs are missing.
 #![tactic(auto)]
+
 ghost use Rattle.std.specs.Prelude.{◌≡◌, ◌<◌};
 ghost use Rattle.manual.specs.Configuration.{most_events, needed_of};
 ghost use Rattle.manual.specs.Conditions.{missing_of, lowest_missing_of, enabled};

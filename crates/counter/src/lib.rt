@@ -1,5 +1,6 @@
 // Document 02, W1, "Show how near a fault is": the fault detection counter of an event.
 #![tactic(auto)]
+
 ghost use Rattle.std.specs.Prelude.{◌≡◌, cond, List, ℕ, ◌-◌, ◌*◌, ◌/◌, ◌≤◌, ◌<◌, eqb, get_or, pos, nat_abs};
 ghost use Rattle.history.specs.StatusByte.{status_of};
 ghost use Rattle.manual.specs.declared.Board.{Board};

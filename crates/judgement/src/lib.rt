@@ -1,5 +1,6 @@
 // Document 01, "A state is well formed when …", and how every call begins.
 #![tactic(auto)]
+
 ghost use Rattle.std.specs.Prelude.{◌≡◌, true, [], pos, length, get_or, ◌+◌, ◌*◌, ◌≤◌};
 ghost use Rattle.manual.specs.declared.Board.{Board};
 ghost use Rattle.manual.specs.Words.{all_below};

@@ -1,6 +1,7 @@
 // Document 02, W13: a message goes through a sender and a receiver that an undisturbed line joins, so that the theorem
 // on both is one about their code.
 #![tactic(auto)]
+
 ghost use Rattle.std.specs.Prelude.{◌≡◌};
 ghost use Rattle.transport.specs.declared.Stage.TheVariants.{Failed};
 ghost use Rattle.transport.specs.Sending.{start};

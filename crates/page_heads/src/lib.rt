@@ -1,5 +1,6 @@
 // The parts of the page that tell of the whole machine, each put into a lent buffer.
 #![tactic(auto)]
+
 ghost use mathlib.Core.List.{flat_map};
 ghost use Rattle.std.specs.Prelude.{◌+◌, ◌*◌, ◌≤◌, length};
 ghost use Rattle.page_text.specs.Text.{Puts};

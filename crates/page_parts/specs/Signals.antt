@@ -57,15 +57,15 @@ is_set weight status = eqb (status / weight % 2) 1
 
 unfoldable pub low_names : ℕ → List ℕ
 low_names status =
-    cond (is_set 1 status) (text " test_failed") [] ++ cond (is_set 2 status) (text " test_failed_this_operation_cycle") []
+    cond (is_set 1 status) (text " testFailed") [] ++ cond (is_set 2 status) (text " testFailedThisOperationCycle") []
     ++ cond (is_set 4 status) (text " pending") [] ++ cond (is_set 8 status) (text " confirmed") []
 
 unfoldable pub high_names : ℕ → List ℕ
 high_names status =
-    cond (is_set 16 status) (text " test_not_completed_since_last_clear") []
-    ++ cond (is_set 32 status) (text " test_failed_since_last_clear") []
-    ++ cond (is_set 64 status) (text " test_not_completed_this_operation_cycle") []
-    ++ cond (is_set 128 status) (text " warning_indicator_requested") []
+    cond (is_set 16 status) (text " testNotCompletedSinceLastClear") []
+    ++ cond (is_set 32 status) (text " testFailedSinceLastClear") []
+    ++ cond (is_set 64 status) (text " testNotCompletedThisOperationCycle") []
+    ++ cond (is_set 128 status) (text " warningIndicatorRequested") []
 
 unfoldable pub bits : ℕ → List ℕ
 bits status =

@@ -1,5 +1,6 @@
 // The rows of the page that tell of one signal, each put into a lent buffer, from values that are read off the state.
 #![tactic(auto)]
+
 ghost use Rattle.std.specs.Prelude.{◌≡◌, ◌++◌, ◌+◌, ◌≤◌, length, pos, ◌+ℤ◌};
 ghost use Rattle.manual.specs.Words.{nat_of};
 ghost use Rattle.page_text.specs.Text.{text, Puts};

@@ -8,6 +8,7 @@ use Rattle.manual.specs.Memory.{entries_of}
 use Rattle.memory.proofs.PlacesLaws.{entries_are_count, event_small}
 use Rattle.memory.proofs.VictimLaws.{Best, priority_at, best_of_none, best_stays, best_changes, best_is_first}
 use Rattle.memory.proofs.place_of_greatest.Goals as goal
+use Rattle.memory.proofs.place_of_greatest.Goals.{then-top-priority, else-top-priority}
 
 pub entry_count-entries-requires : goal.entry_count-entries-requires
 entry_count-entries-requires c = omega (arith, c.requires.0.entries.within)
@@ -49,16 +50,14 @@ loop-i-preserved c =
     ∙ ap (priority_of c.args.cfg.now)
     c.event_at.ensures in (
       omega (arith, c.loop-i-test.true),
-      ⊎_elim
-          (λ v. rw (v.1, v.2, e)
-          (best_changes f c.priority_of-top.result i
-          c.loop-i.best c.loop-i.top
-          c.loop-i.invariant.1 (rw e at v.0.taken)))
-          (λ v. rw (v.1, v.2)
-          (best_stays f c.priority_of-top.result i
-          c.loop-i.best c.loop-i.top
-          c.loop-i.invariant.1 (rw e at v.0.left)))
-          c.if-top-priority.branch,
+      elim c.if-top-priority.branch [
+        | then-top-priority w ↦ rw (w.best-is, w.top-is, e)
+            (best_changes f c.priority_of-top.result i c.loop-i.best c.loop-i.top c.loop-i.invariant.1
+            (rw e at w.if-top-priority.true))
+        | else-top-priority w ↦ rw (w.best-is, w.top-is)
+            (best_stays f c.priority_of-top.result i c.loop-i.best c.loop-i.top c.loop-i.invariant.1
+            (rw e at w.if-top-priority.false))
+      ],
     )
 
 pub returns : goal.returns

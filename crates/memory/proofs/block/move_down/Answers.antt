@@ -6,11 +6,6 @@ use Rattle.memory.specs.Block.{closed}
 use Rattle.memory.proofs.BlockLaws.{closed_one}
 use Rattle.memory.proofs.block.move_down.Goals as goal
 
--- the byte that moves lies within the block
-room : (c : tie.In-loop invariant-loop decreases-loop)
-    → c.before.loop.i + c.before.before.args.width + 1 ≤ length c.before.loop.block
-room c = omega (arith, c.before.before.requires, c.loop-test.true, c.before.loop.invariant.1)
-
 pub overflow_sub-end : goal.overflow_sub-end
 overflow_sub-end c = omega (arith, c.requires)
 
@@ -18,16 +13,16 @@ pub loop-i-init : goal.loop-i-init
 loop-i-init c = (omega (arith, c.requires), refl, refl)
 
 pub overflow_add-later : goal.overflow_add-later
-overflow_add-later c = let h = room c in omega arith
+overflow_add-later c = omega (arith, c.requires, c.loop-i-test.true, c.loop-i.invariant.1)
 
 pub bounds-block-i : goal.bounds-block-i
-bounds-block-i c = let h = room c.before in omega arith
+bounds-block-i c = omega (arith, c.requires, c.loop-i-test.true, c.loop-i.invariant.1)
 
 pub bounds-block-i-in-loop-i : goal.bounds-block-i-in-loop-i
-bounds-block-i-in-loop-i c = let h = room c.before in omega arith
+bounds-block-i-in-loop-i c = omega (arith, c.requires, c.loop-i-test.true, c.loop-i.invariant.1)
 
 pub overflow_step-i : goal.overflow_step-i
-overflow_step-i c = let h = room c.before in omega arith
+overflow_step-i c = omega (arith, c.requires, c.loop-i-test.true, c.loop-i.invariant.1)
 
 pub loop-i-smaller : goal.loop-i-smaller
 loop-i-smaller c = omega (arith, c.loop-i-test.true)
@@ -37,7 +32,7 @@ loop-i-preserved c =
     let loop = c.loop-i in (
       omega (arith, c.loop-i-test.true),
       simp length-set loop.invariant.1,
-      closed_one loop.i c.args.width loop.block (room c.before) ∙ loop.invariant.2,
+      closed_one loop.i c.args.width loop.block (omega (arith, c.requires, c.loop-i-test.true, c.loop-i.invariant.1)) ∙ loop.invariant.2,
     )
 
 pub shape_of-block : goal.shape_of-block

@@ -1,0 +1,13 @@
+-- `flow` meets its contract.
+use Rattle.can_panel.specs.CanPanel.{flow_crosses}
+use borrow.Author.Rules.{rules}
+use Rattle.can_panel.proofs.flow.Goals as goal
+
+pub returns : goal.returns
+unfolding flow_crosses
+returns c =
+    rw (
+      ← c.sender_of.ensures,
+      ← c.frame_of.ensures,
+      ← c.flow-flowed.ensures,
+    ) c.flowed_bytes.ensures

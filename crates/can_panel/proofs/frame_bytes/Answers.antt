@@ -1,0 +1,6 @@
+-- `frame_bytes` meets its contract.
+use borrow.Author.Rules.{rules}
+use Rattle.can_panel.proofs.frame_bytes.Goals as goal
+
+pub returns : goal.returns
+returns c = rw c.bytes_of-bytes.ensures

@@ -1,0 +1,8 @@
+-- `next` meets its contract.
+use Rattle.can_panel.specs.CanPanel.{next_crosses}
+use borrow.Author.Rules.{rules}
+use Rattle.can_panel.proofs.next.Goals as goal
+
+pub returns : goal.returns
+unfolding next_crosses
+returns c = rw (← c.sender_of.ensures, ← c.next-next.ensures) c.next_bytes.ensures

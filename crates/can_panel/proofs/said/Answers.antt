@@ -1,0 +1,6 @@
+-- `said` meets its contract.
+use borrow.Author.Rules.{rules}
+use Rattle.can_panel.proofs.said.Goals as goal
+
+pub returns : goal.returns
+returns c = rw c.receiver_bytes.ensures

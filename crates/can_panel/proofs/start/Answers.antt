@@ -1,0 +1,8 @@
+-- `start` meets its contract.
+use Rattle.can_panel.specs.CanPanel.{start_crosses}
+use borrow.Author.Rules.{rules}
+use Rattle.can_panel.proofs.start.Goals as goal
+
+pub returns : goal.returns
+unfolding start_crosses
+returns c = rw (← c.start-started.ensures) c.started_bytes.ensures

@@ -1,0 +1,22 @@
+use mathlib.Core.Path.{◌≡◌, sym}
+use Prim.Native.Nat.{◌-◌, ◌≤◌}
+use native.Mathlib.Omega.{arith}
+use Rattle.manual.specs.Words.{all_below}
+use Rattle.manual.specs.State.{opened, stored_at}
+use Rattle.status.specs.Clauses.{bytes_ok}
+use Rattle.config.proofs.Tests.{all_none, all_more}
+use Rattle.judgement.proofs.all_bytes_ok.Goals as goal
+
+pub loop-event-init : goal.loop-event-init
+loop-event-init c = (omega arith, sym (all_none _))
+
+pub bytes_ok-ok-requires : goal.bytes_ok-ok-requires
+bytes_ok-ok-requires c = omega (arith, c.requires)
+
+pub loop-event-preserved : goal.loop-event-preserved
+loop-event-preserved c = (omega arith, rw (all_more, c.loop-event.invariant.1, c.bytes_ok-ok.ensures))
+
+pub returns : goal.returns
+returns c =
+    let e : c.loop-event.event ≡ c.args.n = omega arith in
+    rw (c.loop-event.invariant.1, e)

@@ -1,0 +1,15 @@
+use mathlib.Core.Path.{◌≡◌, sym}
+use Prim.Native.Nat.{◌-◌, ◌≤◌}
+use native.Mathlib.Omega.{arith}
+use Rattle.manual.specs.Words.{all_below}
+use Rattle.manual.specs.State.{opened, stored_at}
+use Rattle.status.specs.Clauses.{bytes_ok}
+use Rattle.config.proofs.Tests.{all_none, all_more}
+use Rattle.judgement.proofs.all_bytes_ok.Given as goal
+
+abbrev pub invariant-loop-event : goal.invariant-loop-event
+invariant-loop-event l =
+    (l.event ≤ l.n) × (l.ok ≡ all_below l.event (λ e. bytes_ok (opened (stored_at e l.records))))
+
+abbrev pub decreases-loop-event : goal.decreases-loop-event
+decreases-loop-event l = l.n - l.event

@@ -1,0 +1,24 @@
+use mathlib.Core.Path.{sym, ◌∙◌}
+use mathlib.Core.Logic.{⊎_elim}
+use Rattle.manual.specs.WellFormed.{lengths_fit}
+use Rattle.manual.specs.State.{lent}
+use Rattle.judgement.proofs.BeginLaws.{judged_in_turn}
+use borrow.Author.Rules.{rules}
+use Rattle.judgement.proofs.begin_with_lengths.Goals as goal
+use Rattle.judgement.proofs.begin_with_lengths.Goals.{then-config_ok, else-config_ok}
+
+pub lengths_fit-state_ok-requires : goal.lengths_fit-state_ok-requires
+lengths_fit-state_ok-requires c = sym c.config_ok-config_ok.ensures ∙ c.if-config_ok.true
+
+pub returns : goal.returns
+returns c =
+    let a = c.args in
+    λ b.
+    c.first_of.ensures
+    ∙ judged_in_turn a.fits c.if-config_ok.state_ok
+    (lengths_fit a.cfg.now (lent a.records.now a.debounce.now a.memory.now b))
+    c.config_ok-config_ok.ensures
+    (elim c.if-config_ok.branch [
+      | then-config_ok w ↦ rw w.if-config_ok.true (w.state_ok-is ∙ w.lengths_fit-state_ok.ensures b)
+      | else-config_ok w ↦ rw (w.state_ok-is, w.if-config_ok.false)
+    ])

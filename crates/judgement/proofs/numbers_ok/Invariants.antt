@@ -1,0 +1,18 @@
+use mathlib.Core.Path.{◌≡◌, sym}
+use Prim.Native.Nat.{◌-◌, ◌≤◌}
+use native.Mathlib.Omega.{arith}
+use lib.IntN.{pos}
+use lib.ListN.{get_or}
+use Rattle.manual.specs.Words.{all_below}
+use Rattle.manual.specs.Configuration.{events}
+use Rattle.manual.specs.WellFormed.{d_ok}
+use Rattle.debounce.proofs.SmallNumbersLaws.{held}
+use Rattle.config.proofs.Tests.{all_none, all_more}
+use Rattle.judgement.proofs.numbers_ok.Given as goal
+
+abbrev pub invariant-loop-event : goal.invariant-loop-event
+invariant-loop-event l =
+    (l.event ≤ l.event-end) × (l.ok ≡ all_below l.event (λ e. d_ok l.cfg l.board e (get_or l.debounce e (pos 0))))
+
+abbrev pub decreases-loop-event : goal.decreases-loop-event
+decreases-loop-event l = l.event-end - l.event

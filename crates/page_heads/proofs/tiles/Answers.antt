@@ -1,0 +1,23 @@
+-- `tiles` meets its contract.
+use native.Mathlib.Omega.{arith}
+use Rattle.page_text.specs.Text.{text}
+use Rattle.page_text.proofs.TextLaws.{puts_then, puts_most}
+use Rattle.page_heads.specs.Heads.{tiles}
+use borrow.Author.Rules.{rules}
+use Rattle.page_heads.proofs.tiles.Goals as goal
+
+pub returns : goal.returns
+unfolding tiles text
+returns c =
+    puts_most (omega arith)
+    (puts_then
+    (puts_then
+    (puts_then
+    (puts_then
+    (puts_then
+    (puts_then c.put-a.ensures c.put_decimal-b.ensures)
+    c.put-c.ensures)
+    c.put_decimal-d.ensures)
+    c.put-e.ensures)
+    c.put_decimal-f.ensures)
+    c.put.ensures)

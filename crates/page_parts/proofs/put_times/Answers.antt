@@ -1,0 +1,15 @@
+-- `put_times` meets its contract.
+use native.Mathlib.Omega.{arith}
+use Rattle.page_text.specs.Text.{text}
+use Rattle.page_text.proofs.TextLaws.{puts_then, puts_most}
+use borrow.Author.Rules.{rules}
+use Rattle.page_parts.proofs.put_times.Goals as goal
+
+pub returns : goal.returns
+unfolding text
+returns c =
+    puts_most (omega arith)
+    (puts_then
+    (puts_then c.put-cell.ensures
+    c.put_decimal-end.ensures)
+    c.put.ensures)
