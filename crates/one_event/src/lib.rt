@@ -1,5 +1,6 @@
 // Document 01, "Status byte" and "Memory": what happens to one event, in the lent blocks.
 #![tactic(auto)]
+
 ghost use Rattle.std.specs.Prelude.{◌≡◌, cond, List, ℕ, ◌+◌, ◌*◌, ◌≤◌, ◌<◌, ℤ, pos, length, set};
 ghost use Rattle.history.specs.StatusByte.{ages_at_stop};
 ghost use Rattle.history.specs.History.{passed, start};

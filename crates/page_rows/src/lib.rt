@@ -1,5 +1,6 @@
 // What the page tells of one signal: its values read off the lent blocks, and its rows with its name.
 #![tactic(auto)]
+
 ghost use Rattle.std.specs.Prelude.{◌≡◌, ◌+◌, ◌≤◌, length};
 ghost use Rattle.manual.specs.Configuration.{code_of, cycle_of, entry_frames};
 ghost use Rattle.manual.specs.State.{lent};

@@ -2,6 +2,7 @@
 // document 02, W1: the call that reads its fault detection counter, W5: the one that reads which of its needed
 // conditions are missing.
 #![tactic(auto)]
+
 ghost use Rattle.std.specs.Prelude.{true, ◌≡◌, [], ◌≤◌};
 ghost use Rattle.manual.specs.Configuration.{most_places, most_frame, most_payload, frame_bytes, entry_frames};
 ghost use Rattle.manual.specs.State.{lent};

@@ -1,6 +1,7 @@
 // Document 02, W7: what a call would add to the counts is known before anything lent changes. Where a count is near its
 // limit, the work of the call is done on copies of the blocks first.
 #![tactic(auto)]
+
 ghost use Rattle.std.specs.Prelude.{◌≡◌, [], ◌∷◌};
 ghost use Rattle.manual.specs.declared.Board.{Board};
 ghost use Rattle.manual.specs.State.{lent};

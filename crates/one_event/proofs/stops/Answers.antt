@@ -1,0 +1,21 @@
+use Rattle.one_event.proofs.LentLaws.{stops_is}
+use borrow.Author.Rules.{rules}
+use Rattle.one_event.proofs.stops.Goals as goal
+
+pub stop_record-aged-requires : goal.stop_record-aged-requires
+stop_record-aged-requires c =
+    let fits = c.requires in
+    record {
+      configured = fits.configured;
+      below = fits.blocks.below;
+      records_fit_lem = fits.blocks.records_fit_lem;
+      kept = fits.kept;
+    }
+
+pub returns : goal.returns
+returns c =
+    let a = c.args in
+    stops_is a.cfg.now a.event.0 a.records.now a.debounce.now a.memory.now
+    c.reset_number.ensures
+    c.stop_record-aged.ensures.0 c.stop_record-aged.ensures.1
+    c.entry_leaves_if.ensures

@@ -1,0 +1,11 @@
+-- `four` meets its contract.
+use Rattle.manual.specs.Answers.{first_that_applies}
+use Rattle.queries.proofs.four.Goals as goal
+
+pub returns-then-no_such : goal.returns-then-no_such
+unfolding first_that_applies
+returns-then-no_such c = rw c.if-no_such.true
+
+pub returns : goal.returns
+unfolding first_that_applies
+returns c = rw c.if-no_such.false
