@@ -1,5 +1,6 @@
 // Document 01, "Status byte": the calls that start and stop a cycle.
 #![tactic(auto)]
+
 ghost use Rattle.std.specs.Prelude.{◌≡◌, true, cond, List, [], ℕ, ◌+◌, ◌*◌, ◌≤◌, ◌<◌, ltb, ℤ, length};
 ghost use Rattle.history.specs.History.{start};
 ghost use Rattle.manual.specs.declared.Board.{Board};

@@ -1,5 +1,6 @@
 // Document 01, "Fresh: status 50h, K = h = g = 0, D = 0, memory empty (all bytes 0), cycles stopped, overflow clear."
 #![tactic(auto)]
+
 ghost use Rattle.std.specs.Prelude.{◌≡◌, true, [], ◌+◌, ◌*◌, ◌≤◌, pos, length, replicate};
 ghost use Rattle.history.specs.StatusByte.{fresh_record};
 ghost use Rattle.manual.specs.declared.Board.{Board};

@@ -1,6 +1,7 @@
 // Document 01, "report" and "tick": the two calls that bring results to the events. Document 02, W7: what they add to
 // the five counts.
 #![tactic(auto)]
+
 use judgement::Check;
 use manual::{Answer, Board, EventNumber, Refusal, ReportAnswer, ReportReturned, Returned};
 use one_report::accept_report;

@@ -1,6 +1,7 @@
 // Document 02, W10, "A page of untested signals": the calls that read the table of counts and the paint of an event,
 // and the call that lists the grey events.
 #![tactic(auto)]
+
 ghost use Rattle.std.specs.Prelude.{◌≡◌, true, List, [], ◌∷◌, ℕ, ◌+◌, ltb, ℤ, length};
 ghost use Rattle.manual.specs.declared.Board.{Board};
 ghost use Rattle.manual.specs.Configuration.{config_ok};

@@ -1,0 +1,30 @@
+-- `accept_start` meets its contract.
+use mathlib.Core.Path.{◌≡◌, refl, ap, ◌∙◌}
+use mathlib.Core.Bool.{true}
+use mathlib.Core.List.{List}
+use Prim.Native.Nat.{ℕ, ◌-◌, ◌≤◌, ◌<◌}
+use native.Mathlib.Omega.{arith}
+use lib.IntN.{ℤ}
+use lib.ListN.{length}
+use Rattle.history.specs.History.{start}
+use Rattle.manual.specs.Words.{for_below}
+use Rattle.manual.specs.Configuration.{events}
+use Rattle.manual.specs.State.{lent, with_cycle}
+use Rattle.manual.specs.OneEvent.{happens}
+use Rattle.manual.specs.Calls.{of_cycle}
+use Rattle.one_event.proofs.TurnsLaws.{turn, no_turn, next_turn, last_turn}
+use Rattle.cycles.proofs.CyclesLaws.{record_within}
+use borrow.Author.Rules.{rules}
+use Rattle.cycles.proofs.accept_start.Given as goal
+
+abbrev pub invariant-loop-event : goal.invariant-loop-event
+invariant-loop-event l =
+    (l.event ≤ l.event-end)
+    ×
+    (((d : List ℤ) (m : List ℕ)
+    → lent l.records d m l.board
+    ≡ for_below l.event (turn (of_cycle l.cfg l.cycle) (happens l.cfg start)) (lent l.initial.records d m l.board))
+    × (length l.records ≡ length l.initial.records))
+
+abbrev pub decreases-loop-event : goal.decreases-loop-event
+decreases-loop-event l = l.event-end - l.event

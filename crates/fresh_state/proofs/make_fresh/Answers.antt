@@ -1,0 +1,13 @@
+use Rattle.fresh_state.proofs.FreshLaws.{records_fit_lem, state_fresh}
+use borrow.Author.Rules.{rules}
+use Rattle.fresh_state.proofs.make_fresh.Goals as goal
+
+pub fresh_records-requires : goal.fresh_records-requires
+fresh_records-requires c = records_fit_lem _ _ _ _ c.requires
+
+pub returns : goal.returns
+returns c =
+    state_fresh _ _ _ _ c.requires
+    c.fresh_records.ensures
+    c.reset_numbers.ensures
+    c.zero_from.ensures c.stopped_board.ensures

@@ -1,0 +1,6 @@
+-- `cycle_runs` meets its contract.
+use borrow.Author.Rules.{rules}
+use Rattle.reporting.proofs.tests.cycle_runs.Goals as goal
+
+pub returns : goal.returns
+returns c = cc
