@@ -1,5 +1,6 @@
 // Document 01, "Clear, by one trouble code or FFFFFFh for all, in any cycle state".
 #![tactic(auto)]
+
 ghost use Rattle.std.specs.Prelude.{◌≡◌, true, List, [], ◌∷◌, ℕ, ◌*◌, ◌<◌, ℤ, length};
 ghost use Rattle.manual.specs.Words.{for_below};
 ghost use Rattle.manual.specs.Configuration.{Configuration, events, config_ok};

@@ -18,7 +18,7 @@ entry_count-requires c =
     let s = lent a.records.now a.debounce.now a.memory.now a.board in
     let pre = c.requires in
     let stop-events = c.stop_events-after in
-    omega (arith, counted a.cfg.now s a.cycle pre, stop-events.auto.1.1.0)
+    omega (arith, counted a.cfg.now s a.cycle pre, stop-events.auto.memory)
 
 pub overflow_sub-gone : goal.overflow_sub-gone
 overflow_sub-gone c =
@@ -26,7 +26,7 @@ overflow_sub-gone c =
     let s = lent a.records.now a.debounce.now a.memory.now a.board in
     let pre = c.requires in
     let stop-events = c.stop_events-after in
-    let entry-count = c.entry_count in
+    let entry-count = c.entry_count-before in
     fewer a.cfg.now s a.cycle pre stop-events.ensures entry-count.ensures c.entry_count.ensures
 
 pub overflow_cast-gone : goal.overflow_cast-gone
@@ -34,14 +34,14 @@ overflow_cast-gone c =
     let a = c.args in
     let s = lent a.records.now a.debounce.now a.memory.now a.board in
     let pre = c.requires in
-    let entry-count = c.entry_count in
+    let entry-count = c.entry_count-before in
     omega (arith, few a.cfg.now s a.cycle pre, entry-count.ensures)
 
 pub returns : goal.returns
 returns c =
     let a = c.args in
     let s = lent a.records.now a.debounce.now a.memory.now a.board in
-    let entry-count = c.entry_count in
+    let entry-count = c.entry_count-before in
     let after = c.stop_events-after in (
       after.ensures,
       have_aged a.cfg.now s a.cycle c.requires after.ensures entry-count.ensures

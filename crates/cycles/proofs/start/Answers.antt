@@ -25,7 +25,7 @@ returns-in-Go c =
     let accept = c.accept_start in
     accepted_by _ (rw wrong.ensures at judge.ensures) _ _ _
     c.in-Go.is
-    (c.done.ensures alone accept.new.1.0 a.debounce.now a.memory.now
+    (c.done.ensures alone accept.new.records a.debounce.now a.memory.now
     ∙ ap (done alone) (accept.ensures a.debounce.now a.memory.now))
 
 pub returns-in-Stop : goal.returns-in-Stop

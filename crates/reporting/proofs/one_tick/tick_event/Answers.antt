@@ -15,5 +15,5 @@ pub returns : goal.returns
 returns c =
     let tick-moves = c.tick_moves in
     let if1 = c.if-not-tick_moves in
-    rw (← tick-moves.ensures, not-false tick-moves.result if1.false)
+    rw (← tick-moves.ensures, if1.false)
     c.ticks.ensures

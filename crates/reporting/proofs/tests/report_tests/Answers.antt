@@ -1,6 +1,6 @@
 -- `report_tests` meets its contract: an event below n has a row.
 use native.Mathlib.Omega.{arith}
-use borrow.Author.Tests.{leb-false}
+use borrow.Author.Tests.{lt-ltb, le-ltb, lt-leb, le-leb}
 use Rattle.manual.specs.Answers.{first_that_applies}
 use Rattle.manual.proofs.ConfigurationLaws.{config_tells}
 use borrow.Author.Rules.{rules}
@@ -8,24 +8,21 @@ use Rattle.reporting.proofs.tests.report_tests.Goals as goal
 
 pub returns-then-event_refused : goal.returns-then-event_refused
 unfolding first_that_applies
-returns-then-event_refused c = simp (← c.events.ensures, c.if-event_refused.true)
+returns-then-event_refused c = simp (← c.events.ensures, le-leb _ _ c.if-event_refused.true)
 
 pub returns-then-code_refused : goal.returns-then-code_refused
 unfolding first_that_applies
-returns-then-code_refused c = simp (← c.events.ensures, c.if-event_refused.false, c.if-code_refused.true)
+returns-then-code_refused c = simp (← c.events.ensures, lt-leb _ _ c.if-event_refused.false, lt-ltb _ _ c.if-code_refused.true)
 
 pub row_tests-requires : goal.row_tests-requires
 row_tests-requires c =
     let t =
     config_tells c.args.cfg.now
     c.requires in
-    let h =
-    leb-false c.events.result
-    c.args.event.0 c.if-event_refused.false in
-    omega (arith, c.events.ensures)
+    omega (arith, c.events.ensures, c.if-event_refused.false)
 
 pub returns : goal.returns
 unfolding first_that_applies
 returns c =
-    rw (← c.events.ensures, c.if-event_refused.false, c.if-code_refused.false)
+    rw (← c.events.ensures, lt-leb _ _ c.if-event_refused.false, le-ltb _ _ c.if-code_refused.false)
     c.row_tests.ensures

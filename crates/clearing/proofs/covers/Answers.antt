@@ -1,0 +1,5 @@
+use borrow.Author.Rules.{rules}
+use Rattle.clearing.proofs.covers.Goals as goal
+
+pub returns : goal.returns
+returns c = rw c.code_within.ensures

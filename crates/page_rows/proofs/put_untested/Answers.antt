@@ -1,0 +1,15 @@
+-- `put_untested` meets its contract.
+use Rattle.page_text.proofs.TextLaws.{puts_none}
+use borrow.Author.Tests.{eq-eqb, ne_eqb}
+use borrow.Author.Rules.{rules}
+use Rattle.page_rows.proofs.put_untested.Goals as goal
+
+pub returns-then-paint_number-ne0 : goal.returns-then-paint_number-ne0
+returns-then-paint_number-ne0 c = rw (← c.paint_number.ensures, ne_eqb _ _ c.if-paint_number-ne0.true) puts_none
+
+pub returns : goal.returns
+returns c =
+    rw (
+      ← c.paint_number.ensures,
+      eq-eqb _ _ c.if-paint_number-ne0.false,
+    ) c.untested_row.ensures
