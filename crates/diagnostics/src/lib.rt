@@ -1,5 +1,6 @@
 // Document 01, "Diagnostic requests", with the sub-functions of document 02, W1 and W4.
 #![tactic(auto)]
+
 ghost use Rattle.std.specs.Prelude.{◌≡◌, true, cond, List, [], ◌∷◌, ◌+◌, ◌*◌, ◌%◌, ◌<◌, ◌≤◌, ℤ, pos, length, get_or, eqb, ltb};
 ghost use Rattle.manual.specs.Words.{count_below, three_at, between, twos_complement};
 ghost use Rattle.manual.specs.Configuration.{Configuration, most_events, events, entry_frames, config_ok};

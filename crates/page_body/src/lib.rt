@@ -1,5 +1,6 @@
 // The page below its style: every part of it put into a lent buffer, in their order.
 #![tactic(auto)]
+
 ghost use Rattle.std.specs.Prelude.{◌≡◌, true, List, ℕ, ◌+◌, ◌≤◌, ℤ, length};
 ghost use Rattle.manual.specs.Configuration.{config_ok};
 ghost use Rattle.judgement.specs.Fits.{RecordsFor};

@@ -1,5 +1,6 @@
 // Document 01, "Replay program": what its input asks for, and one call of it made, with its line.
 #![tactic(auto)]
+
 ghost use Rattle.std.specs.Prelude.{◌≡◌, ◌≤◌, ◌<◌, pos, length, take};
 ghost use Rattle.manual.specs.Words.{between, nat_of};
 ghost use Rattle.manual.specs.Configuration.{most_numbers};

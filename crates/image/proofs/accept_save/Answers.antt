@@ -8,9 +8,8 @@ use native.Mathlib.Omega.{arith}
 use borrow.Author.Rules.{rules}
 use Rattle.image.proofs.accept_save.Goals as goal
 
--- UNRESOLVED
-used-length-requires : tie.Need-used-length-requires
-used-length-requires c κs = counted _ _ _ c.before.before.before.requires.0
+pub used_length-used-requires : goal.used_length-used-requires
+used_length-used-requires c = counted _ _ _ c.requires.0
 
 pub slice_bounds-write_image-end : goal.slice_bounds-write_image-end
 slice_bounds-write_image-end c =

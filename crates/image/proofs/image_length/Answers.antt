@@ -7,9 +7,8 @@ use Rattle.image.proofs.SaveLaws.{counted, size_most, image_length}
 use borrow.Author.Rules.{rules}
 use Rattle.image.proofs.image_length.Goals as goal
 
--- UNRESOLVED
-used-length-requires : tie.Need-used-length-requires
-used-length-requires c κs = counted _ _ _ c.before.before.requires
+pub used_length-requires : goal.used_length-requires
+used_length-requires c = counted _ _ _ c.requires
 
 pub overflow_add-result-2 : goal.overflow_add-result-2
 overflow_add-result-2 c =

@@ -7,9 +7,6 @@ use Rattle.manual.proofs.ConfigurationLaws.{config_tells}
 use borrow.Author.Rules.{rules}
 use Rattle.image.proofs.used_length.Goals as goal
 
-used-length-spec = tie.close
-    (tie.spec (λ c κs. search rules) bytes-in-use-requires returns)
-
 pub bytes_in_use-requires : goal.bytes_in_use-requires
 bytes_in_use-requires c =
     let t = config_tells _ c.requires.accepted in (

@@ -1,0 +1,36 @@
+use mathlib.Core.Path.{sym, ap, ◌∙◌}
+use Rattle.manual.specs.State.{lent}
+use Rattle.diagnostics.specs.Replies.{code_of14}
+use Rattle.diagnostics.proofs.RequestLaws.{asks_14, asks_none, no_limit, limit_is}
+use borrow.Author.Rules.{rules}
+use Rattle.diagnostics.proofs.judge_limit.Goals as goal
+
+pub returns-in-Clear : goal.returns-in-Clear
+returns-in-Clear c =
+    let a = c.args in
+    let s = lent a.records.now a.debounce.now a.memory.now a.board in
+    let clear-request = c.clear_request in
+    let byte_of = c.byte_of in
+    let if1 = c.if-byte_of-eq-SERVICE_14 in
+    let told = ap (code_of14 a.cfg.now) (sym c.in-Clear.is) ∙ clear-request.ensures.1 in
+    limit_is a.cfg.now a.request.now a.counts.now s
+    (asks_14 a.cfg.now a.request.now byte_of.ensures if1.true told) c.carries_past-past.ensures
+    c.limit_test.ensures
+
+pub returns-in-Negative : goal.returns-in-Negative
+returns-in-Negative c =
+    let a = c.args in
+    let s = lent a.records.now a.debounce.now a.memory.now a.board in
+    let byte_of = c.byte_of in
+    let if1 = c.if-byte_of-eq-SERVICE_14 in
+    let told = ap (code_of14 a.cfg.now) (sym c.in-Negative.is) ∙
+    c.clear_request.ensures.1 in
+    no_limit a.cfg.now a.request.now a.counts.now s
+    (asks_14 a.cfg.now a.request.now byte_of.ensures if1.true told)
+
+pub returns-else-byte_of-eq-SERVICE_14 : goal.returns-else-byte_of-eq-SERVICE_14
+returns-else-byte_of-eq-SERVICE_14 c =
+    let a = c.args in
+    let s = lent a.records.now a.debounce.now a.memory.now a.board in
+    no_limit a.cfg.now a.request.now a.counts.now s
+    (asks_none a.cfg.now a.request.now c.byte_of.ensures c.if-byte_of-eq-SERVICE_14.false)

@@ -1,0 +1,16 @@
+use mathlib.Core.Path.{◌≡◌, sym}
+use Prim.Native.Nat.{◌-◌, ◌≤◌}
+use native.Mathlib.Omega.{arith}
+use Rattle.manual.specs.Words.{count_below}
+use Rattle.manual.proofs.ConfigurationLaws.{config_tells}
+use Rattle.manual.proofs.BelowLaws.{count_none, count_more, count_most}
+use Rattle.diagnostics.specs.Replies.{holding, asks}
+use Rattle.diagnostics.proofs.number_asked.Given as goal
+
+-- the events passed are counted
+abbrev pub invariant-loop-event : goal.invariant-loop-event
+invariant-loop-event l =
+    (l.event ≤ l.n) × (l.number ≡ count_below l.event (asks l.cfg l.asked (holding l.records l.debounce)))
+
+abbrev pub decreases-loop-event : goal.decreases-loop-event
+decreases-loop-event l = l.n - l.event

@@ -1,0 +1,5 @@
+use borrow.Author.Rules.{rules}
+use Rattle.diagnostics.proofs.suppresses.Goals as goal
+
+pub returns : goal.returns
+returns c cfg = rw (← c.byte_of.ensures)

@@ -1,0 +1,22 @@
+use mathlib.Core.Path.{◌≡◌, refl, sym, ◌∙◌}
+use Prim.Native.Nat.{◌-◌, ◌≤◌}
+use native.Mathlib.Omega.{arith}
+use lib.ListN.{length}
+use Rattle.manual.specs.Words.{join_below}
+use Rattle.manual.specs.Diagnostics.{lines}
+use Rattle.manual.proofs.BelowLaws.{join_none, join_more, join_within}
+use Rattle.writing.specs.Writing.{written, append}
+use Rattle.writing.proofs.WritingLaws.{append_none, append_then, append_next}
+use Rattle.diagnostics.specs.Replies.{holding, line_if_asked}
+use Rattle.diagnostics.proofs.write_lines.Given as goal
+
+-- the lines of the events passed stand in the room
+abbrev pub invariant-loop-event : goal.invariant-loop-event
+invariant-loop-event l =
+    (l.event ≤ l.n) ×
+    (written l.next l.room
+    ≡ append (join_below l.event (line_if_asked l.cfg l.asked (holding l.records l.debounce))) (written l.at l.initial.room))
+    × (length l.room ≡ length l.initial.room)
+
+abbrev pub decreases-loop-event : goal.decreases-loop-event
+decreases-loop-event l = l.n - l.event

@@ -1,0 +1,12 @@
+-- `cycles_head_end` meets its contract.
+use Rattle.page_body.specs.Body.{cycles_head_end}
+use Rattle.page_text.proofs.TextLaws.{puts_then, puts_most}
+use Rattle.page_text.specs.Text.{text}
+use native.Mathlib.Omega.{arith}
+use borrow.Author.Rules.{rules}
+use Rattle.page_body.proofs.cycles_head_end.Goals as goal
+
+pub returns : goal.returns
+unfolding cycles_head_end text
+returns c =
+    puts_most (omega arith) (puts_then (puts_then (puts_then c.put-a.ensures c.put-b.ensures) c.put-c.ensures) c.put.ensures)

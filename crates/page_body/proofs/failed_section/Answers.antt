@@ -1,0 +1,12 @@
+-- `failed_section` meets its contract.
+use Rattle.page_body.specs.Body.{failed_section}
+use Rattle.page_text.proofs.TextLaws.{puts_then, puts_most}
+use Rattle.page_text.specs.Text.{text}
+use native.Mathlib.Omega.{arith}
+use borrow.Author.Rules.{rules}
+use Rattle.page_body.proofs.failed_section.Goals as goal
+
+pub returns : goal.returns
+unfolding failed_section text
+returns c =
+    puts_most (omega arith) (puts_then c.put-a.ensures c.failed_list.ensures)
