@@ -1,6 +1,7 @@
 // The sixteen calls for a caller in C, as grelpicado.h declares them. Each reads the board's bytes, makes the call, and
 // hands back its numbers and the board. Those of replies over CAN stand in can.rt.
 #![tactic(auto)]
+
 ghost use Rattle.std.specs.Prelude.{◌≡◌, cond, List, [], ℕ, eqb, ℤ};
 ghost use Rattle.manual.specs.State.{State, lent};
 ghost use Rattle.manual.specs.Answers.{Beside, lent_counts, lent_both, alone, lent_room};

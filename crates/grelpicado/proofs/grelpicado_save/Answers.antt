@@ -1,0 +1,21 @@
+-- `grelpicado_save` meets its contract.
+use borrow.Author.Rules.{rules}
+use Rattle.manual.specs.Answers.{lent_room}
+use Rattle.manual.specs.State.{lent}
+use Rattle.manual.specs.Image.{save}
+use Rattle.grelpicado.specs.Panel.{crosses_without_board}
+use Rattle.grelpicado.proofs.PanelLaws.{through}
+use Rattle.grelpicado.proofs.grelpicado_save.Goals as goal
+
+pub returns : goal.returns
+returns c =
+    let a = c.args in
+    through crosses_without_board
+    (λ b. save a.cfg.now (lent_room a.room.now)
+    (lent a.records.now a.debounce.now a.memory.now b))
+    a.board
+    (c.length_of.ensures
+    (lent a.records.now a.debounce.now a.memory.now
+    c.board_of-given.result)
+    _ a.board)
+    c.save-answer.ensures c.board_of-given.ensures
