@@ -23,7 +23,7 @@ use Rattle.memory.specs.InOrder.{InOrder}
 use Rattle.memory.specs.Store.{MayStore, quiet_in, Left, left_with, left_by, admits, stores}
 use Rattle.memory.proofs.PlacesLaws.{entries_are_count, found, found_nothing, all_places, at_each_place}
 use Rattle.memory.proofs.SurgeryLaws.{entries_fit, room_at_end, added_at, place_framed, replaced_at}
-use Rattle.memory.proofs.SurgeryLaws.{place_fits, front, front_in_order, front_entries, forgotten_in_front}
+use Rattle.memory.proofs.SurgeryLaws.{place_fits, front, front_in_order, front_entries, forgotten_in_front, forgotten_at}
 use Rattle.memory.proofs.SurgeryLaws.{forgotten_nothing}
 use Rattle.memory.proofs.VictimLaws.{entry_in, victim_entry, victim_inside}
 
@@ -45,17 +45,23 @@ module _ (n M F₀ F : ℕ) (m : List ℕ) (o₀ : InOrder n M F₀ m) (f : F �
   pub used_within : {used : ℕ} → used ≡ bytes_in_use F (entry_count m) → used ≤ length m
   used_within u = omega (arith, may_seek.within, u)
 
-  pub may_remove : (p : Place) → place_of e (entries_of F m) ≡ At p → PlaceFits F (front F m) p.0
-  may_remove p h =
+  pub may_remove : (p : Place) → place_of e (entries_of F m) ≡ At p → PlaceFits F m p.0
+  may_remove p h = place_fits n M F m ordered (is_of e) p h
+
+  pub may_remove_in_front : (p : Place) → place_of e (entries_of F m) ≡ At p → PlaceFits F (front F m) p.0
+  may_remove_in_front p h =
       place_fits n (entry_count m) F (front F m) (front_in_order n M F m ordered) (is_of e) p
       (ap (place_of e) (front_entries n M F m ordered) ∙ h)
 
   abbrev forgot : ℕ → List ℕ
   forgot k = memory_of M k (without e (entries_of k m))
 
-  pub forgets : (p : Place) → place_of e (entries_of F m) ≡ At p
+  pub forgets : (p : Place) → place_of e (entries_of F m) ≡ At p → removed F p.0 m ≡ forgot F₀
+  forgets p h = forgotten_at n M F m ordered e p h ∙ ap forgot f
+
+  pub forgets_in_front : (p : Place) → place_of e (entries_of F m) ≡ At p
       → removed F p.0 (front F m) ++ drop (bytes_in_use F (entry_count m)) m ≡ forgot F₀
-  forgets p h = forgotten_in_front n M F m ordered e p h ∙ ap forgot f
+  forgets_in_front p h = forgotten_in_front n M F m ordered e p h ∙ ap forgot f
 
   pub forgets_nothing : place_of e (entries_of F m) ≡ Nothing → m ≡ forgot F₀
   forgets_nothing h = forgotten_nothing n M F m ordered e h ∙ ap forgot f

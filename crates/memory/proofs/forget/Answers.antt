@@ -6,7 +6,7 @@ use lib.ListN.{take, drop}
 use lib.Seq.{length-take-le}
 use Rattle.memory.specs.Block.{removed}
 use Rattle.memory.specs.Fits.{PlaceFits}
-use Rattle.memory.proofs.StoreLaws.{may_seek, may_use, used_within, may_remove, forgets, forgets_nothing}
+use Rattle.memory.proofs.StoreLaws.{may_seek, may_use, used_within, may_remove_in_front, forgets_in_front, forgets_nothing}
 use borrow.Author.Rules.{rules}
 use Rattle.memory.proofs.forget.Goals as goal
 
@@ -39,7 +39,7 @@ remove-requires c =
     let entry-frames = c.entry_frames-payload_bytes in
     subst (λ (k : ℕ). PlaceFits entry-frames.result (take k a.memory.now) c.in-At.place.0)
     (sym c.bytes_in_use-used.ensures)
-    (may_remove _ _ _ _ _ c.requires entry-frames.ensures a.event.0 _
+    (may_remove_in_front _ _ _ _ _ c.requires entry-frames.ensures a.event.0 _
     (sym c.place_of-own.ensures ∙ c.in-At.is))
 
 pub returns-in-At : goal.returns-in-At
@@ -50,7 +50,7 @@ returns-in-At c =
     let m = a.memory.now in
     ap (λ (l : List ℕ). l ++ drop used.result m) c.remove.ensures
     ∙ ap (λ (k : ℕ). removed entry-frames.result c.in-At.place.0 (take k m) ++ drop k m) used.ensures
-    ∙ forgets _ _ _ _ _ c.requires entry-frames.ensures a.event.0 _
+    ∙ forgets_in_front _ _ _ _ _ c.requires entry-frames.ensures a.event.0 _
     (sym c.place_of-own.ensures ∙ c.in-At.is)
 
 pub returns-in-Nothing : goal.returns-in-Nothing
