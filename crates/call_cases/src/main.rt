@@ -9,11 +9,15 @@
 //   =       those after the call; where there is none, they are as before
 //   #       a remark
 #![tactic(auto)]
+
 ghost use Rattle.std.specs.Prelude.{◌≤◌};
 
 use manual::{
     Board, EventNumber, FrameAnswer, FramePart, LengthAnswer, Paint, Returned, Verdict, Which,
 };
+use std::fs::File;
+use std::os::fd::AsRawFd;
+use std::rt::Files;
 
 // How much of each block is lent, and the board.
 #[derive(Clone, Copy)]
@@ -1128,15 +1132,14 @@ fn run_lines(name: &[u8], fd: i32) -> Tally {
     now.tally
 }
 
-fn run_file(name: &[u8]) {
-    let fd = os::open_read(name);
-    if fd < 0 {
+fn run_file(rt: &impl Files<File = File>, name: &[u8]) {
+    let Some(file) = files::open_read(rt, name) else {
         say(name);
         say(b": cannot be read\n");
         return;
-    }
-    let tally = run_lines(name, fd);
-    libc::close(fd);
+    };
+    let tally = run_lines(name, file.as_raw_fd());
+    drop(file);
     say(name);
     say(b": ");
     io::print_decimal(1, tally.ran as u64);
@@ -1145,11 +1148,11 @@ fn run_file(name: &[u8]) {
     say(b" differed\n");
 }
 
-fn main() {
-    run_file(b"calls.txt");
-    run_file(b"counts.txt");
-    run_file(b"document.txt");
-    run_file(b"states.txt");
-    run_file(b"stories.txt");
-    run_file(b"untested.txt");
+fn main(rt: HostRuntime) {
+    run_file(&rt, b"calls.txt");
+    run_file(&rt, b"counts.txt");
+    run_file(&rt, b"document.txt");
+    run_file(&rt, b"states.txt");
+    run_file(&rt, b"stories.txt");
+    run_file(&rt, b"untested.txt");
 }

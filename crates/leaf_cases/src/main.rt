@@ -1,6 +1,7 @@
 // Runs the leaves of the manager on cases whose answers are written from document 01, and prints each case that
 // differs, by its table and its line there, and how many ran and how many differed.
 #![tactic(auto)]
+
 ghost use Rattle.std.specs.Prelude.{◌≡◌, true, ◌≤◌, min, length};
 ghost use Rattle.manual.specs.Words.{between};
 ghost use Rattle.manual.specs.Configuration.{config_ok};

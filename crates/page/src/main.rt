@@ -1,21 +1,25 @@
 // "A support engineer has a log of a machine": reads it from standard input, as the replay program does, and writes one
 // static HTML page of the machine after the last call. Its argument names a file with the names of the signals.
 #![tactic(auto)]
+
 ghost use Rattle.std.specs.Prelude.{◌≡◌, ◌≤◌, length};
 ghost use Rattle.page_names.specs.Names.{most_names};
 
 use page_story::Names;
+use std::env::{Env, FillError};
+use std::fs::File;
+use std::rt::Files;
 
 // The names of the file that the first argument names; none without an argument.
-fn names_given(names: &mut [u8]) -> Names
+fn names_given(rt: &(impl Files<File = File> + Env), names: &mut [u8]) -> Names
     ensures { (result.length ≤ most_names) × (result.length ≤ length names.new) }
 {
-    if os::arg_count() < 2 {
-        return page_story::no_names(0);
-    }
     let mut path = [0; 4096];
-    let size = os::arg(1, &mut path);
-    page_story::read_names(&path[..size], names)
+    match rt.arg(1, &mut path) {
+        Ok(size) => page_story::read_names(rt, &path[..size], names),
+        Err(FillError::NotPresent) => page_story::no_names(0),
+        Err(FillError::TooLong) => page_story::no_names(1),
+    }
 }
 
 // Room for a page. The `ensures` gives only the length.
@@ -25,14 +29,14 @@ fn blank() -> [u8; page_story::MOST_PAGE]
     [0; page_story::MOST_PAGE]
 }
 
-fn main() {
+fn main(rt: HostRuntime) {
     let mut input = [0; 32768];
     let mut beyond = [0; 1];
     let mut names = [0; 65536];
     let mut buffer = blank();
     let size = io::read_full(0, &mut input);
     let longer = 0 < io::read_full(0, &mut beyond);
-    let given = names_given(&mut names);
+    let given = names_given(&rt, &mut names);
     let used = given.length;
     let length = page_story::page(
         &mut buffer,

@@ -1,10 +1,14 @@
 // Makes the page of every case of data/ by the library function of the page program, compares it with the page that is
 // expected, and prints the file and the first line of each that differs, and how many cases ran and how many differed.
 #![tactic(auto)]
+
 ghost use Rattle.std.specs.Prelude.{◌≡◌, ◌≤◌, length};
 ghost use Rattle.page_names.specs.Names.{most_names};
 
 use page_story::Names;
+use std::fs::File;
+use std::os::fd::AsRawFd;
+use std::rt::Files;
 
 // ---- comparing
 
@@ -63,24 +67,23 @@ fn behind(at: usize) -> usize {
 }
 
 // Reads the front of a file, and answers how many bytes; 0 where it cannot be read.
-fn read_file(path: &[u8], buffer: &mut [u8]) -> usize {
-    let file = os::open_read(path);
-    if file < 0 {
+fn read_file(rt: &impl Files<File = File>, path: &[u8], buffer: &mut [u8]) -> usize {
+    let Some(file) = files::open_read(rt, path) else {
         return 0;
-    }
-    let length = io::read_full(file, buffer);
-    libc::close(file);
+    };
+    let length = io::read_full(file.as_raw_fd(), buffer);
+    drop(file);
     length
 }
 
 // The names of a case; `-` stands for no file.
-fn names_of(path: &[u8], names: &mut [u8]) -> Names
+fn names_of(rt: &impl Files<File = File>, path: &[u8], names: &mut [u8]) -> Names
     ensures { (result.length ≤ most_names) × (result.length ≤ length names.new) }
 {
     if path.len() == 1 {
         return page_story::no_names(0);
     }
-    page_story::read_names(path, names)
+    page_story::read_names(rt, path, names)
 }
 
 // Room for a page. The `ensures` gives only the length.
@@ -98,20 +101,20 @@ fn room() -> [u8; 400000]
 }
 
 // The first line in which the page differs from that of the file; 0 where there is none.
-fn differing_line_of(page: &[u8], file: &[u8]) -> u32 {
+fn differing_line_of(rt: &impl Files<File = File>, page: &[u8], file: &[u8]) -> u32 {
     let mut wanted = room();
-    let length = read_file(file, &mut wanted);
+    let length = read_file(rt, file, &mut wanted);
     differing_line(page, part(&wanted, 0, length))
 }
 
 // The first line in which the page of the log and the names differs from the expected one; 0 where there is none.
-fn run_case(log: &[u8], names: &[u8], expected: &[u8]) -> u32 {
+fn run_case(rt: &impl Files<File = File>, log: &[u8], names: &[u8], expected: &[u8]) -> u32 {
     let mut text = [0; 32769];
     let mut named = [0; 65536];
     let mut buffer = blank();
-    let size = read_file(log, &mut text);
+    let size = read_file(rt, log, &mut text);
     let longer = 32768 < size;
-    let given = names_of(names, &mut named);
+    let given = names_of(rt, names, &mut named);
     let used = given.length;
     let length = page_story::page(
         &mut buffer,
@@ -120,7 +123,7 @@ fn run_case(log: &[u8], names: &[u8], expected: &[u8]) -> u32 {
         &named[..used],
         given.unused,
     );
-    differing_line_of(&buffer[..length], expected)
+    differing_line_of(rt, &buffer[..length], expected)
 }
 
 #[derive(Clone, Copy)]
@@ -139,14 +142,19 @@ fn say_case(name: &[u8], line: u32) {
 }
 
 // Runs the case whose three files are named next: a log, its names, its page.
-fn run_next(list: &[u8], tally: Tally) -> Tally {
+fn run_next(rt: &impl Files<File = File>, list: &[u8], tally: Tally) -> Tally {
     let log = word_end(list, tally.at);
     let second = behind(log);
     let names = word_end(list, second);
     let third = behind(names);
     let expected = word_end(list, third);
     let page = part(list, third, expected);
-    let line = run_case(part(list, tally.at, log), part(list, second, names), page);
+    let line = run_case(
+        rt,
+        part(list, tally.at, log),
+        part(list, second, names),
+        page,
+    );
     if 0 < line {
         say_case(page, line);
     }
@@ -157,7 +165,7 @@ fn run_next(list: &[u8], tally: Tally) -> Tally {
     }
 }
 
-fn run_all(list: &[u8]) -> Tally {
+fn run_all(rt: &impl Files<File = File>, list: &[u8]) -> Tally {
     let mut tally = Tally {
         at: 0,
         ran: 0,
@@ -167,15 +175,15 @@ fn run_all(list: &[u8]) -> Tally {
         if list.len() <= tally.at {
             return tally;
         }
-        tally = run_next(list, tally);
+        tally = run_next(rt, list, tally);
     }
     tally
 }
 
-fn main() {
+fn main(rt: HostRuntime) {
     let mut list = [0; 4096];
-    let length = read_file(b"cases", &mut list);
-    let tally = run_all(part(&list, 0, length));
+    let length = read_file(&rt, b"cases", &mut list);
+    let tally = run_all(&rt, part(&list, 0, length));
     io::write_all(1, b"page cases: ");
     io::print_decimal(1, tally.ran as u64);
     io::write_all(1, b" ran, ");

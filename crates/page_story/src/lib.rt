@@ -1,6 +1,7 @@
 // The page of a log: its calls made on the manager as the replay program makes them, and the page of the state after
 // the last put into a buffer.
 #![tactic(auto)]
+
 ghost use Rattle.std.specs.Prelude.{◌≡◌, true, List, ℕ, ◌+◌, ◌≤◌, ◌<◌, ℤ, length};
 ghost use Rattle.manual.specs.State.{lent};
 ghost use Rattle.replay_step.specs.Beginning.{beginning};
@@ -14,6 +15,9 @@ ghost use Rattle.page_story.specs.Page.{no_state, refused_configuration, unreada
 use manual::Board;
 use page_body::Log;
 use replay_step::{Begun, Stepped};
+use std::fs::File;
+use std::os::fd::AsRawFd;
+use std::rt::Files;
 use transcript::Cursor;
 
 // ---- the calls
@@ -438,15 +442,14 @@ pub fn no_names(unused: u16) -> Names
 }
 
 // Reads the file of this path. Its end is found where a byte more than the most is asked for and not read.
-pub fn read_names(path: &[u8], names: &mut [u8]) -> Names
+pub fn read_names(rt: &impl Files<File = File>, path: &[u8], names: &mut [u8]) -> Names
     ensures { (result.length ≤ most_names) × (result.length ≤ length names.new) }
 {
-    let file = os::open_read(path);
-    if file < 0 {
+    let Some(file) = files::open_read(rt, path) else {
         return no_names(1);
-    }
-    let length = io::read_full(file, names);
-    libc::close(file);
+    };
+    let length = io::read_full(file.as_raw_fd(), names);
+    drop(file);
     if MOST_NAMES < length {
         return no_names(2);
     }

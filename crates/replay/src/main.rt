@@ -1,6 +1,7 @@
 // Document 01, "Replay program": reads a story of calls from standard input, makes them on the manager, and writes a
 // line a call.
 #![tactic(auto)]
+
 ghost use Rattle.std.specs.Prelude.{true, length};
 ghost use Rattle.replay_step.specs.Turn.{Playable, Buffers};
 

@@ -1,11 +1,15 @@
 // Plays every case of data/ through the library step of the replay program, compares what it would print with what is
 // expected, and prints the file and the first line of each that differs, and how many cases ran and how many differed.
 #![tactic(auto)]
+
 ghost use Rattle.std.specs.Prelude.{length};
 ghost use Rattle.replay_step.specs.Turn.{Playable, Buffers};
 
 use manual::Board;
 use replay_step::{Begun, Stepped};
+use std::fs::File;
+use std::os::fd::AsRawFd;
+use std::rt::Files;
 use transcript::Cursor;
 
 // ---- comparing
@@ -245,23 +249,22 @@ fn word_end(text: &[u8], from: usize) -> usize {
 }
 
 // Reads the front of a file, and answers how many bytes; 0 where it cannot be read.
-fn read_file(path: &[u8], buffer: &mut [u8]) -> usize {
-    let file = os::open_read(path);
-    if file < 0 {
+fn read_file(rt: &impl Files<File = File>, path: &[u8], buffer: &mut [u8]) -> usize {
+    let Some(file) = files::open_read(rt, path) else {
         return 0;
-    }
-    let length = io::read_full(file, buffer);
-    libc::close(file);
+    };
+    let length = io::read_full(file.as_raw_fd(), buffer);
+    drop(file);
     length
 }
 
 // The first line at which the case of these two files does not print what is expected, or more or less; 0 where there
 // is none.
-fn differing_line(input: &[u8], output: &[u8]) -> u32 {
+fn differing_line(rt: &impl Files<File = File>, input: &[u8], output: &[u8]) -> u32 {
     let mut text = [0; 32769];
     let mut expected = [0; 131072];
-    let length = read_file(input, &mut text);
-    let size = read_file(output, &mut expected);
+    let length = read_file(rt, input, &mut text);
+    let size = read_file(rt, output, &mut expected);
     let longer = 32768 < length;
     let printed = would_print(part(&text, 0, length), longer, part(&expected, 0, size));
     if printed.agrees & (printed.to == size) {
@@ -287,12 +290,12 @@ fn say_case(name: &[u8], line: u32) {
 }
 
 // Runs the case whose two files are named next.
-fn run_case(names: &[u8], tally: Tally) -> Tally {
+fn run_case(rt: &impl Files<File = File>, names: &[u8], tally: Tally) -> Tally {
     let input = word_end(names, tally.at);
     let second = behind(input, 1);
     let output = word_end(names, second);
     let name = part(names, second, output);
-    let line = differing_line(part(names, tally.at, input), name);
+    let line = differing_line(rt, part(names, tally.at, input), name);
     if 0 < line {
         say_case(name, line);
     }
@@ -303,7 +306,7 @@ fn run_case(names: &[u8], tally: Tally) -> Tally {
     }
 }
 
-fn run_all(names: &[u8]) -> Tally {
+fn run_all(rt: &impl Files<File = File>, names: &[u8]) -> Tally {
     let mut tally = Tally {
         at: 0,
         ran: 0,
@@ -313,15 +316,15 @@ fn run_all(names: &[u8]) -> Tally {
         if names.len() <= tally.at {
             return tally;
         }
-        tally = run_case(names, tally);
+        tally = run_case(rt, names, tally);
     }
     tally
 }
 
-fn main() {
+fn main(rt: HostRuntime) {
     let mut names = [0; 16384];
-    let length = read_file(b"names", &mut names);
-    let tally = run_all(part(&names, 0, length));
+    let length = read_file(&rt, b"names", &mut names);
+    let tally = run_all(&rt, part(&names, 0, length));
     io::write_all(1, b"replay cases: ");
     io::print_decimal(1, tally.ran as u64);
     io::write_all(1, b" ran, ");

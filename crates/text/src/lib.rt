@@ -1,5 +1,6 @@
 // A line of a file of stored cases, and the numbers and bytes in it. A place past the end of the line reads as byte 0.
 #![tactic(auto)]
+
 ghost use Rattle.std.specs.Prelude.{◌≡◌, ◌≤◌, length, take};
 
 // The next byte of a file.

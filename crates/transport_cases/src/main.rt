@@ -7,6 +7,10 @@
 //   >         a step, and in the next line, which begins with <, what it answers, and a receiver's room
 //   #         a remark
 #![tactic(auto)]
+
+use std::fs::File;
+use std::os::fd::AsRawFd;
+use std::rt::Files;
 use transport::{CanFrame, FlowAnswer, Next, Receiver, Sender, Started, TakeAnswer};
 
 type Line = [u8; 16384];
@@ -391,15 +395,14 @@ fn run_lines(name: &[u8], fd: i32) -> Tally {
     tally
 }
 
-fn run_file(name: &[u8]) {
-    let fd = os::open_read(name);
-    if fd < 0 {
+fn run_file(rt: &impl Files<File = File>, name: &[u8]) {
+    let Some(file) = files::open_read(rt, name) else {
         say(name);
         say(b": cannot be read\n");
         return;
-    }
-    let tally = run_lines(name, fd);
-    libc::close(fd);
+    };
+    let tally = run_lines(name, file.as_raw_fd());
+    drop(file);
     say(name);
     say(b": ");
     io::print_decimal(1, tally.ran as u64);
@@ -408,7 +411,7 @@ fn run_file(name: &[u8]) {
     say(b" differed\n");
 }
 
-fn main() {
-    run_file(b"sentences.txt");
-    run_file(b"transport.txt");
+fn main(rt: HostRuntime) {
+    run_file(&rt, b"sentences.txt");
+    run_file(&rt, b"transport.txt");
 }

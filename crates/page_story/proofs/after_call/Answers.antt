@@ -1,0 +1,6 @@
+-- `after_call` meets its contract.
+use Rattle.page_story.proofs.after_call.Goals as goal
+
+pub returns : goal.returns
+returns c =
+    λ records debounce memory. rw (← c.one_more_if.ensures)
