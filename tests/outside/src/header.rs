@@ -106,7 +106,7 @@ fn layout() -> Vec<String> {
 
 /// Names and types of a struct of the crate.
 fn fields(name: &str) -> Vec<(String, String)> {
-    let start = format!("#[repr(C)]\npub struct {name} {{\n");
+    let start = format!("#[repr(C)]\n#[derive(Clone, Copy)]\npub struct {name} {{\n");
     let crates = CRATE.split_once(&start).or(CAN_STRUCTS.split_once(&start));
     let (_, behind) = crates.expect("a crate has the struct");
     let (body, _) = behind.split_once("\n}").expect("a struct ends");
