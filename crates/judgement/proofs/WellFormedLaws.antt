@@ -11,7 +11,7 @@ use Rattle.history.specs.Words.{holds}
 use Rattle.history.proofs.WordsLaws.{and_true}
 use Rattle.manual.specs.declared.Board.{Board}
 use Rattle.manual.specs.Words.{all_below}
-use Rattle.manual.specs.Configuration.{Configuration, events, places, entry_frames, limits_of, config_ok}
+use Rattle.manual.specs.Configuration.{Configuration, events, places, limits_of, config_ok}
 use Rattle.manual.specs.State.{opened, stored_at, lent}
 use Rattle.manual.specs.WellFormed.{record_ok, d_ok, memory_fits_with, lengths_fit_with, memory_ok_with, well_formed_with}
 use Rattle.manual.proofs.ConfigurationLaws.{config_tells}

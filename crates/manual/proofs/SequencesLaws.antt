@@ -8,7 +8,7 @@ use Prim.Native.Nat.{ℕ}
 use lib.Dec.{eqb}
 use lib.ListN.{length, get_or}
 use borrow.Author.Tests.{eqb-true, eqb-false, ne_eqb, not-true}
-use Rattle.history.specs.History.{start, stop, clear, History}
+use Rattle.history.specs.History.{start, clear, History}
 use Rattle.history.proofs.WordsLaws.{and_right, and_false}
 use Rattle.manual.specs.Words.{three_at}
 use Rattle.manual.specs.Configuration.{Configuration}

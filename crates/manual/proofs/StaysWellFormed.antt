@@ -8,14 +8,13 @@ use Prim.Native.Nat.{ℕ, suc, ◌-◌, ◌*◌, ◌≤◌, ◌<◌}
 use native.Mathlib.Nat.{mul_comm, le_refl}
 use native.Mathlib.Omega.{arith}
 use lib.Dec.{eqb}
-use lib.ListN.{length, get_or, set, drop, replicate, length-drop, get_or-replicate}
+use lib.ListN.{length, get_or, set, replicate, get_or-replicate}
 use lib.Seq.{get_or-set_other}
 use lib.IntN.{ℤ, pos}
-use borrow.Author.Tests.{eqb-true, eqb-false, leb-true, le-leb, leb-false, ltb-true, lt-ltb, not-false}
-use Rattle.history.specs.Words.{all_of}
+use borrow.Author.Tests.{eqb-true, eqb-false, leb-false, not-false}
 use Rattle.history.specs.StatusByte.{EventRecord, fresh_record, fresh_failure}
 use Rattle.history.specs.History.{Token, passed, failed, start, stop, clear, step}
-use Rattle.history.proofs.WordsLaws.{and_left, and_right, part, parts}
+use Rattle.history.proofs.WordsLaws.{and_left, and_right}
 use Rattle.history.proofs.RecordStaysWellFormed.{fresh_well_formed, step_well_formed}
 use Rattle.manual.specs.declared.Board.{Board}
 use Rattle.manual.specs.declared.Verdict.{Verdict}
@@ -25,9 +24,9 @@ use Rattle.manual.specs.Configuration.{cycle_of, is_time, limits_of, config_ok}
 use Rattle.manual.specs.State.{State, Stored, opened, stored, stored_at, record_of}
 use Rattle.manual.specs.State.{runs, D, with_d, with_memory, with_board, with_cycle}
 use Rattle.manual.specs.Debouncing.{Debounced, reported, ticked}
-use Rattle.manual.specs.Memory.{Entry, event_of, entry_width, memory_length, entry_count, bytes_in_use}
-use Rattle.manual.specs.Memory.{entries_of, entries_bytes, memory_of, no_twice}
-use Rattle.manual.specs.WellFormed.{record_ok, d_ok, entries, entry_ok, well_formed}
+use Rattle.manual.specs.Memory.{entry_width, memory_length}
+use Rattle.manual.specs.Memory.{entries_bytes, memory_of, no_twice}
+use Rattle.manual.specs.WellFormed.{record_ok, d_ok, well_formed}
 use Rattle.manual.specs.OneEvent.{happens, memory_told, fails, qualifies, stops, clears, for_those}
 use Rattle.manual.specs.Answers.{Beside, Outcome, Rule, ◌if◌, first_that_applies}
 use Rattle.manual.specs.Conditions.{enabled}
@@ -37,14 +36,12 @@ use Rattle.manual.specs.Calls.{clear_rules}
 use Rattle.manual.specs.Image.{restore}
 use Rattle.manual.specs.Sequences.{Call, Fresh, Report, Tick, Start, Stop, Clear, Read}
 use Rattle.manual.specs.Sequences.{Restore, Request, begins_anew, outcome, carries_on}
-use Rattle.manual.specs.Words.{All, for_below, three_at}
-use Rattle.manual.proofs.WordsLaws.{clash, by, for_below_keeps, all_both, all_of_test, test_of_all, zeros_pass}
+use Rattle.manual.specs.Words.{for_below, three_at}
+use Rattle.manual.proofs.WordsLaws.{clash, by, for_below_keeps}
 use Rattle.manual.proofs.AnswersLaws.{numbered, none_applies, accepted}
 use Rattle.manual.proofs.ConfigurationLaws.{ConfigTells, config_tells}
 use Rattle.manual.proofs.DebouncingLaws.{zero_ok, report_ok, tick_ok, stopped_zero, DOk-by-running}
 use Rattle.manual.proofs.StateLaws.{opened_stored}
-use Rattle.manual.proofs.MemoryLaws.{Framed, EntryGood, frames, entries_length, entries_framed}
-use Rattle.manual.proofs.MemoryLaws.{memory_count, memory_length_lem, memory_tail, block_is}
 use Rattle.manual.proofs.OneEventLaws.{View, viewed, view, Acts, those_own, token_view, acts_happens, acts_d}
 use Rattle.manual.proofs.OneEventLaws.{acts_memory_told, acts_stops, acts_clears, applied_running}
 use Rattle.manual.proofs.MemoryStaysGood.{has_failed_bit, MemoryGood, made_good, bit_own, Keeps5, good_happens}

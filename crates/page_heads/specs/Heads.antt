@@ -1,6 +1,6 @@
 -- The parts of the page that tell of the whole machine. Assumes nothing.
 use Rattle.std.specs.Prelude.{Bool, not, cond, ℕ, eqb}
-use mathlib.Core.List.{List, [], ◌∷◌, ◌++◌, flat_map}
+use mathlib.Core.List.{List, [], ◌++◌, flat_map}
 use Rattle.page_text.specs.Text.{text}
 use Rattle.page_text.specs.Numbers.{decimal}
 

@@ -1,10 +1,10 @@
 -- The definitions on examples: good and bad lines, the names of codes, the number of a bad line.
 use mathlib.Core.Path.{◌≡◌, refl}
-use mathlib.Core.Bool.{Bool, true, false}
-use mathlib.Core.List.{List, [], ◌∷◌, ◌++◌, map}
+use mathlib.Core.Bool.{true, false}
+use mathlib.Core.List.{List, [], ◌∷◌, map}
 use Prim.Native.Nat.{ℕ}
 use Rattle.page_names.specs.Utf8.{after_long, after_first, after, after_all, is_text}
-use Rattle.page_names.specs.Names.{leading, code_end, name_start, is_good, worth_of, worth, code_in, lines_of, kept_of}
+use Rattle.page_names.specs.Names.{leading, code_end, name_start, is_good, worth_of, worth, lines_of, kept_of}
 use Rattle.page_names.specs.Names.{kept, is_of, name_among, name_of, is_bad, bad_among, first_bad}
 
 -- the digits 0, 9, A, F, a, f

@@ -1,7 +1,7 @@
 -- A signal in the page: "paint as colour and word, trouble code in hexadecimal, the set bits by name, fault detection
 -- counter as a bar with its number, whether it has a memory entry, its occurrence count". A signal is what document 01
 -- calls an event. Assumes nothing.
-use Rattle.std.specs.Prelude.{Bool, cond, List, [], ◌∷◌, ◌++◌, ℕ, ◌-◌, ◌/◌, ◌%◌, eqb, ltb, length}
+use Rattle.std.specs.Prelude.{Bool, cond, List, [], ◌++◌, ℕ, ◌-◌, ◌/◌, ◌%◌, eqb, ltb, length}
 use Rattle.manual.specs.declared.Paint.{Paint}
 use Rattle.manual.specs.declared.Paint.TheVariants.{Grey, Red, Live}
 use Rattle.page_text.specs.Text.{text}

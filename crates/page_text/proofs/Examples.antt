@@ -1,6 +1,6 @@
 -- The definitions on examples.
 use mathlib.Core.Path.{◌≡◌, refl}
-use mathlib.Core.List.{List, [], ◌∷◌, ◌++◌, flat_map}
+use mathlib.Core.List.{◌++◌, flat_map}
 use Rattle.page_text.specs.Text.{text}
 use Rattle.page_text.specs.Escape.{escaped_byte, escaped}
 use Rattle.page_text.specs.Numbers.{decimal, hex_digit, hex_byte, hex_code}

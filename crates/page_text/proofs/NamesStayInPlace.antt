@@ -1,13 +1,13 @@
 -- A name cannot break out of its place: whatever its bytes are, the escaped name is made of bytes to which HTML gives
 -- no meaning and of the five references, and a browser shows the name for it.
 use mathlib.Core.Path.{◌≡◌, refl, sym, subst}
-use mathlib.Core.Bool.{Bool, true, false, ◌||◌, cond}
+use mathlib.Core.Bool.{Bool, true, false, cond}
 use mathlib.Core.List.{List, [], ◌∷◌, ◌++◌, flat_map}
 use Prim.Native.Nat.{ℕ}
 use lib.Dec.{eqb}
 use borrow.Author.Tests.{eqb-true}
 use Rattle.page_text.specs.Text.{text}
-use Rattle.page_text.specs.Escape.{escaped_byte, escaped, has_meaning, Shows}
+use Rattle.page_text.specs.Escape.{escaped_byte, escaped, Shows}
 
 -- what is written for a byte that is none of the first references'
 abbrev fifth : ℕ → List ℕ

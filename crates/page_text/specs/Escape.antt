@@ -1,5 +1,5 @@
 -- Names in a page: "Every byte of a name that HTML gives a meaning is escaped." Assumes nothing.
-use Rattle.std.specs.Prelude.{◌≡◌, Bool, true, false, not, ◌||◌, cond, ℕ, eqb}
+use Rattle.std.specs.Prelude.{◌≡◌, Bool, false, ◌||◌, cond, ℕ, eqb}
 use mathlib.Core.List.{List, [], ◌∷◌, ◌++◌, flat_map}
 use Rattle.page_text.specs.Text.{text}
 

@@ -1,5 +1,5 @@
 -- Numbers in a page. Assumes nothing.
-use Rattle.std.specs.Prelude.{cond, List, [], ◌∷◌, ◌++◌, ℕ, ◌+◌, ◌/◌, ◌%◌, ltb}
+use Rattle.std.specs.Prelude.{cond, List, [], ◌∷◌, ℕ, ◌+◌, ◌/◌, ◌%◌, ltb}
 
 -- the decimal digits of a number below 100000, no zero in front
 abbrev pub digit : ℕ → ℕ

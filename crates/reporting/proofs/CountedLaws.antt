@@ -1,7 +1,7 @@
 -- What report and tick share: the counts' length is judged with 3, 12 is judged last, and where neither applies the
 -- counts may rise.
 use mathlib.Core.Path.{◌≡◌, sym, ap, ◌∙◌}
-use mathlib.Core.Bool.{Bool, true, false, ◌&&◌}
+use mathlib.Core.Bool.{Bool, false}
 use mathlib.Core.List.{List, [], ◌∷◌}
 use Prim.Native.Nat.{ℕ, ◌≤◌}
 use Rattle.history.proofs.WordsLaws.{and_left, and_right}

@@ -2,17 +2,17 @@
 use mathlib.Core.Path.{◌≡◌, refl, sym, ap, subst, ◌∙◌}
 use mathlib.Core.Bool.{true, false}
 use mathlib.Core.List.{List, []}
-use Prim.Native.Nat.{ℕ, ◌<◌}
+use Prim.Native.Nat.{ℕ}
 use lib.ListN.{length}
 use borrow.Author.Tests.{eqb-true, leb-false, not-false}
 use Rattle.manual.specs.declared.Rise.{Rise}
 use Rattle.manual.specs.declared.StoreAnswer.{StoreAnswer}
-use Rattle.manual.specs.Configuration.{Configuration, events, frame_bytes, config_ok}
+use Rattle.manual.specs.Configuration.{Configuration, events, frame_bytes}
 use Rattle.manual.specs.State.{State}
 use Rattle.manual.specs.WellFormed.{well_formed}
 use Rattle.manual.specs.Answers.{lent_counts, alone, Outcome, first_that_applies, Answered, answered, leaves}
 use Rattle.manual.specs.Counts.{of_store, rise_of, numbers, raised, carries_past, counts_fit}
-use Rattle.manual.specs.Calls.{report_did, report_log, report_rules, report_done}
+use Rattle.manual.specs.Calls.{report_log, report_rules, report_done}
 use Rattle.manual.proofs.AnswersLaws.{none_applies, three_passed}
 use Rattle.manual.proofs.EventLoops.{ready_at_once}
 use Rattle.counts.specs.Near.{AreFive}

@@ -14,7 +14,7 @@ use Rattle.transport.specs.declared.Sender.TheVariants.{Idle, Waiting, Running}
 use Rattle.transport.specs.declared.Flowed.{Flowed}
 use Rattle.transport.specs.declared.FlowAnswer.TheVariants.{Go, Wait, Aborted}
 use Rattle.transport.specs.Frames.{first, consecutive, last_number, longest, has}
-use Rattle.transport.specs.Sending.{start, flowed, controlled, waiting, flow, carries_on, sent, running}
+use Rattle.transport.specs.Sending.{start, flowed, controlled, waiting, carries_on, sent, running}
 use Rattle.transport.specs.Segments.{consecutives, segments, Step, controls, asks, after, handed, calm, is_idle}
 use Rattle.transport.specs.Segments.{sender_after, sends}
 use Rattle.transport.proofs.FramesLaws.{has_so}

@@ -1,6 +1,5 @@
 -- `flow` meets its contract.
 use Rattle.can_panel.specs.CanPanel.{flow_crosses}
-use borrow.Author.Rules.{rules}
 use Rattle.can_panel.proofs.flow.Goals as goal
 
 pub returns : goal.returns

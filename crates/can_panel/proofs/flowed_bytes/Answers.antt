@@ -1,5 +1,4 @@
 -- `flowed_bytes` meets its contract.
-use borrow.Author.Rules.{rules}
 use Rattle.can_panel.proofs.flowed_bytes.Goals as goal
 
 pub returns-in-Go : goal.returns-in-Go

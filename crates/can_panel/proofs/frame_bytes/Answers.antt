@@ -1,5 +1,4 @@
 -- `frame_bytes` meets its contract.
-use borrow.Author.Rules.{rules}
 use Rattle.can_panel.proofs.frame_bytes.Goals as goal
 
 pub returns : goal.returns

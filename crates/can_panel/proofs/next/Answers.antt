@@ -1,6 +1,5 @@
 -- `next` meets its contract.
 use Rattle.can_panel.specs.CanPanel.{next_crosses}
-use borrow.Author.Rules.{rules}
 use Rattle.can_panel.proofs.next.Goals as goal
 
 pub returns : goal.returns

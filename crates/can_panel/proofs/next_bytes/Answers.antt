@@ -1,5 +1,4 @@
 -- `next_bytes` meets its contract.
-use borrow.Author.Rules.{rules}
 use Rattle.can_panel.proofs.next_bytes.Goals as goal
 
 pub returns-in-Send : goal.returns-in-Send

@@ -1,5 +1,4 @@
 -- `receiver_bytes` meets its contract.
-use borrow.Author.Rules.{rules}
 use Rattle.can_panel.proofs.receiver_bytes.Goals as goal
 
 pub returns-in-Idle : goal.returns-in-Idle

@@ -1,5 +1,4 @@
 -- `said` meets its contract.
-use borrow.Author.Rules.{rules}
 use Rattle.can_panel.proofs.said.Goals as goal
 
 pub returns : goal.returns

@@ -1,6 +1,5 @@
 -- `start` meets its contract.
 use Rattle.can_panel.specs.CanPanel.{start_crosses}
-use borrow.Author.Rules.{rules}
 use Rattle.can_panel.proofs.start.Goals as goal
 
 pub returns : goal.returns

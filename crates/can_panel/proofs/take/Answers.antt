@@ -1,6 +1,5 @@
 -- `take` meets its contract.
 use Rattle.can_panel.specs.CanPanel.{take_crosses}
-use borrow.Author.Rules.{rules}
 use Rattle.can_panel.proofs.take.Goals as goal
 
 pub returns : goal.returns

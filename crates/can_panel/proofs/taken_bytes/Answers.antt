@@ -1,5 +1,4 @@
 -- `taken_bytes` meets its contract.
-use borrow.Author.Rules.{rules}
 use Rattle.can_panel.proofs.taken_bytes.Goals as goal
 
 pub returns-in-Going : goal.returns-in-Going

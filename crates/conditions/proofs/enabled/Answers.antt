@@ -4,7 +4,6 @@ use Prim.Native.Nat.{ℕ}
 use lib.Dec.{eqb}
 use Rattle.manual.specs.Conditions.{none_missing}
 use Rattle.manual.proofs.ConditionsLaws.{nothing_left_is}
-use borrow.Author.Rules.{rules}
 use Rattle.conditions.proofs.enabled.Goals as goal
 
 pub returns : goal.returns

@@ -4,7 +4,6 @@ use Prim.Native.Nat.{ℕ}
 use lib.Count.{ones, count_trailing_zeros}
 use Rattle.manual.specs.Conditions.{missing_of, lowest_missing_of}
 use Rattle.manual.proofs.ConditionsLaws.{count_ones_is, trailing_zeros_is}
-use borrow.Author.Rules.{rules}
 use Rattle.conditions.proofs.still_missing.Goals as goal
 
 pub returns : goal.returns

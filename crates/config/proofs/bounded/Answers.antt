@@ -1,6 +1,5 @@
 use mathlib.Core.Path.{◌∙◌}
 use mathlib.Core.Bool.{◌&&◌}
-use borrow.Author.Rules.{rules}
 use Rattle.config.proofs.Tests.{joined_is}
 use Rattle.config.proofs.bounded.Goals as goal
 

@@ -1,4 +1,3 @@
-use borrow.Author.Rules.{rules}
 use Rattle.config.proofs.SignedInCode.{back}
 use Rattle.config.proofs.RowsLaws.{rises_after}
 use Rattle.config.proofs.code_rises.Goals as goal

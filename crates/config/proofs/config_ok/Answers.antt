@@ -7,8 +7,7 @@ use lib.ListN.{length}
 use lib.IntN.{pos}
 use Rattle.manual.specs.Words.{between}
 use Rattle.manual.specs.Configuration.{Configuration, number_at, events}
-use borrow.Author.Tests.{eq-eqb, ne_eqb, not-true, not-false}
-use borrow.Author.Rules.{rules}
+use borrow.Author.Tests.{eq-eqb, ne_eqb}
 use Rattle.history.specs.Words.{holds}
 use Rattle.config.proofs.Tests.{joined_is}
 use Rattle.config.proofs.JudgedInOnePass.{front, judged_in_one_pass, n_most}

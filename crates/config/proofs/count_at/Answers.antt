@@ -1,5 +1,4 @@
 use mathlib.Core.Path.{◌∙◌, ap}
-use borrow.Author.Rules.{rules}
 use Rattle.manual.specs.Words.{nat_of}
 use Rattle.config.proofs.SignedInCode.{back}
 use Rattle.config.proofs.count_at.Goals as goal

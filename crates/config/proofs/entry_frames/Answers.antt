@@ -1,7 +1,6 @@
 use mathlib.Core.Path.{◌∙◌, ap}
 use Prim.Native.Nat.{◌*◌}
 use lib.IntN.{ℤ}
-use borrow.Author.Rules.{rules}
 use Rattle.manual.specs.Words.{nat_of}
 use Rattle.manual.specs.Configuration.{frame_bytes}
 use Rattle.config.proofs.SignedInCode.{back}

@@ -1,4 +1,3 @@
-use borrow.Author.Rules.{rules}
 use Rattle.manual.specs.Configuration.{events}
 use Rattle.config.proofs.events.Goals as goal
 

@@ -1,9 +1,7 @@
 use mathlib.Core.Path.{sym, ◌∙◌}
-use Prim.Native.Nat.{◌-◌, ◌^◌, ◌<◌}
 use native.Mathlib.Omega.{arith}
 use borrow.Author.Tests.{eqb-true, eqb-false}
 use Rattle.manual.proofs.ConfigurationLaws.{config_tells}
-use Rattle.config.specs.Halving.{NarrowedTo, width}
 use Rattle.config.proofs.HalvingLaws.{all_rows, halves_power, one_left, found_where_left, nothing_where_left}
 use Rattle.config.proofs.find_code.Goals as goal
 

@@ -1,10 +1,5 @@
-use mathlib.Core.Path.{sym, ◌∙◌}
 use Prim.Native.Nat.{◌-◌, ◌^◌, ◌<◌}
-use native.Mathlib.Omega.{arith}
-use borrow.Author.Tests.{eqb-true, eqb-false}
-use Rattle.manual.proofs.ConfigurationLaws.{config_tells}
 use Rattle.config.specs.Halving.{NarrowedTo, width}
-use Rattle.config.proofs.HalvingLaws.{all_rows, halves_power, one_left, found_where_left, nothing_where_left}
 use Rattle.config.proofs.find_code.Given as goal
 
 -- the search is narrowed to the range, which halves at each turn

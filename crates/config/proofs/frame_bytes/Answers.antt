@@ -1,4 +1,3 @@
-use borrow.Author.Rules.{rules}
 use Rattle.manual.specs.Configuration.{frame_bytes}
 use Rattle.config.proofs.frame_bytes.Goals as goal
 

@@ -1,5 +1,4 @@
 use native.Mathlib.Omega.{arith}
-use borrow.Author.Rules.{rules}
 use Rattle.config.proofs.HalvingLaws.{middle_below, upper_half, lower_half}
 use Rattle.config.proofs.halved.Goals as goal
 

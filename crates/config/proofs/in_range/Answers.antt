@@ -1,4 +1,3 @@
-use borrow.Author.Rules.{rules}
 use Rattle.config.proofs.SignedInCode.{between_back}
 use Rattle.config.proofs.in_range.Goals as goal
 

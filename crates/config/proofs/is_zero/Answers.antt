@@ -1,4 +1,3 @@
-use borrow.Author.Rules.{rules}
 use Rattle.config.proofs.SignedInCode.{zero_is}
 use Rattle.config.proofs.is_zero.Goals as goal
 

@@ -1,5 +1,4 @@
 use lib.Dec.{eqb}
-use borrow.Author.Rules.{rules}
 use Rattle.config.proofs.limits_within.Goals as goal
 
 pub returns : goal.returns

@@ -1,6 +1,5 @@
 -- `needed_of`: the number that was read, as a set.
 use mathlib.Core.Path.{◌∙◌, ap}
-use borrow.Author.Rules.{rules}
 use Rattle.manual.specs.Words.{nat_of}
 use Rattle.config.proofs.SignedInCode.{back}
 use Rattle.config.proofs.needed_of.Goals as goal

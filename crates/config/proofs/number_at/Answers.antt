@@ -1,7 +1,6 @@
 use mathlib.Core.Path.{sym}
 use lib.IntN.{pos}
 use lib.ListN.{get_or-eq_default}
-use borrow.Author.Rules.{rules}
 use Rattle.config.proofs.number_at.Goals as goal
 
 pub returns-else-index-cfg : goal.returns-else-index-cfg

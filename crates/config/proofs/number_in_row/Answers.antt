@@ -1,5 +1,4 @@
 use mathlib.Core.Path.{◌∙◌}
-use borrow.Author.Rules.{rules}
 use Rattle.manual.specs.Configuration.{column}
 use Rattle.config.proofs.SignedInCode.{back}
 use Rattle.config.proofs.number_in_row.Goals as goal

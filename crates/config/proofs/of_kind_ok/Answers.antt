@@ -1,7 +1,6 @@
 use mathlib.Core.Path.{◌∙◌}
 use mathlib.Core.Bool.{◌&&◌}
 use native.Mathlib.Omega.{arith}
-use borrow.Author.Rules.{rules}
 use Rattle.config.proofs.Tests.{holds_both}
 use Rattle.config.proofs.SignedInCode.{taken_is, left_is}
 use Rattle.config.proofs.of_kind_ok.Goals as goal

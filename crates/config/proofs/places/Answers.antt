@@ -1,4 +1,3 @@
-use borrow.Author.Rules.{rules}
 use Rattle.manual.specs.Configuration.{places}
 use Rattle.config.proofs.places.Goals as goal
 

@@ -1,5 +1,4 @@
 use mathlib.Core.Bool.{◌&&◌}
-use borrow.Author.Rules.{rules}
 use Rattle.config.proofs.row_fits.Goals as goal
 
 pub returns : goal.returns

@@ -1,7 +1,6 @@
 -- each line of the code is the clause of `row_ok` that stands in its place, and `of_kind_ok` five of them
 use mathlib.Core.Bool.{◌&&◌}
 use lib.IntN.{pos}
-use borrow.Author.Rules.{rules}
 use Rattle.manual.specs.Configuration.{column, kind_of, row_ok}
 use Rattle.config.specs.Rows.{of_kind}
 use Rattle.config.proofs.Tests.{joined_amid}

@@ -1,9 +1,7 @@
-use mathlib.Core.Path.{◌≡◌, sym}
+use mathlib.Core.Path.{◌≡◌}
 use Prim.Native.Nat.{◌-◌, ◌≤◌}
-use native.Mathlib.Omega.{arith}
 use Rattle.manual.specs.Words.{all_below}
 use Rattle.config.specs.Rows.{row_fits}
-use Rattle.config.proofs.Tests.{all_none, all_more}
 use Rattle.config.proofs.rows_fit.Given as goal
 
 -- the rows passed fit exactly where `fit` says so

@@ -1,7 +1,6 @@
 use mathlib.Core.Path.{◌∙◌, ap}
 use mir.Facts.{to_z-of_z}
 use mir.Syntax.{w64}
-use borrow.Author.Rules.{rules}
 use Rattle.history.specs.StatusByte.{status_of}
 use Rattle.manual.specs.Counter.{counter_in}
 use Rattle.config.proofs.SignedInCode.{back}

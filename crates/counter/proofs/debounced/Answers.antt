@@ -3,7 +3,6 @@ use mathlib.Core.Path.{◌∙◌}
 use lib.Dec.{lit≤}
 use lib.IntN.{pos, neg_ℤ, +ℤ_idl}
 use mir.Facts.{to_z-of_z}
-use borrow.Author.Rules.{rules}
 use Rattle.config.proofs.SignedInCode.{back}
 use Rattle.counter.proofs.WideLaws.{distance_most, share_fits}
 use Rattle.counter.proofs.CounterInCode.{distance_is, share_is, below_zero_lem, from_zero}

@@ -1,6 +1,5 @@
 use mir.Facts.{to_z-of_z}
 use borrow.Author.Tests.{eq-eqb, ne_eqb}
-use borrow.Author.Rules.{rules}
 use Rattle.counter.proofs.distance.Goals as goal
 
 pub returns-then-kind-ne-TIME : goal.returns-then-kind-ne-TIME

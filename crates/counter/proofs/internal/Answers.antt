@@ -1,7 +1,6 @@
 use Rattle.history.specs.StatusByte.{test_failed, test_not_completed_since_last_clear}
 use Rattle.manual.specs.Counter.{internal_counter}
 use Rattle.status.proofs.MasksLaws.{contains_is}
-use borrow.Author.Rules.{rules}
 use Rattle.counter.proofs.internal.Goals as goal
 
 pub returns-then-contains : goal.returns-then-contains

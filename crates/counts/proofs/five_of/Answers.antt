@@ -1,6 +1,5 @@
 -- `five_of` meets its contract.
 use Rattle.counts.proofs.FiveLaws.{all_read}
-use borrow.Author.Rules.{rules}
 use Rattle.counts.proofs.five_of.Goals as goal
 
 pub returns : goal.returns

@@ -1,6 +1,5 @@
 -- `is_past` meets its contract.
 use mathlib.Core.Path.{refl}
-use borrow.Author.Rules.{rules}
 use Rattle.counts.proofs.is_past.Goals as goal
 
 pub returns : goal.returns

@@ -3,7 +3,6 @@ use mathlib.Core.Path.{ap, ◌∙◌}
 use mathlib.Core.List.{List}
 use Prim.Native.Nat.{ℕ}
 use Rattle.manual.specs.Counts.{numbers, raised, past}
-use borrow.Author.Rules.{rules}
 use Rattle.counts.proofs.raise.Goals as goal
 
 pub sum-requires : goal.sum-requires

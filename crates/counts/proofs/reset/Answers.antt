@@ -1,6 +1,5 @@
 -- `reset` meets its contract.
 use mathlib.Core.Path.{◌∙◌}
-use borrow.Author.Rules.{rules}
 use Rattle.counts.proofs.reset.Goals as goal
 
 pub returns : goal.returns

@@ -3,7 +3,6 @@ use mathlib.Core.Path.{sym, ap, ◌∙◌}
 use Rattle.manual.specs.declared.StoreAnswer.{StoreAnswer}
 use Rattle.manual.specs.Words.{count_those}
 use Rattle.manual.specs.Counts.{of_store, rise_of}
-use borrow.Author.Rules.{rules}
 use Rattle.counts.proofs.rise_of.Goals as goal
 
 pub returns-in-Untold : goal.returns-in-Untold

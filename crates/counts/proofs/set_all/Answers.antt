@@ -2,7 +2,6 @@
 use native.Mathlib.Omega.{arith}
 use lib.ListN.{length-set}
 use Rattle.counts.proofs.FiveLaws.{all_written}
-use borrow.Author.Rules.{rules}
 use Rattle.counts.proofs.set_all.Goals as goal
 
 pub bounds-counts-4 : goal.bounds-counts-4

@@ -2,7 +2,6 @@
 use mathlib.Core.Path.{ap, ◌∙◌}
 use Rattle.counts.specs.Near.{some_near}
 use Rattle.counts.proofs.FiveLaws.{near_five}
-use borrow.Author.Rules.{rules}
 use Rattle.counts.proofs.some_near.Goals as goal
 
 pub returns : goal.returns

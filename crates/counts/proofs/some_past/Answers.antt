@@ -5,7 +5,6 @@ use mathlib.Core.List.{List}
 use Prim.Native.Nat.{ℕ}
 use Rattle.manual.specs.Counts.{numbers, raised, past}
 use Rattle.counts.proofs.FiveLaws.{past_five}
-use borrow.Author.Rules.{rules}
 use Rattle.counts.proofs.some_past.Goals as goal
 
 pub returns : goal.returns

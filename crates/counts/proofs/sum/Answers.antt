@@ -1,7 +1,6 @@
 -- `sum` meets its contract: no number is carried past the limit.
 use native.Mathlib.Omega.{arith}
 use Rattle.counts.proofs.FiveLaws.{sums_are, has_room}
-use borrow.Author.Rules.{rules}
 use Rattle.counts.proofs.sum.Goals as goal
 
 pub overflow_add-result : goal.overflow_add-result

@@ -4,7 +4,6 @@ use mathlib.Core.List.{List}
 use Prim.Native.Nat.{ℕ}
 use Rattle.manual.specs.Counts.{numbers, raised, past}
 use Rattle.counts.proofs.NearLaws.{store_not_past}
-use borrow.Author.Rules.{rules}
 use Rattle.counts.proofs.with_store.Goals as goal
 
 pub sum-requires : goal.sum-requires

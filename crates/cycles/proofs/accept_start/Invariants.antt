@@ -1,20 +1,15 @@
 -- `accept_start` meets its contract.
-use mathlib.Core.Path.{◌≡◌, refl, ap, ◌∙◌}
-use mathlib.Core.Bool.{true}
+use mathlib.Core.Path.{◌≡◌}
 use mathlib.Core.List.{List}
-use Prim.Native.Nat.{ℕ, ◌-◌, ◌≤◌, ◌<◌}
-use native.Mathlib.Omega.{arith}
+use Prim.Native.Nat.{ℕ, ◌-◌, ◌≤◌}
 use lib.IntN.{ℤ}
 use lib.ListN.{length}
 use Rattle.history.specs.History.{start}
 use Rattle.manual.specs.Words.{for_below}
-use Rattle.manual.specs.Configuration.{events}
-use Rattle.manual.specs.State.{lent, with_cycle}
+use Rattle.manual.specs.State.{lent}
 use Rattle.manual.specs.OneEvent.{happens}
 use Rattle.manual.specs.Calls.{of_cycle}
-use Rattle.one_event.proofs.TurnsLaws.{turn, no_turn, next_turn, last_turn}
-use Rattle.cycles.proofs.CyclesLaws.{record_within}
-use borrow.Author.Rules.{rules}
+use Rattle.one_event.proofs.TurnsLaws.{turn}
 use Rattle.cycles.proofs.accept_start.Given as goal
 
 abbrev pub invariant-loop-event : goal.invariant-loop-event

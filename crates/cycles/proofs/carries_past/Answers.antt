@@ -2,11 +2,9 @@
 use mathlib.Core.Path.{sym, ap, ◌∙◌}
 use mathlib.Core.List.{List}
 use Prim.Native.Nat.{ℕ}
-use borrow.Author.Tests.{not-true}
 use Rattle.manual.specs.State.{lent}
 use Rattle.manual.specs.Counts.{raised, past}
 use Rattle.cycles.proofs.StopRiseLaws.{far}
-use borrow.Author.Rules.{rules}
 use Rattle.cycles.proofs.carries_past.Goals as goal
 
 pub returns-then-not-some_near : goal.returns-then-not-some_near

@@ -1,7 +1,6 @@
 -- `judge` meets its contract.
 use Rattle.manual.specs.State.{lent}
 use Rattle.judgement.proofs.JudgedLaws.{judged_by, stopped_by}
-use borrow.Author.Rules.{rules}
 use Rattle.cycles.proofs.judge.Goals as goal
 
 pub returns-in-Go : goal.returns-in-Go

@@ -3,7 +3,6 @@ use mathlib.Core.Path.{ap}
 use mathlib.Core.Bool.{not}
 use Rattle.manual.specs.State.{lent}
 use Rattle.cycles.proofs.StopRiseLaws.{may_be_limited, then_limit, not_so_far}
-use borrow.Author.Rules.{rules}
 use Rattle.cycles.proofs.judge_stop.Goals as goal
 
 pub carries_past-requires : goal.carries_past-requires

@@ -4,7 +4,6 @@ use Rattle.manual.specs.State.{State}
 use Rattle.manual.specs.Counts.{rise_of}
 use Rattle.manual.specs.Calls.{stop_log}
 use Rattle.cycles.specs.Cycles.{MayStop}
-use borrow.Author.Rules.{rules}
 use Rattle.cycles.proofs.rehearse_on.Goals as goal
 
 pub accept_stop-after-requires : goal.accept_stop-after-requires

@@ -6,7 +6,6 @@ use Rattle.manual.specs.Answers.{alone, done}
 use Rattle.manual.specs.Calls.{start_rules, start_cycle}
 use Rattle.judgement.proofs.JudgedLaws.{passed_by, accepted_by, refused_by}
 use Rattle.cycles.proofs.CyclesLaws.{may_start}
-use borrow.Author.Rules.{rules}
 use Rattle.cycles.proofs.start.Goals as goal
 
 pub accept_start-requires : goal.accept_start-requires

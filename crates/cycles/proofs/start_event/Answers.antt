@@ -1,6 +1,5 @@
 -- `start_event` meets its contract.
 use mathlib.Core.Path.{sym, ◌∙◌}
-use borrow.Author.Rules.{rules}
 use Rattle.cycles.proofs.start_event.Goals as goal
 
 pub returns-then-of_cycle : goal.returns-then-of_cycle

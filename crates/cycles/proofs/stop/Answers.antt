@@ -5,7 +5,6 @@ use Rattle.manual.specs.Answers.{lent_counts}
 use Rattle.manual.specs.Calls.{stop_cycle}
 use Rattle.judgement.proofs.JudgedLaws.{passed_by, accepted_by, refused_by}
 use Rattle.cycles.proofs.StopRiseLaws.{accepted, may_raise, leaves_done}
-use borrow.Author.Rules.{rules}
 use Rattle.cycles.proofs.stop.Goals as goal
 
 pub accept_stop-after-requires : goal.accept_stop-after-requires

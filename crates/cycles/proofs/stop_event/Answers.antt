@@ -1,7 +1,6 @@
 -- `stop_event` meets its contract.
 use mathlib.Core.Path.{sym, ◌∙◌}
 use Rattle.config.proofs.PartLaws.{row_within}
-use borrow.Author.Rules.{rules}
 use Rattle.cycles.proofs.stop_event.Goals as goal
 
 pub of_cycle-requires : goal.of_cycle-requires

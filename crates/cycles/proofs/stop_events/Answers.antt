@@ -1,14 +1,12 @@
 use mathlib.Core.Path.{◌≡◌, refl, ap, ◌∙◌}
 use mathlib.Core.Bool.{false}
-use Prim.Native.Nat.{◌-◌, ◌≤◌, ◌<◌}
+use Prim.Native.Nat.{◌<◌}
 use native.Mathlib.Omega.{arith}
-use lib.ListN.{length}
-use Rattle.manual.specs.Words.{for_below}
 use Rattle.manual.specs.Configuration.{events}
 use Rattle.manual.specs.State.{lent, with_cycle}
 use Rattle.manual.specs.OneEvent.{stops}
 use Rattle.manual.specs.Calls.{of_cycle}
-use Rattle.one_event.proofs.TurnsLaws.{turn, no_turn, next_turn, last_turn}
+use Rattle.one_event.proofs.TurnsLaws.{no_turn, next_turn, last_turn}
 use Rattle.cycles.proofs.CyclesLaws.{stop_fits}
 use borrow.Author.Rules.{rules}
 use Rattle.cycles.proofs.stop_events.Goals as goal

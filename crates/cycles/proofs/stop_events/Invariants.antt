@@ -1,17 +1,12 @@
 -- `stop_events` meets its contract.
-use mathlib.Core.Path.{◌≡◌, refl, ap, ◌∙◌}
-use mathlib.Core.Bool.{false}
-use Prim.Native.Nat.{◌-◌, ◌≤◌, ◌<◌}
-use native.Mathlib.Omega.{arith}
+use mathlib.Core.Path.{◌≡◌}
+use Prim.Native.Nat.{◌-◌, ◌≤◌}
 use lib.ListN.{length}
 use Rattle.manual.specs.Words.{for_below}
-use Rattle.manual.specs.Configuration.{events}
-use Rattle.manual.specs.State.{lent, with_cycle}
+use Rattle.manual.specs.State.{lent}
 use Rattle.manual.specs.OneEvent.{stops}
 use Rattle.manual.specs.Calls.{of_cycle}
-use Rattle.one_event.proofs.TurnsLaws.{turn, no_turn, next_turn, last_turn}
-use Rattle.cycles.proofs.CyclesLaws.{stop_fits}
-use borrow.Author.Rules.{rules}
+use Rattle.one_event.proofs.TurnsLaws.{turn}
 use Rattle.cycles.proofs.stop_events.Given as goal
 
 abbrev pub invariant-loop-event : goal.invariant-loop-event

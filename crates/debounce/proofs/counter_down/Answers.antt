@@ -1,6 +1,5 @@
 use native.Mathlib.Omega.{arith}
 use mir.Facts.{to_z-of_z}
-use borrow.Author.Rules.{rules}
 use Rattle.manual.specs.Configuration.{column}
 use Rattle.manual.specs.Debouncing.{counter_down}
 use Rattle.debounce.specs.Rows.{alone}

@@ -1,6 +1,5 @@
 use mir.Facts.{to_z-of_z}
 use borrow.Author.Tests.{ne_eqb}
-use borrow.Author.Rules.{rules}
 use Rattle.manual.specs.Configuration.{column}
 use Rattle.manual.specs.Debouncing.{counter_report}
 use Rattle.debounce.specs.Rows.{alone}

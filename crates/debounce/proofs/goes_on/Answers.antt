@@ -1,7 +1,6 @@
 use native.Mathlib.Omega.{arith}
 use lib.IntN.{pos}
 use mir.Facts.{to_z-of_z}
-use borrow.Author.Rules.{rules}
 use Rattle.debounce.proofs.SmallNumbersLaws.{back, held}
 use Rattle.debounce.proofs.goes_on.Goals as goal
 

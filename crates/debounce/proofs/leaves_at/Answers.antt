@@ -1,5 +1,4 @@
 use mir.Facts.{to_z-of_z}
-use borrow.Author.Rules.{rules}
 use Rattle.manual.specs.Debouncing.{leaves_at}
 use Rattle.debounce.proofs.leaves_at.Goals as goal
 

@@ -1,6 +1,5 @@
 use native.Mathlib.Omega.{arith}
 use mir.Facts.{to_z-of_z}
-use borrow.Author.Rules.{rules}
 use Rattle.debounce.proofs.SmallNumbersLaws.{abs_start, held}
 use Rattle.debounce.proofs.raised.Goals as goal
 

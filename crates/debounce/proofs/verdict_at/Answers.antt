@@ -1,5 +1,4 @@
 use mir.Facts.{to_z-of_z}
-use borrow.Author.Rules.{rules}
 use Rattle.manual.specs.Debouncing.{verdict_at}
 use Rattle.debounce.proofs.SmallNumbersLaws.{held}
 use Rattle.debounce.proofs.verdict_at.Goals as goal

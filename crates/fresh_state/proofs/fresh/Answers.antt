@@ -1,5 +1,4 @@
 use Rattle.fresh_state.proofs.FreshLaws.{blocks_fit, five_lent, made_fresh, left_as_found}
-use borrow.Author.Rules.{rules}
 use Rattle.fresh_state.proofs.fresh.Goals as goal
 
 pub make_fresh-after-requires : goal.make_fresh-after-requires

@@ -1,9 +1,8 @@
 use mathlib.Core.Path.{◌≡◌, refl, ◌∙◌}
-use Prim.Native.Nat.{◌-◌, ◌≤◌, ◌<◌}
+use Prim.Native.Nat.{◌<◌}
 use native.Mathlib.Omega.{arith}
-use lib.ListN.{length}
 use Rattle.manual.specs.Configuration.{events}
-use Rattle.fresh_state.proofs.FreshLaws.{fresh_to, fresh_none, fresh_more, fresh_all}
+use Rattle.fresh_state.proofs.FreshLaws.{fresh_none, fresh_more, fresh_all}
 use Rattle.fresh_state.proofs.fresh_records.Goals as goal
 
 pub events-event-end-requires : goal.events-event-end-requires

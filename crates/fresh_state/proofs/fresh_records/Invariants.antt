@@ -1,9 +1,7 @@
-use mathlib.Core.Path.{◌≡◌, refl, ◌∙◌}
-use Prim.Native.Nat.{◌-◌, ◌≤◌, ◌<◌}
-use native.Mathlib.Omega.{arith}
+use mathlib.Core.Path.{◌≡◌}
+use Prim.Native.Nat.{◌-◌, ◌≤◌}
 use lib.ListN.{length}
-use Rattle.manual.specs.Configuration.{events}
-use Rattle.fresh_state.proofs.FreshLaws.{fresh_to, fresh_none, fresh_more, fresh_all}
+use Rattle.fresh_state.proofs.FreshLaws.{fresh_to}
 use Rattle.fresh_state.proofs.fresh_records.Given as goal
 
 abbrev pub invariant-loop-event : goal.invariant-loop-event

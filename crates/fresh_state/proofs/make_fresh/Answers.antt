@@ -1,5 +1,4 @@
 use Rattle.fresh_state.proofs.FreshLaws.{records_fit_lem, state_fresh}
-use borrow.Author.Rules.{rules}
 use Rattle.fresh_state.proofs.make_fresh.Goals as goal
 
 pub fresh_records-requires : goal.fresh_records-requires

@@ -1,9 +1,8 @@
-use mathlib.Core.Path.{◌≡◌, refl, ◌∙◌}
+use mathlib.Core.Path.{◌≡◌}
 use Prim.Native.Nat.{◌-◌, ◌≤◌}
-use native.Mathlib.Omega.{arith}
 use lib.IntN.{pos}
 use lib.ListN.{length}
-use Rattle.writing.proofs.FilledLaws.{filled_to, fill_none, fill_more, fill_all, filled_whole}
+use Rattle.writing.proofs.FilledLaws.{filled_to}
 use Rattle.fresh_state.proofs.reset_numbers.Given as goal
 
 abbrev pub invariant-loop-event : goal.invariant-loop-event

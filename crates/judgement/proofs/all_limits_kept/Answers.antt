@@ -1,10 +1,5 @@
 use mathlib.Core.Path.{◌≡◌, sym}
-use Prim.Native.Nat.{◌-◌, ◌≤◌}
 use native.Mathlib.Omega.{arith}
-use Rattle.manual.specs.Words.{all_below}
-use Rattle.manual.specs.Configuration.{limits_of}
-use Rattle.manual.specs.State.{opened, stored_at}
-use Rattle.status.specs.Clauses.{limits_kept}
 use Rattle.config.proofs.Tests.{all_none, all_more}
 use Rattle.judgement.proofs.all_limits_kept.Goals as goal
 

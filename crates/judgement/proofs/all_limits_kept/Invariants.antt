@@ -1,11 +1,9 @@
-use mathlib.Core.Path.{◌≡◌, sym}
+use mathlib.Core.Path.{◌≡◌}
 use Prim.Native.Nat.{◌-◌, ◌≤◌}
-use native.Mathlib.Omega.{arith}
 use Rattle.manual.specs.Words.{all_below}
 use Rattle.manual.specs.Configuration.{limits_of}
 use Rattle.manual.specs.State.{opened, stored_at}
 use Rattle.status.specs.Clauses.{limits_kept}
-use Rattle.config.proofs.Tests.{all_none, all_more}
 use Rattle.judgement.proofs.all_limits_kept.Given as goal
 
 abbrev pub invariant-loop-event : goal.invariant-loop-event

@@ -1,9 +1,7 @@
 use mathlib.Core.Path.{sym, ◌∙◌}
-use mathlib.Core.Logic.{⊎_elim}
 use Rattle.manual.specs.WellFormed.{lengths_fit}
 use Rattle.manual.specs.State.{lent}
 use Rattle.judgement.proofs.BeginLaws.{judged_in_turn}
-use borrow.Author.Rules.{rules}
 use Rattle.judgement.proofs.begin_with_lengths.Goals as goal
 use Rattle.judgement.proofs.begin_with_lengths.Goals.{then-config_ok, else-config_ok}
 

@@ -1,5 +1,4 @@
 use mathlib.Core.Path.{ap, ◌∙◌}
-use borrow.Author.Rules.{rules}
 use Rattle.manual.specs.State.{Stored, opened}
 use Rattle.status.specs.Clauses.{bytes_ok}
 use Rattle.judgement.proofs.bytes_ok.Goals as goal

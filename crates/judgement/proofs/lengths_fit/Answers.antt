@@ -3,7 +3,6 @@ use native.Mathlib.Omega.{arith}
 use Rattle.manual.specs.WellFormed.{lengths_fit_with}
 use Rattle.manual.proofs.ConfigurationLaws.{config_tells}
 use Rattle.config.proofs.Tests.{joined_is}
-use borrow.Author.Rules.{rules}
 use Rattle.judgement.proofs.lengths_fit.Goals as goal
 
 pub memory_length-memory_length-requires : goal.memory_length-memory_length-requires

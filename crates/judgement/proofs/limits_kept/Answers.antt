@@ -4,8 +4,6 @@ use mathlib.Core.Bool.{Bool, true, false}
 use Rattle.history.specs.Words.{implies}
 use Rattle.manual.specs.Configuration.{limits_of}
 use Rattle.status.specs.Clauses.{is_limited, limits_ok, limits_kept}
-use borrow.Author.Tests.{not-true, not-false}
-use borrow.Author.Rules.{rules}
 use Rattle.judgement.proofs.limits_kept.Goals as goal
 
 pub returns-then-not-is_limited : goal.returns-then-not-is_limited

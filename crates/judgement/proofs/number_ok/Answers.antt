@@ -5,7 +5,6 @@ use native.Mathlib.Omega.{arith}
 use lib.Dec.{eqb}
 use lib.IntN.{ℤ, pos}
 use mir.Facts.{to_z-of_z}
-use borrow.Author.Rules.{rules}
 use Rattle.manual.specs.Words.{between, eq_z, nat_of}
 use Rattle.manual.specs.Configuration.{column, cycle_of, is_internal}
 use Rattle.manual.specs.Debouncing.{top, bottom}

@@ -1,11 +1,6 @@
 use mathlib.Core.Path.{◌≡◌, sym}
-use Prim.Native.Nat.{◌-◌, ◌≤◌}
 use native.Mathlib.Omega.{arith}
-use lib.IntN.{pos}
-use lib.ListN.{get_or}
-use Rattle.manual.specs.Words.{all_below}
 use Rattle.manual.specs.Configuration.{events}
-use Rattle.manual.specs.WellFormed.{d_ok}
 use Rattle.debounce.proofs.SmallNumbersLaws.{held}
 use Rattle.config.proofs.Tests.{all_none, all_more}
 use Rattle.judgement.proofs.numbers_ok.Goals as goal

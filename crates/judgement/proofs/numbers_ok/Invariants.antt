@@ -1,13 +1,9 @@
-use mathlib.Core.Path.{◌≡◌, sym}
+use mathlib.Core.Path.{◌≡◌}
 use Prim.Native.Nat.{◌-◌, ◌≤◌}
-use native.Mathlib.Omega.{arith}
 use lib.IntN.{pos}
 use lib.ListN.{get_or}
 use Rattle.manual.specs.Words.{all_below}
-use Rattle.manual.specs.Configuration.{events}
 use Rattle.manual.specs.WellFormed.{d_ok}
-use Rattle.debounce.proofs.SmallNumbersLaws.{held}
-use Rattle.config.proofs.Tests.{all_none, all_more}
 use Rattle.judgement.proofs.numbers_ok.Given as goal
 
 abbrev pub invariant-loop-event : goal.invariant-loop-event

@@ -3,7 +3,6 @@ use mathlib.Core.Bool.{◌&&◌}
 use native.Mathlib.Omega.{arith}
 use Rattle.config.proofs.PartLaws.{rows_within}
 use Rattle.judgement.proofs.WellFormedLaws.{records_parted}
-use borrow.Author.Rules.{rules}
 use Rattle.judgement.proofs.records_ok.Goals as goal
 
 pub all_bytes_ok-requires : goal.all_bytes_ok-requires

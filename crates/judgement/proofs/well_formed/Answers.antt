@@ -1,13 +1,11 @@
 use mathlib.Core.Path.{◌≡◌, sym, ◌∙◌}
 use mathlib.Core.Bool.{true, ◌&&◌}
-use borrow.Author.Tests.{not-true, not-false}
 use Rattle.manual.specs.WellFormed.{lengths_fit}
 use Rattle.manual.proofs.ConfigurationLaws.{config_tells}
 use Rattle.manual.proofs.WellFormedLaws.{lengths_tell}
 use Rattle.memory.specs.Judgement.{block_ok}
 use Rattle.manual.specs.State.{lent}
 use Rattle.judgement.proofs.WellFormedLaws.{not_fitting, judged_in_passes}
-use borrow.Author.Rules.{rules}
 use Rattle.judgement.proofs.well_formed.Goals as goal
 
 pub returns-then-not-lengths_fit : goal.returns-then-not-lengths_fit

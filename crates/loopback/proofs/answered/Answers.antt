@@ -1,6 +1,5 @@
 -- `answered` meets its contract.
 use Rattle.transport.specs.Exchange.{waited, answered_by}
-use borrow.Author.Rules.{rules}
 use Rattle.loopback.proofs.answered.Goals as goal
 
 pub returns-in-Going : goal.returns-in-Going

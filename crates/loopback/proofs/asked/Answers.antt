@@ -1,6 +1,5 @@
 -- `asked` meets its contract.
 use Rattle.transport.specs.Exchange.{offered}
-use borrow.Author.Rules.{rules}
 use Rattle.loopback.proofs.asked.Goals as goal
 
 pub returns-in-Send : goal.returns-in-Send

@@ -1,5 +1,4 @@
 -- `begun` meets its contract.
-use borrow.Author.Rules.{rules}
 use Rattle.loopback.proofs.begun.Goals as goal
 
 pub returns-in-Send : goal.returns-in-Send

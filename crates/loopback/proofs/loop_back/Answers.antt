@@ -1,9 +1,7 @@
-use mathlib.Core.Path.{◌≡◌, refl, ap, ◌∙◌}
-use Prim.Native.Nat.{◌-◌, ◌≤◌}
+use mathlib.Core.Path.{refl, ap, ◌∙◌}
 use native.Mathlib.Numerals.{add-one}
 use native.Mathlib.Omega.{arith}
 use lib.ListN.{length}
-use borrow.Author.Rules.{rules}
 use Rattle.transport.specs.declared.Line.{Line}
 use Rattle.transport.specs.Exchange.{on_line, begun, turns, ended}
 use Rattle.transport.proofs.SegmentsLaws.{frames_at_most}

@@ -1,14 +1,8 @@
 -- `loop_back` meets its contract.
-use mathlib.Core.Path.{◌≡◌, refl, ap, ◌∙◌}
+use mathlib.Core.Path.{◌≡◌}
 use Prim.Native.Nat.{◌-◌, ◌≤◌}
-use native.Mathlib.Numerals.{add-one}
-use native.Mathlib.Omega.{arith}
 use lib.ListN.{length}
-use borrow.Author.Rules.{rules}
-use Rattle.transport.specs.declared.Line.{Line}
-use Rattle.transport.specs.Exchange.{on_line, begun, turns, ended}
-use Rattle.transport.proofs.SegmentsLaws.{frames_at_most}
-use Rattle.transport.proofs.MessageArrives.{looped_back_lem}
+use Rattle.transport.specs.Exchange.{on_line, begun, turns}
 use Rattle.loopback.proofs.loop_back.Given as goal
 
 abbrev pub invariant-loop : goal.invariant-loop

@@ -1,7 +1,6 @@
 -- `told` meets its contract.
 use borrow.Author.Tests.{eq-eqb, ne_eqb}
 use Rattle.transport.specs.Exchange.{told_by}
-use borrow.Author.Rules.{rules}
 use Rattle.loopback.proofs.told.Goals as goal
 
 pub returns-then-time-separation : goal.returns-then-time-separation

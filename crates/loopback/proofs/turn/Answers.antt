@@ -1,6 +1,5 @@
 -- `turn` meets its contract.
 use Rattle.transport.specs.Exchange.{turn}
-use borrow.Author.Rules.{rules}
 use Rattle.loopback.proofs.turn.Goals as goal
 
 pub returns-in-Coming : goal.returns-in-Coming

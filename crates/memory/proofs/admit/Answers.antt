@@ -7,7 +7,6 @@ use Rattle.manual.specs.Memory.{payload_of, entry_count}
 use Rattle.manual.specs.declared.StoreAnswer.TheVariants.{Added}
 use Rattle.memory.specs.Store.{left_with}
 use Rattle.memory.proofs.StoreLaws.{may_append, may_search, may_displace, appends, displaces, loses}
-use borrow.Author.Rules.{rules}
 use Rattle.memory.proofs.admit.Goals as goal
 
 pub append-requires : goal.append-requires

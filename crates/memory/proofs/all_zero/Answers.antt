@@ -1,11 +1,8 @@
-use mathlib.Core.Path.{◌≡◌, refl, sym, ap, ◌∙◌}
+use mathlib.Core.Path.{refl, sym, ap, ◌∙◌}
 use mathlib.Core.Bool.{Bool, ◌&&◌}
-use Prim.Native.Nat.{◌≤◌, ◌-◌}
 use native.Mathlib.Omega.{arith}
 use lib.Dec.{eqb}
-use lib.ListN.{length, drop}
 use Rattle.history.proofs.WordsLaws.{and_true}
-use Rattle.memory.specs.Judgement.{zeros}
 use Rattle.memory.proofs.JudgementLaws.{all_gathered, all_through}
 use Rattle.memory.proofs.all_zero.Goals as goal
 

@@ -5,7 +5,6 @@ use native.Mathlib.Omega.{arith}
 use lib.ListN.{set, length-set}
 use Rattle.manual.specs.Memory.{entry_count}
 use Rattle.memory.specs.Block.{entered}
-use borrow.Author.Rules.{rules}
 use Rattle.memory.proofs.append.Goals as goal
 
 pub enter-requires : goal.enter-requires

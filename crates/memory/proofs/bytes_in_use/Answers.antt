@@ -1,6 +1,5 @@
 use mathlib.Core.Path.{ap, ◌∙◌}
 use Rattle.manual.specs.Memory.{bytes_in_use}
-use borrow.Author.Rules.{rules}
 use Rattle.memory.proofs.bytes_in_use.Goals as goal
 
 pub returns : goal.returns

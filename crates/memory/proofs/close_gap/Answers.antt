@@ -4,7 +4,6 @@ use native.Mathlib.Omega.{arith}
 use Rattle.manual.specs.Memory.{entry_width}
 use Rattle.memory.specs.Block.{closed, gap_closed}
 use Rattle.memory.proofs.PlacesLaws.{entry_within}
-use borrow.Author.Rules.{rules}
 use Rattle.memory.proofs.close_gap.Goals as goal
 
 pub close-requires : goal.close-requires

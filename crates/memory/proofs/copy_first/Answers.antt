@@ -3,7 +3,6 @@ use native.Mathlib.Omega.{arith}
 use lib.ListN.{length, take}
 use Rattle.writing.proofs.PartlyWritten.{laid_whole}
 use Rattle.memory.proofs.PlacesLaws.{front_long}
-use borrow.Author.Rules.{rules}
 use Rattle.memory.proofs.copy_first.Goals as goal
 
 pub slice_bounds-copy_bytes-end : goal.slice_bounds-copy_bytes-end

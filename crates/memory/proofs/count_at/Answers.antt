@@ -3,7 +3,6 @@ use Prim.Native.Nat.{ℕ, ◌+◌}
 use native.Mathlib.Omega.{arith}
 use lib.ListN.{get_or}
 use Rattle.memory.proofs.PlacesLaws.{entry_within, count_is_at}
-use borrow.Author.Rules.{rules}
 use Rattle.memory.proofs.count_at.Goals as goal
 
 pub overflow_add-result : goal.overflow_add-result

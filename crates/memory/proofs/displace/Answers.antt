@@ -1,7 +1,6 @@
 use Rattle.manual.specs.Memory.{payload_of}
 use Rattle.memory.specs.Store.{left_with}
 use Rattle.manual.specs.declared.StoreAnswer.TheVariants.{Displaced}
-use borrow.Author.Rules.{rules}
 use Rattle.memory.proofs.displace.Goals as goal
 
 pub returns : goal.returns

@@ -1,10 +1,8 @@
 use mathlib.Core.Path.{◌≡◌, refl, sym, ◌∙◌}
 use mathlib.Core.Bool.{true, false}
-use Prim.Native.Nat.{◌≤◌, ◌<◌, ◌-◌}
+use Prim.Native.Nat.{◌<◌}
 use native.Mathlib.Omega.{arith}
-use borrow.Author.Tests.{not-true, not-false}
-use lib.ListN.{length, drop}
-use Rattle.history.specs.Words.{all_of}
+use lib.ListN.{length}
 use Rattle.manual.specs.Memory.{entries_of}
 use Rattle.memory.specs.Places.{blank, at_place}
 use Rattle.memory.specs.Judgement.{sound_entry}

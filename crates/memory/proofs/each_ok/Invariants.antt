@@ -1,15 +1,9 @@
-use mathlib.Core.Path.{◌≡◌, refl, sym, ◌∙◌}
-use mathlib.Core.Bool.{true, false}
-use Prim.Native.Nat.{◌≤◌, ◌<◌, ◌-◌}
-use native.Mathlib.Omega.{arith}
-use borrow.Author.Tests.{not-true, not-false}
-use lib.ListN.{length, drop}
+use mathlib.Core.Path.{◌≡◌}
+use Prim.Native.Nat.{◌≤◌, ◌-◌}
+use lib.ListN.{drop}
 use Rattle.history.specs.Words.{all_of}
 use Rattle.manual.specs.Memory.{entries_of}
-use Rattle.memory.specs.Places.{blank, at_place}
 use Rattle.memory.specs.Judgement.{sound_entry}
-use Rattle.memory.proofs.PlacesLaws.{entries_are_count}
-use Rattle.memory.proofs.JudgementLaws.{all_ends, all_goes_on, all_through}
 use Rattle.memory.proofs.each_ok.Given as goal
 
 abbrev pub invariant-loop-i : goal.invariant-loop-i

@@ -5,7 +5,6 @@ use lib.Seq.{sets}
 use Rattle.manual.specs.Memory.{entry_of, entry_bytes}
 use Rattle.writing.proofs.PartlyWritten.{sets_append}
 use Rattle.memory.specs.Block.{entered}
-use borrow.Author.Rules.{rules}
 use Rattle.memory.proofs.enter.Goals as goal
 
 pub returns : goal.returns

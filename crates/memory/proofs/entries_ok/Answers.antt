@@ -4,8 +4,6 @@ use mathlib.Core.List.{List}
 use Prim.Native.Nat.{ℕ, ◌≤◌}
 use lib.ListN.{length}
 use native.Mathlib.Omega.{arith}
-use borrow.Author.Tests.{not-true, not-false}
-use borrow.Author.Rules.{rules}
 use Rattle.manual.specs.Memory.{entry_count, entries_of, bytes_in_use, no_twice}
 use Rattle.history.specs.Words.{all_of}
 use Rattle.memory.specs.Judgement.{sound_entry, used_ok}

@@ -1,7 +1,6 @@
 use borrow.Author.Tests.{lt-ltb, le-ltb}
 use Rattle.history.specs.Words.{holds}
 use Rattle.history.proofs.WordsLaws.{and_true}
-use borrow.Author.Rules.{rules}
 use Rattle.memory.proofs.entry_ok.Goals as goal
 
 pub returns-then-event-events : goal.returns-then-event-events

@@ -3,7 +3,6 @@ use Prim.Native.Nat.{ℕ, ◌+◌, ◌*◌}
 use native.Mathlib.Omega.{arith}
 use lib.ListN.{get_or}
 use Rattle.memory.proofs.PlacesLaws.{entry_within, event_is_at}
-use borrow.Author.Rules.{rules}
 use Rattle.memory.proofs.event_at.Goals as goal
 
 pub bounds-memory-start : goal.bounds-memory-start

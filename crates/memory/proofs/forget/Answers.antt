@@ -7,7 +7,6 @@ use lib.Seq.{length-take-le}
 use Rattle.memory.specs.Block.{removed}
 use Rattle.memory.specs.Fits.{PlaceFits}
 use Rattle.memory.proofs.StoreLaws.{may_seek, may_use, used_within, may_remove_in_front, forgets_in_front, forgets_nothing}
-use borrow.Author.Rules.{rules}
 use Rattle.memory.proofs.forget.Goals as goal
 
 pub place_of-own-requires : goal.place_of-own-requires

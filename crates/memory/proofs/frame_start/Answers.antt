@@ -1,6 +1,5 @@
 use native.Mathlib.Omega.{arith}
 use Rattle.manual.proofs.MemoryLaws.{used_most}
-use borrow.Author.Rules.{rules}
 use Rattle.memory.proofs.frame_start.Goals as goal
 
 pub overflow_add-result : goal.overflow_add-result

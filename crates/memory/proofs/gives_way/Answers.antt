@@ -1,4 +1,3 @@
-use borrow.Author.Rules.{rules}
 use Rattle.memory.proofs.gives_way.Goals as goal
 
 pub returns : goal.returns

@@ -7,7 +7,6 @@ use borrow.Author.Tests.{ne_eqb}
 use Rattle.manual.specs.Memory.{event_of, bytes_in_use, entries_of}
 use Rattle.memory.specs.Places.{at_place}
 use Rattle.memory.proofs.PlacesLaws.{entry_within, event_is_at}
-use borrow.Author.Rules.{rules}
 use Rattle.memory.proofs.is_of.Goals as goal
 
 pub overflow_add-start : goal.overflow_add-start

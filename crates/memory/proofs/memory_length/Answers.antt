@@ -2,7 +2,6 @@ use native.Mathlib.Nat.{mul_comm}
 use native.Mathlib.Omega.{arith}
 use Rattle.manual.specs.Memory.{entry_width}
 use Rattle.manual.proofs.MemoryLaws.{used_most}
-use borrow.Author.Rules.{rules}
 use Rattle.memory.proofs.memory_length.Goals as goal
 
 pub overflow_mul-result : goal.overflow_mul-result

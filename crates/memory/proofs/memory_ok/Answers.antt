@@ -5,7 +5,6 @@ use native.Mathlib.Omega.{arith}
 use lib.ListN.{length, take, drop}
 use Rattle.memory.specs.Judgement.{used_ok, zeros}
 use Rattle.memory.proofs.JudgementLaws.{block_other_length, block_many, end_within, end_length, block_parts}
-use borrow.Author.Rules.{rules}
 use Rattle.memory.proofs.memory_ok.Goals as goal
 
 pub returns-then-memory-memory_length : goal.returns-then-memory-memory_length

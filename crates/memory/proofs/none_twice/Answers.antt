@@ -5,7 +5,7 @@ use native.Mathlib.Omega.{arith}
 use lib.ListN.{length, drop}
 use Rattle.manual.specs.Memory.{entry_count, entries_of, no_twice}
 use Rattle.memory.proofs.PlacesLaws.{entries_are_count, event_small}
-use Rattle.memory.proofs.SeenLaws.{Marks, none_twice_past, marks_past, turn_once, turn_marks}
+use Rattle.memory.proofs.SeenLaws.{none_twice_past, marks_past, turn_once, turn_marks}
 use Rattle.memory.proofs.none_twice.Goals as goal
 
 -- there are as many entries as the first byte says

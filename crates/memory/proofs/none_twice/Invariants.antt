@@ -1,10 +1,8 @@
-use mathlib.Core.Path.{◌≡◌, sym, ap, ◌∙◌}
-use Prim.Native.Nat.{◌≤◌, ◌<◌}
-use native.Mathlib.Omega.{arith}
-use lib.ListN.{length, drop}
+use mathlib.Core.Path.{◌≡◌}
+use Prim.Native.Nat.{◌≤◌}
+use lib.ListN.{drop}
 use Rattle.manual.specs.Memory.{entry_count, entries_of, no_twice}
-use Rattle.memory.proofs.PlacesLaws.{entries_are_count, event_small}
-use Rattle.memory.proofs.SeenLaws.{Marks, none_twice_past, marks_past, turn_once, turn_marks}
+use Rattle.memory.proofs.SeenLaws.{Marks}
 use Rattle.memory.proofs.none_twice.Given as goal
 
 -- `seen` marks the events of the entries passed, and `once` says that no two of these are equal

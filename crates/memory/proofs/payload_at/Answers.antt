@@ -4,7 +4,6 @@ use native.Mathlib.Nat.{add-sub_cancel_left}
 use native.Mathlib.Omega.{arith}
 use lib.ListN.{take, drop}
 use Rattle.memory.proofs.PlacesLaws.{entry_within, frame_is_at}
-use borrow.Author.Rules.{rules}
 use Rattle.memory.proofs.payload_at.Goals as goal
 
 pub overflow_add-start : goal.overflow_add-start

@@ -1,12 +1,7 @@
-use mathlib.Core.Path.{◌≡◌, sym, ap, ◌∙◌}
-use mathlib.Core.Logic.{⊎_elim}
 use Prim.Native.Nat.{◌≤◌, ◌-◌}
-use native.Mathlib.Omega.{arith}
-use lib.ListN.{length}
 use Rattle.manual.specs.Configuration.{priority_of}
 use Rattle.manual.specs.Memory.{entries_of}
-use Rattle.memory.proofs.PlacesLaws.{entries_are_count, event_small}
-use Rattle.memory.proofs.VictimLaws.{Best, priority_at, best_of_none, best_stays, best_changes, best_is_first}
+use Rattle.memory.proofs.VictimLaws.{Best, priority_at}
 use Rattle.memory.proofs.place_of_greatest.Given as goal
 
 abbrev pub invariant-loop-i : goal.invariant-loop-i

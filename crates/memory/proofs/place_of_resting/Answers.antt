@@ -1,11 +1,11 @@
 use Rattle.memory.proofs.VictimLaws.{rests_at}
-use mathlib.Core.Path.{◌≡◌, refl, sym, ap, ◌∙◌}
-use Prim.Native.Nat.{ℕ, ◌≤◌, ◌<◌, ◌-◌}
+use mathlib.Core.Path.{refl, sym, ap, ◌∙◌}
+use Prim.Native.Nat.{ℕ, ◌<◌}
 use native.Mathlib.Omega.{arith}
-use lib.ListN.{length, drop}
+use lib.ListN.{length}
 use Rattle.manual.specs.Configuration.{priority_of}
 use Rattle.manual.specs.Memory.{entries_of}
-use Rattle.memory.specs.Places.{first_place_from, first_place}
+use Rattle.memory.specs.Places.{first_place}
 use Rattle.memory.specs.Store.{quiet_in}
 use Rattle.memory.proofs.PlacesLaws.{entries_are_count, event_small, first_hit, first_miss, first_end}
 use Rattle.memory.proofs.place_of_resting.Goals as goal

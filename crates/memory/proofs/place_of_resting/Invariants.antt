@@ -1,13 +1,11 @@
 use Rattle.memory.proofs.VictimLaws.{rests_at}
-use mathlib.Core.Path.{◌≡◌, refl, sym, ap, ◌∙◌}
-use Prim.Native.Nat.{ℕ, ◌≤◌, ◌<◌, ◌-◌}
-use native.Mathlib.Omega.{arith}
-use lib.ListN.{length, drop}
+use mathlib.Core.Path.{◌≡◌}
+use Prim.Native.Nat.{◌≤◌, ◌-◌}
+use lib.ListN.{drop}
 use Rattle.manual.specs.Configuration.{priority_of}
 use Rattle.manual.specs.Memory.{entries_of}
 use Rattle.memory.specs.Places.{first_place_from, first_place}
 use Rattle.memory.specs.Store.{quiet_in}
-use Rattle.memory.proofs.PlacesLaws.{entries_are_count, event_small, first_hit, first_miss, first_end}
 use Rattle.memory.proofs.place_of_resting.Given as goal
 
 abbrev pub invariant-loop-i : goal.invariant-loop-i

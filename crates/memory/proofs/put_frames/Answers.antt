@@ -4,7 +4,6 @@ use Prim.Native.Nat.{ℕ, ◌+◌}
 use lib.ListN.{length}
 use lib.Seq.{sets}
 use Rattle.writing.proofs.PartlyWritten.{sets_append}
-use borrow.Author.Rules.{rules}
 use Rattle.memory.proofs.put_frames.Goals as goal
 
 pub returns : goal.returns

@@ -3,7 +3,6 @@ use mathlib.Core.List.{List}
 use Prim.Native.Nat.{ℕ, ◌-◌}
 use lib.ListN.{set}
 use Rattle.manual.specs.Memory.{entry_count}
-use borrow.Author.Rules.{rules}
 use Rattle.memory.proofs.remove.Goals as goal
 
 pub returns : goal.returns

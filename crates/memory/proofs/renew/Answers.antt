@@ -7,7 +7,6 @@ use lib.Seq.{length-take-le}
 use Rattle.manual.specs.Memory.{first_frame, renewed_payload, entries_of}
 use Rattle.memory.specs.Places.{at_place}
 use Rattle.memory.specs.Block.{replaced}
-use borrow.Author.Rules.{rules}
 use Rattle.memory.proofs.renew.Goals as goal
 
 pub slice_bounds-first-end : goal.slice_bounds-first-end

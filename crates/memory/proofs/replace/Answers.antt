@@ -4,7 +4,6 @@ use Prim.Native.Nat.{◌-◌}
 use native.Mathlib.Omega.{arith}
 use Rattle.memory.specs.Block.{entered}
 use Rattle.memory.proofs.SurgeryLaws.{room_in_use}
-use borrow.Author.Rules.{rules}
 use Rattle.memory.proofs.replace.Goals as goal
 
 pub enter-requires : goal.enter-requires

@@ -1,6 +1,5 @@
 use native.Mathlib.Omega.{arith}
 use Rattle.manual.proofs.MemoryLaws.{used_most}
-use borrow.Author.Rules.{rules}
 use Rattle.memory.proofs.start_of.Goals as goal
 
 pub overflow_mul-result : goal.overflow_mul-result

@@ -4,7 +4,6 @@ use Prim.Native.Nat.{ℕ}
 use Rattle.manual.specs.declared.StoreAnswer.TheVariants.{Renewed}
 use Rattle.memory.specs.Store.{left_with}
 use Rattle.memory.proofs.StoreLaws.{may_find, may_renew, renews, has_none}
-use borrow.Author.Rules.{rules}
 use Rattle.memory.proofs.store.Goals as goal
 
 pub place_of-own-requires : goal.place_of-own-requires

@@ -4,7 +4,6 @@ use Rattle.manual.specs.Memory.{entries_of}
 use Rattle.memory.specs.declared.Find.{Find}
 use Rattle.memory.specs.Places.{first_place, rests, or_else_place, victim_place}
 use Rattle.memory.specs.Store.{quiet_in}
-use borrow.Author.Rules.{rules}
 use Rattle.memory.proofs.victim.Goals as goal
 
 pub returns-in-At : goal.returns-in-At

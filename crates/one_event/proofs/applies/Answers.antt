@@ -5,7 +5,6 @@ use lib.ListN.{set}
 use Rattle.debounce.proofs.SmallNumbersLaws.{held}
 use Rattle.debounce.specs.Rows.{answered}
 use Rattle.one_event.proofs.LentLaws.{applied_is}
-use borrow.Author.Rules.{rules}
 use Rattle.one_event.proofs.applies.Goals as goal
 
 pub returns : goal.returns

@@ -1,6 +1,5 @@
 -- `clears` meets its contract.
 use Rattle.one_event.proofs.LentLaws.{clears_is}
-use borrow.Author.Rules.{rules}
 use Rattle.one_event.proofs.clears.Goals as goal
 
 pub returns : goal.returns

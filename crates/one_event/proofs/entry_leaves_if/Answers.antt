@@ -1,6 +1,5 @@
 -- `entry_leaves_if` meets its contract.
 use Rattle.one_event.proofs.LentLaws.{leaves_where, stays_where}
-use borrow.Author.Rules.{rules}
 use Rattle.one_event.proofs.entry_leaves_if.Goals as goal
 
 pub returns-then-test : goal.returns-then-test

@@ -1,6 +1,5 @@
 -- `fails` meets its contract: memory is told of the records as the failed result left them.
 use Rattle.one_event.proofs.LentLaws.{fails_told, fails_untold}
-use borrow.Author.Rules.{rules}
 use Rattle.one_event.proofs.fails.Goals as goal
 
 pub returns-then-after : goal.returns-then-after

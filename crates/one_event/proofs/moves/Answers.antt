@@ -8,7 +8,6 @@ use Rattle.debounce.specs.Rows.{answered}
 use Rattle.debounce.proofs.SmallNumbersLaws.{held}
 use Rattle.one_event.specs.Ready.{flagged}
 use Rattle.one_event.proofs.LentLaws.{qualifies_by, applied_is, flagged_left}
-use borrow.Author.Rules.{rules}
 use Rattle.one_event.proofs.moves.Goals as goal
 
 pub returns-in-None : goal.returns-in-None

@@ -4,7 +4,6 @@ use Rattle.manual.specs.declared.StoreAnswer.TheVariants.{Untold}
 use Rattle.manual.specs.declared.Verdict.TheVariants.{None, Passed, Failed}
 use Rattle.one_event.specs.Steps.{stepped}
 use Rattle.one_event.proofs.LentLaws.{qualifies_by}
-use borrow.Author.Rules.{rules}
 use Rattle.one_event.proofs.qualifies.Goals as goal
 
 pub returns-in-None : goal.returns-in-None

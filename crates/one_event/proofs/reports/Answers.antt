@@ -3,7 +3,6 @@ use Rattle.debounce.specs.Rows.{answered}
 use Rattle.debounce.proofs.SmallNumbersLaws.{held}
 use Rattle.manual.specs.State.{lent}
 use Rattle.one_event.proofs.LentLaws.{may_report, reports_is}
-use borrow.Author.Rules.{rules}
 use Rattle.one_event.proofs.reports.Goals as goal
 
 pub report_step-d-requires : goal.report_step-d-requires

@@ -1,6 +1,5 @@
 -- `resets` meets its contract.
 use Rattle.one_event.proofs.LentLaws.{resets_is}
-use borrow.Author.Rules.{rules}
 use Rattle.one_event.proofs.resets.Goals as goal
 
 pub returns : goal.returns

@@ -2,7 +2,6 @@
 use Rattle.history.specs.History.{start}
 use Rattle.manual.specs.Configuration.{limits_of}
 use Rattle.one_event.proofs.LentLaws.{happens_is}
-use borrow.Author.Rules.{rules}
 use Rattle.one_event.proofs.starts.Goals as goal
 
 pub returns : goal.returns

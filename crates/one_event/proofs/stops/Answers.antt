@@ -1,5 +1,4 @@
 use Rattle.one_event.proofs.LentLaws.{stops_is}
-use borrow.Author.Rules.{rules}
 use Rattle.one_event.proofs.stops.Goals as goal
 
 pub stop_record-aged-requires : goal.stop_record-aged-requires

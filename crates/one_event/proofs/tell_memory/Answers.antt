@@ -1,6 +1,5 @@
 -- `tell_memory` meets its contract.
 use Rattle.one_event.proofs.LentLaws.{told_is}
-use borrow.Author.Rules.{rules}
 use Rattle.one_event.proofs.tell_memory.Goals as goal
 
 pub returns : goal.returns

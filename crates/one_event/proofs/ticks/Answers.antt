@@ -7,7 +7,6 @@ use Rattle.debounce.proofs.RowOfPart.{row_is}
 use Rattle.manual.specs.State.{lent}
 use Rattle.one_event.specs.Ready.{flagged}
 use Rattle.one_event.proofs.LentLaws.{may_tick, ticks_is}
-use borrow.Author.Rules.{rules}
 use Rattle.one_event.proofs.ticks.Goals as goal
 
 pub part_of-requires : goal.part_of-requires

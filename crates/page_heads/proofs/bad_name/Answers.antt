@@ -2,7 +2,6 @@
 use Rattle.page_heads.specs.Heads.{bad_name}
 use Rattle.page_text.proofs.TextLaws.{puts_none}
 use borrow.Author.Tests.{eq-eqb, ne_eqb}
-use borrow.Author.Rules.{rules}
 use Rattle.page_heads.proofs.bad_name.Goals as goal
 
 pub returns-then-line-eq0 : goal.returns-then-line-eq0

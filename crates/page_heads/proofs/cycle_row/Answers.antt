@@ -3,7 +3,6 @@ use native.Mathlib.Omega.{arith}
 use Rattle.page_text.specs.Text.{text}
 use Rattle.page_text.proofs.TextLaws.{puts_then, puts_most}
 use Rattle.page_heads.specs.Heads.{cycle_row}
-use borrow.Author.Rules.{rules}
 use Rattle.page_heads.proofs.cycle_row.Goals as goal
 
 pub returns : goal.returns

@@ -4,7 +4,6 @@ use Rattle.page_text.proofs.TextLaws.{puts_most}
 use Rattle.page_text.specs.Text.{text}
 use borrow.Author.Tests.{eq-eqb, ne_eqb}
 use native.Mathlib.Omega.{arith}
-use borrow.Author.Rules.{rules}
 use Rattle.page_heads.proofs.last_answer.Goals as goal
 
 pub returns-then-made-eq0 : goal.returns-then-made-eq0

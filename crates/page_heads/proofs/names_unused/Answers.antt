@@ -4,7 +4,6 @@ use Rattle.page_text.proofs.TextLaws.{puts_none, puts_most}
 use Rattle.page_text.specs.Text.{text}
 use borrow.Author.Tests.{ne_eqb}
 use native.Mathlib.Omega.{arith}
-use borrow.Author.Rules.{rules}
 use Rattle.page_heads.proofs.names_unused.Goals as goal
 
 pub returns-in-0 : goal.returns-in-0

@@ -1,11 +1,6 @@
-use mathlib.Core.Path.{◌≡◌, refl, ◌∙◌}
-use mathlib.Core.List.{flat_map}
-use Prim.Native.Nat.{◌-◌, ◌*◌, ◌≤◌}
+use mathlib.Core.Path.{refl, ◌∙◌}
 use native.Mathlib.Omega.{arith}
-use lib.ListN.{length, take}
-use Rattle.page_text.specs.Text.{Puts}
 use Rattle.page_text.proofs.TextLaws.{puts_none, puts_then, puts_most}
-use Rattle.page_heads.specs.Heads.{number}
 use Rattle.page_heads.proofs.HeadsLaws.{numbers_none, numbers_more, numbers_all}
 use Rattle.page_heads.proofs.put_numbers.Goals as goal
 

@@ -1,13 +1,10 @@
 -- `put_numbers` meets its contract.
-use mathlib.Core.Path.{◌≡◌, refl, ◌∙◌}
+use mathlib.Core.Path.{◌≡◌}
 use mathlib.Core.List.{flat_map}
 use Prim.Native.Nat.{◌-◌, ◌*◌, ◌≤◌}
-use native.Mathlib.Omega.{arith}
 use lib.ListN.{length, take}
 use Rattle.page_text.specs.Text.{Puts}
-use Rattle.page_text.proofs.TextLaws.{puts_none, puts_then, puts_most}
 use Rattle.page_heads.specs.Heads.{number}
-use Rattle.page_heads.proofs.HeadsLaws.{numbers_none, numbers_more, numbers_all}
 use Rattle.page_heads.proofs.put_numbers.Given as goal
 
 abbrev pub invariant-loop-i : goal.invariant-loop-i

@@ -3,7 +3,6 @@ use native.Mathlib.Omega.{arith}
 use Rattle.page_text.specs.Text.{text}
 use Rattle.page_text.proofs.TextLaws.{puts_most}
 use Rattle.page_heads.specs.Heads.{overflowed}
-use borrow.Author.Rules.{rules}
 use Rattle.page_heads.proofs.put_overflow.Goals as goal
 
 pub returns-then-overflow : goal.returns-then-overflow

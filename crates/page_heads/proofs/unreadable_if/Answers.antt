@@ -1,7 +1,6 @@
 -- `unreadable_if` meets its contract.
 use Rattle.page_heads.specs.Heads.{unreadable_if}
 use Rattle.page_text.proofs.TextLaws.{puts_none}
-use borrow.Author.Rules.{rules}
 use Rattle.page_heads.proofs.unreadable_if.Goals as goal
 
 pub returns-then-bad : goal.returns-then-bad

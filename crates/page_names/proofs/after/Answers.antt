@@ -1,7 +1,6 @@
 -- `after` meets its contract.
 use Rattle.page_names.specs.Utf8.{after}
 use borrow.Author.Tests.{eq-eqb, ne_eqb}
-use borrow.Author.Rules.{rules}
 use Rattle.page_names.proofs.after.Goals as goal
 
 pub returns-then-a-eq0 : goal.returns-then-a-eq0

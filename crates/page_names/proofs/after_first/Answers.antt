@@ -1,6 +1,5 @@
 -- `after_first` meets its contract.
 use Rattle.page_names.specs.Utf8.{after_first}
-use borrow.Author.Rules.{rules}
 use Rattle.page_names.proofs.after_first.Goals as goal
 
 pub returns-then-within : goal.returns-then-within

@@ -1,7 +1,6 @@
 -- `after_long` meets its contract.
 use Rattle.page_names.specs.Utf8.{after_long}
 use borrow.Author.Tests.{eq-eqb, ne_eqb}
-use borrow.Author.Rules.{rules}
 use Rattle.page_names.proofs.after_long.Goals as goal
 
 pub returns-then-b-eq224 : goal.returns-then-b-eq224

@@ -1,6 +1,5 @@
 -- `code_end` meets its contract.
 use Rattle.page_names.proofs.NamesLaws.{ends_past, ends_behind_h, ends_without_h}
-use borrow.Author.Rules.{rules}
 use Rattle.page_names.proofs.code_end.Goals as goal
 
 pub returns-then-line-digits : goal.returns-then-line-digits

@@ -1,11 +1,8 @@
 -- `find` meets its contract.
-use Rattle.page_names.proofs.NamesLaws.{line_ends, stop_within, kept_is, name_begins, name_part, name_hit}
-use Rattle.page_names.proofs.NamesLaws.{name_miss, no_name, no_part}
-use Rattle.page_names.specs.Names.{name_in, name_among, lines_of, name_of, is_of}
+use Rattle.page_names.specs.Names.{name_among, lines_of, name_of}
 use lib.ListN.{length, drop}
-use Prim.Native.Nat.{◌+◌, ◌-◌}
-use native.Mathlib.Omega.{arith}
-use mathlib.Core.Path.{◌≡◌, refl, sym, ap, ◌∙◌}
+use Prim.Native.Nat.{◌-◌}
+use mathlib.Core.Path.{◌≡◌}
 use Rattle.page_names.proofs.find.Given as goal
 
 abbrev pub invariant-loop-at : goal.invariant-loop-at

@@ -1,10 +1,8 @@
 -- `first_bad` meets its contract.
-use Rattle.page_names.proofs.NamesLaws.{line_ends, stop_within, kept_is, bad_hit, bad_miss, no_bad}
-use Rattle.page_names.specs.Names.{bad_among, lines_of, first_bad, is_bad}
+use Rattle.page_names.specs.Names.{bad_among, lines_of, first_bad}
 use lib.ListN.{length, drop}
 use Prim.Native.Nat.{◌+◌, ◌-◌, ◌≤◌}
-use native.Mathlib.Omega.{arith}
-use mathlib.Core.Path.{◌≡◌, refl, sym, ap, ◌∙◌}
+use mathlib.Core.Path.{◌≡◌}
 use Rattle.page_names.proofs.first_bad.Given as goal
 
 abbrev pub invariant-loop-at : goal.invariant-loop-at

@@ -1,6 +1,5 @@
 -- `is_bad` meets its contract.
 use Rattle.page_names.specs.Names.{is_bad}
-use borrow.Author.Rules.{rules}
 use Rattle.page_names.proofs.is_bad.Goals as goal
 
 pub returns : goal.returns

@@ -1,7 +1,6 @@
 -- `is_good` meets its contract.
 use Rattle.page_names.proofs.NamesLaws.{name_start_within, good_is}
 use native.Mathlib.Omega.{arith}
-use borrow.Author.Rules.{rules}
 use Rattle.page_names.proofs.is_good.Goals as goal
 
 pub overflow_sub-size : goal.overflow_sub-size

@@ -1,5 +1,4 @@
 -- `is_hex` meets its contract.
-use borrow.Author.Rules.{rules}
 use Rattle.page_names.proofs.is_hex.Goals as goal
 
 pub returns : goal.returns

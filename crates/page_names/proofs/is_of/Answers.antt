@@ -2,9 +2,7 @@
 use Rattle.page_names.proofs.NamesLaws.{digits_are, digits_within, good_digits}
 use Rattle.page_names.specs.Names.{is_of}
 use mathlib.Core.Path.{sym, ◌∙◌}
-use borrow.Author.Tests.{not-true, not-false}
 use native.Mathlib.Omega.{arith}
-use borrow.Author.Rules.{rules}
 use Rattle.page_names.proofs.is_of.Goals as goal
 
 pub returns-then-not-is_good : goal.returns-then-not-is_good

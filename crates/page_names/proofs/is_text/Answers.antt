@@ -1,11 +1,10 @@
 use Rattle.page_names.proofs.Utf8Laws.{all_more, all_end}
-use Rattle.page_names.specs.Utf8.{is_text, whole, after_all}
+use Rattle.page_names.specs.Utf8.{is_text, after_all}
 use Rattle.page_names.specs.declared.Awaited.{Awaited}
-use lib.ListN.{length, drop}
+use lib.ListN.{drop}
 use lib.Dec.{eqb}
-use native.Mathlib.Omega.{arith}
-use Prim.Native.Nat.{◌-◌, ◌+◌}
-use mathlib.Core.Path.{◌≡◌, sym, ap, ◌∙◌}
+use Prim.Native.Nat.{◌+◌}
+use mathlib.Core.Path.{sym, ap, ◌∙◌}
 use Rattle.page_names.proofs.is_text.Goals as goal
 
 pub awaits-a-requires : goal.awaits-a-requires

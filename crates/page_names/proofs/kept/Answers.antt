@@ -2,7 +2,6 @@
 use Rattle.page_names.proofs.NamesLaws.{kept_none}
 use Rattle.page_names.specs.Names.{kept_of}
 use borrow.Author.Tests.{eq-eqb, ne_eqb}
-use borrow.Author.Rules.{rules}
 use Rattle.page_names.proofs.kept.Goals as goal
 
 pub returns-then-length-eq0 : goal.returns-then-length-eq0

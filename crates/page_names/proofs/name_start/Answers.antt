@@ -1,6 +1,5 @@
 -- `name_start` meets its contract.
 use Rattle.page_names.specs.Names.{name_start}
-use borrow.Author.Rules.{rules}
 use Rattle.page_names.proofs.name_start.Goals as goal
 
 pub returns : goal.returns

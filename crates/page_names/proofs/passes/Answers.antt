@@ -1,5 +1,4 @@
 -- `passes` meets its contract.
-use borrow.Author.Rules.{rules}
 use Rattle.page_names.proofs.passes.Goals as goal
 
 pub returns-in-Hex : goal.returns-in-Hex

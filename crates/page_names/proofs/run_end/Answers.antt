@@ -1,10 +1,5 @@
 use Rattle.page_names.proofs.NamesLaws.{lead_more, lead_stop, lead_end}
-use mathlib.Core.Path.{◌≡◌, refl, sym, ◌∙◌}
-use borrow.Author.Tests.{not-true, not-false}
-use Rattle.page_names.specs.Names.{passes, leading}
-use lib.ListN.{length, drop}
-use native.Mathlib.Omega.{arith}
-use Prim.Native.Nat.{◌+◌, ◌-◌}
+use mathlib.Core.Path.{refl, sym, ◌∙◌}
 use Rattle.page_names.proofs.run_end.Goals as goal
 
 pub loop-i-init : goal.loop-i-init

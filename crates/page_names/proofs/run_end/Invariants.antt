@@ -1,10 +1,7 @@
 -- `run_end` meets its contract.
-use Rattle.page_names.proofs.NamesLaws.{lead_more, lead_stop, lead_end}
-use mathlib.Core.Path.{◌≡◌, refl, sym, ◌∙◌}
-use borrow.Author.Tests.{not-true, not-false}
+use mathlib.Core.Path.{◌≡◌}
 use Rattle.page_names.specs.Names.{passes, leading}
 use lib.ListN.{length, drop}
-use native.Mathlib.Omega.{arith}
 use Prim.Native.Nat.{◌+◌, ◌-◌}
 use Rattle.page_names.proofs.run_end.Given as goal
 

@@ -2,8 +2,6 @@ use lib.ListN.{get_or}
 use Rattle.page_names.proofs.NamesLaws.{digit_few, worth_none, worth_more, worth_few}
 use native.Mathlib.Omega.{arith}
 use mathlib.Core.Path.{◌≡◌, sym}
-use Rattle.page_names.specs.Names.{worth}
-use Prim.Native.Nat.{◌-◌, ◌≤◌}
 use Rattle.page_names.proofs.worth.Goals as goal
 
 pub loop-i-init : goal.loop-i-init

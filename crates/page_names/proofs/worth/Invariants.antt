@@ -1,8 +1,5 @@
 -- `worth` meets its contract.
-use lib.ListN.{get_or}
-use Rattle.page_names.proofs.NamesLaws.{digit_few, worth_none, worth_more, worth_few}
-use native.Mathlib.Omega.{arith}
-use mathlib.Core.Path.{◌≡◌, sym}
+use mathlib.Core.Path.{◌≡◌}
 use Rattle.page_names.specs.Names.{worth}
 use Prim.Native.Nat.{◌-◌, ◌≤◌}
 use Rattle.page_names.proofs.worth.Given as goal

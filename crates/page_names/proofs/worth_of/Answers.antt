@@ -1,7 +1,6 @@
 -- `worth_of` meets its contract.
 use Rattle.page_names.specs.Names.{worth_of}
 use borrow.Author.Tests.{le-leb, lt-leb}
-use borrow.Author.Rules.{rules}
 use Rattle.page_names.proofs.worth_of.Goals as goal
 
 pub returns-then-b-le57 : goal.returns-then-b-le57

@@ -2,7 +2,6 @@
 use native.Mathlib.Omega.{arith}
 use Rattle.page_text.specs.Text.{text}
 use Rattle.page_text.proofs.TextLaws.{puts_then, puts_most}
-use borrow.Author.Rules.{rules}
 use Rattle.page_parts.proofs.put_bdi.Goals as goal
 
 pub returns : goal.returns

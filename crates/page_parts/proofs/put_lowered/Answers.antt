@@ -3,7 +3,6 @@ use native.Mathlib.Omega.{arith}
 use borrow.Author.Tests.{lt-ltb, le-ltb}
 use Rattle.page_text.proofs.TextLaws.{puts_most}
 use Rattle.page_parts.specs.Signals.{lowered}
-use borrow.Author.Rules.{rules}
 use Rattle.page_parts.proofs.put_lowered.Goals as goal
 
 pub returns-then-raised-lt128 : goal.returns-then-raised-lt128

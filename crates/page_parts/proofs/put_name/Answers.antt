@@ -3,7 +3,6 @@ use native.Mathlib.Omega.{arith}
 use borrow.Author.Tests.{eq-eqb, ne_eqb}
 use Rattle.page_text.proofs.TextLaws.{puts_most}
 use Rattle.page_parts.specs.Signals.{shown_name}
-use borrow.Author.Rules.{rules}
 use Rattle.page_parts.proofs.put_name.Goals as goal
 
 pub returns-then-name-eq0 : goal.returns-then-name-eq0

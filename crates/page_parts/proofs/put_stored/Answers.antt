@@ -4,7 +4,6 @@ use Rattle.page_text.specs.Text.{text}
 use Rattle.page_text.proofs.TextLaws.{puts_most}
 use borrow.Author.Tests.{ne_eqb}
 use Rattle.page_parts.specs.Signals.{stored}
-use borrow.Author.Rules.{rules}
 use Rattle.page_parts.proofs.put_stored.Goals as goal
 
 pub returns-in-0 : goal.returns-in-0

@@ -3,7 +3,6 @@ use native.Mathlib.Omega.{arith}
 use Rattle.page_text.specs.Text.{text}
 use Rattle.page_text.proofs.TextLaws.{puts_then, puts_most}
 use Rattle.page_parts.specs.Signals.{told}
-use borrow.Author.Rules.{rules}
 use Rattle.page_parts.proofs.put_told.Goals as goal
 
 pub returns : goal.returns

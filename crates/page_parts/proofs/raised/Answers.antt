@@ -1,10 +1,9 @@
 -- `raised` meets its contract.
 use borrow.Author.Rules.{rules}
-use mathlib.Core.Path.{◌≡◌}
 use native.Mathlib.Omega.{arith}
 use lib.IntN.{pos, ◌+ℤ◌}
-use mir.Syntax.{w8, w16}
-use mir.Val.{to_z, of_z, SFits}
+use mir.Syntax.{w16}
+use mir.Val.{SFits}
 use mir.Facts.{to_z-of_z}
 use Rattle.manual.specs.Words.{nat_of}
 use Rattle.page_parts.proofs.RaisedLaws.{wider, raised_is, raised_few}

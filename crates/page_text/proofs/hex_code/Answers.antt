@@ -1,6 +1,5 @@
 -- `hex_code` meets its contract.
 use Rattle.page_text.specs.Numbers.{hex_code}
-use borrow.Author.Rules.{rules}
 use Rattle.page_text.proofs.hex_code.Goals as goal
 
 pub returns : goal.returns

@@ -1,6 +1,5 @@
 -- `put` meets its contract.
 use Rattle.page_text.proofs.TextLaws.{puts_of}
-use borrow.Author.Rules.{rules}
 use Rattle.page_text.proofs.put.Goals as goal
 
 pub returns : goal.returns

@@ -4,7 +4,6 @@ use borrow.Author.Tests.{ne_eqb}
 use Rattle.page_text.specs.Text.{text}
 use Rattle.page_text.specs.Escape.{escaped_byte}
 use Rattle.page_text.proofs.TextLaws.{puts_most}
-use borrow.Author.Rules.{rules}
 use Rattle.page_text.proofs.put_byte.Goals as goal
 
 pub returns-in-60 : goal.returns-in-60

@@ -2,7 +2,6 @@
 use native.Mathlib.Nat.{le_refl}
 use Rattle.page_text.specs.Numbers.{hex_code}
 use Rattle.page_text.proofs.TextLaws.{puts_most}
-use borrow.Author.Rules.{rules}
 use Rattle.page_text.proofs.put_code.Goals as goal
 
 pub returns : goal.returns

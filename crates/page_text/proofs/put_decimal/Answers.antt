@@ -3,7 +3,6 @@ use native.Mathlib.Omega.{arith}
 use borrow.Author.Tests.{lt-ltb, le-ltb}
 use Rattle.page_text.specs.Numbers.{decimal}
 use Rattle.page_text.proofs.TextLaws.{puts_most}
-use borrow.Author.Rules.{rules}
 use Rattle.page_text.proofs.put_decimal.Goals as goal
 
 pub returns-then-n-lt10 : goal.returns-then-n-lt10

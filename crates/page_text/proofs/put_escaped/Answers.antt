@@ -1,9 +1,5 @@
-use mathlib.Core.Path.{◌≡◌, refl, ◌∙◌}
-use Prim.Native.Nat.{◌-◌, ◌*◌, ◌≤◌}
+use mathlib.Core.Path.{refl, ◌∙◌}
 use native.Mathlib.Omega.{arith}
-use lib.ListN.{length, take}
-use Rattle.page_text.specs.Text.{Puts}
-use Rattle.page_text.specs.Escape.{escaped}
 use Rattle.page_text.proofs.TextLaws.{puts_none, puts_then, puts_most}
 use Rattle.page_text.proofs.EscapeLaws.{escaped_none, escaped_more, escaped_all}
 use Rattle.page_text.proofs.put_escaped.Goals as goal

@@ -1,6 +1,5 @@
 -- `put_hex_byte` meets its contract.
 use Rattle.page_text.specs.Numbers.{hex_byte}
-use borrow.Author.Rules.{rules}
 use Rattle.page_text.proofs.put_hex_byte.Goals as goal
 
 pub returns : goal.returns

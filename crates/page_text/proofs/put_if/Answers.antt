@@ -1,6 +1,5 @@
 -- `put_if` meets its contract.
 use Rattle.page_text.proofs.TextLaws.{puts_none}
-use borrow.Author.Rules.{rules}
 use Rattle.page_text.proofs.put_if.Goals as goal
 
 pub returns-then-test : goal.returns-then-test

@@ -2,7 +2,6 @@ use Prim.Native.Nat.{◌+◌}
 use native.Mathlib.Omega.{arith}
 use Rattle.manual.proofs.MemoryLaws.{used_most}
 use Rattle.queries.proofs.ReadingLaws.{skipped_most}
-use borrow.Author.Rules.{rules}
 use Rattle.queries.proofs.chosen_part.Goals as goal
 
 pub overflow_add-result : goal.overflow_add-result

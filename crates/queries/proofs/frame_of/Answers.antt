@@ -1,6 +1,5 @@
 use mathlib.Core.Path.{sym, ◌∙◌}
 use Rattle.queries.proofs.ReadingLaws.{found_most, answers_at, answers_nothing}
-use borrow.Author.Rules.{rules}
 use Rattle.queries.proofs.frame_of.Goals as goal
 
 pub place_of-own-requires : goal.place_of-own-requires

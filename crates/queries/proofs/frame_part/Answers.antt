@@ -2,7 +2,6 @@
 use mathlib.Core.Path.{sym, ap, ◌∙◌}
 use Rattle.manual.specs.declared.FrameAnswer.{FrameAnswer}
 use Rattle.queries.specs.Reading.{part_of}
-use borrow.Author.Rules.{rules}
 use Rattle.queries.proofs.frame_part.Goals as goal
 
 pub returns-in-At : goal.returns-in-At

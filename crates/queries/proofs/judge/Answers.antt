@@ -6,7 +6,6 @@ use lib.Dec.{leb}
 use Rattle.manual.specs.Answers.{first_that_applies}
 use Rattle.judgement.proofs.JudgedLaws.{judged_by, stopped_by}
 use Rattle.queries.specs.Reading.{four}
-use borrow.Author.Rules.{rules}
 use Rattle.queries.proofs.judge.Goals as goal
 
 pub returns-in-Go : goal.returns-in-Go

@@ -2,7 +2,6 @@
 use native.Mathlib.Nat.{add-sub_cancel_left}
 use native.Mathlib.Omega.{arith}
 use Rattle.queries.proofs.ReadingLaws.{part_within, part_beyond}
-use borrow.Author.Rules.{rules}
 use Rattle.queries.proofs.part_at.Goals as goal
 
 pub returns-then-memory-start : goal.returns-then-memory-start

@@ -7,7 +7,6 @@ use mir.Facts.{to_z-of_z}
 use Rattle.manual.specs.State.{lent}
 use Rattle.judgement.specs.Checks.{check_number}
 use Rattle.queries.proofs.ReadingLaws.{event_most, counter_small, counter_is, counter_refused, small_fits}
-use borrow.Author.Rules.{rules}
 use Rattle.queries.proofs.read_counter.Goals as goal
 
 pub counter_of-counter-requires : goal.counter_of-counter-requires

@@ -5,7 +5,6 @@ use Rattle.manual.specs.State.{lent}
 use Rattle.judgement.specs.Checks.{check_number}
 use Rattle.queries.specs.Reading.{says}
 use Rattle.queries.proofs.ReadingLaws.{may_seek, frame_is, frame_refused}
-use borrow.Author.Rules.{rules}
 use Rattle.queries.proofs.read_frame.Goals as goal
 
 pub frame_of-requires : goal.frame_of-requires

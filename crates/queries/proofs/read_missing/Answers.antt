@@ -3,7 +3,6 @@ use mathlib.Core.Path.{sym, ap, ◌∙◌}
 use Rattle.manual.specs.State.{lent}
 use Rattle.judgement.specs.Checks.{check_number}
 use Rattle.queries.proofs.ReadingLaws.{event_most, missing_is, missing_refused}
-use borrow.Author.Rules.{rules}
 use Rattle.queries.proofs.read_missing.Goals as goal
 
 pub still_missing-requires : goal.still_missing-requires

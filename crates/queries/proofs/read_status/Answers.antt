@@ -3,7 +3,6 @@ use mathlib.Core.Path.{sym, ap, ◌∙◌}
 use Rattle.manual.specs.State.{lent}
 use Rattle.judgement.specs.Checks.{check_number}
 use Rattle.queries.proofs.ReadingLaws.{status_is, status_refused}
-use borrow.Author.Rules.{rules}
 use Rattle.queries.proofs.read_status.Goals as goal
 
 pub returns-in-Go : goal.returns-in-Go

@@ -1,5 +1,4 @@
 -- `asks` meets its contract.
-use borrow.Author.Rules.{rules}
 use Rattle.receiving.proofs.asks.Goals as goal
 
 pub returns : goal.returns

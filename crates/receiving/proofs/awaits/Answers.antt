@@ -1,7 +1,6 @@
 -- `awaits` meets its contract.
 use borrow.Author.Tests.{eq-eqb, ne_eqb}
 use Rattle.transport.specs.Receiving.{awaits}
-use borrow.Author.Rules.{rules}
 use Rattle.receiving.proofs.awaits.Goals as goal
 
 pub returns-then-left-eq0 : goal.returns-then-left-eq0

@@ -4,7 +4,6 @@ use mathlib.Core.Path.{sym, ◌∙◌}
 use lib.ListN.{length}
 use Rattle.transport.specs.Receiving.{beginning}
 use Rattle.receiving.proofs.TakesLaws.{single_tells, first_tells}
-use borrow.Author.Rules.{rules}
 use Rattle.receiving.proofs.beginning.Goals as goal
 
 pub store-requires : goal.store-requires

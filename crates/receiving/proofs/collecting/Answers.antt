@@ -2,10 +2,8 @@
 use native.Mathlib.Omega.{arith}
 use mathlib.Core.Path.{sym, ◌∙◌}
 use lib.ListN.{length}
-use borrow.Author.Tests.{not-true, not-false}
 use Rattle.transport.specs.Receiving.{collecting}
 use Rattle.receiving.proofs.TakesLaws.{next_due, next_tells}
-use borrow.Author.Rules.{rules}
 use Rattle.receiving.proofs.collecting.Goals as goal
 
 pub returns-then-not-takes_next : goal.returns-then-not-takes_next

@@ -1,6 +1,5 @@
 -- `control` meets its contract.
 use Rattle.transport.specs.Frames.{padded}
-use borrow.Author.Rules.{rules}
 use Rattle.receiving.proofs.control.Goals as goal
 
 pub returns : goal.returns

@@ -5,7 +5,6 @@ use mathlib.Core.List.{List}
 use Prim.Native.Nat.{ℕ, ◌+◌, ◌-◌}
 use lib.ListN.{take, drop}
 use lib.Seq.{sets}
-use borrow.Author.Rules.{rules}
 use Rattle.receiving.proofs.store.Goals as goal
 
 pub returns : goal.returns

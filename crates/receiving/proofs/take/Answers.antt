@@ -1,5 +1,4 @@
 -- `take` meets its contract.
-use borrow.Author.Rules.{rules}
 use Rattle.receiving.proofs.take.Goals as goal
 
 pub returns-in-Idle : goal.returns-in-Idle

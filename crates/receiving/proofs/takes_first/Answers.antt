@@ -1,6 +1,5 @@
 -- `takes_first` meets its contract.
 use Rattle.transport.specs.Receiving.{takes_first}
-use borrow.Author.Rules.{rules}
 use Rattle.receiving.proofs.takes_first.Goals as goal
 
 pub returns : goal.returns

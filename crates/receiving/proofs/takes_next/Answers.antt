@@ -1,6 +1,5 @@
 -- `takes_next` meets its contract.
 use Rattle.transport.specs.Receiving.{takes_next}
-use borrow.Author.Rules.{rules}
 use Rattle.receiving.proofs.takes_next.Goals as goal
 
 pub returns : goal.returns

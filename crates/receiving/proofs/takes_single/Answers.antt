@@ -1,7 +1,6 @@
 -- `takes_single` meets its contract.
 use mathlib.Core.Path.{refl}
 use Rattle.transport.specs.Receiving.{takes_single}
-use borrow.Author.Rules.{rules}
 use Rattle.receiving.proofs.takes_single.Goals as goal
 
 pub returns : goal.returns

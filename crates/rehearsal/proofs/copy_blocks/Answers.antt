@@ -2,7 +2,6 @@
 use mathlib.Core.Path.{◌∙◌}
 use native.Mathlib.Omega.{arith}
 use Rattle.writing.proofs.PartlyWritten.{laid_whole}
-use borrow.Author.Rules.{rules}
 use Rattle.rehearsal.proofs.CopiesLaws.{same_blocks}
 use Rattle.rehearsal.proofs.copy_blocks.Goals as goal
 

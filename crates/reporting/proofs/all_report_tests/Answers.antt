@@ -2,7 +2,6 @@
 use mathlib.Core.Path.{refl}
 use Rattle.judgement.proofs.JudgedLaws.{passed_by}
 use Rattle.rehearsal.proofs.LastLaws.{last_judged, stopped_before}
-use borrow.Author.Rules.{rules}
 use Rattle.reporting.proofs.CountedLaws.{limit_judged}
 use Rattle.reporting.proofs.ReportLaws.{may_report}
 use Rattle.reporting.proofs.all_report_tests.Goals as goal

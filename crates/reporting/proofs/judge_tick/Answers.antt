@@ -1,7 +1,6 @@
 -- `judge_tick` meets its contract: 2 and 3 first.
 use Rattle.manual.specs.State.{lent}
 use Rattle.manual.specs.Calls.{tick_rules}
-use borrow.Author.Rules.{rules}
 use Rattle.reporting.proofs.CountedLaws.{has_begun, judged_counted, stopped_counted}
 use Rattle.reporting.proofs.judge_tick.Goals as goal
 

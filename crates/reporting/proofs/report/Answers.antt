@@ -1,7 +1,6 @@
 -- `report` meets its contract: what passed the judge is accepted.
 use Rattle.manual.specs.Calls.{report}
 use Rattle.judgement.proofs.JudgedLaws.{passed_by, accepted_by, refused_by}
-use borrow.Author.Rules.{rules}
 use Rattle.reporting.proofs.CountedLaws.{may_raise, raised_by}
 use Rattle.reporting.proofs.ReportLaws.{report_passed_lem, report_counts, report_left}
 use Rattle.reporting.proofs.report.Goals as goal

@@ -1,7 +1,6 @@
 -- `tick` meets its contract: what passed the judge is accepted.
 use Rattle.manual.specs.Calls.{tick}
 use Rattle.judgement.proofs.JudgedLaws.{passed_by, accepted_by, refused_by}
-use borrow.Author.Rules.{rules}
 use Rattle.reporting.proofs.CountedLaws.{may_raise, raised_by}
 use Rattle.reporting.proofs.TickLaws.{tick_passed, tick_counts, tick_left}
 use Rattle.reporting.proofs.tick.Goals as goal

@@ -8,7 +8,6 @@ use lib.Seq.{sets}
 use Rattle.transport.specs.Frames.{place, frame_of}
 use Rattle.transport.proofs.FramesLaws.{has_tells}
 use Rattle.sending.proofs.FramedLaws.{framed_one, part_is}
-use borrow.Author.Rules.{rules}
 use Rattle.sending.proofs.consecutive.Goals as goal
 
 pub overflow_mul-at : goal.overflow_mul-at

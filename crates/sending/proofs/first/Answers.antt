@@ -4,7 +4,6 @@ use mathlib.Core.Path.{sym}
 use lib.ListN.{take}
 use lib.Seq.{length-take-le}
 use Rattle.sending.proofs.FramedLaws.{framed_two}
-use borrow.Author.Rules.{rules}
 use Rattle.sending.proofs.first.Goals as goal
 
 pub slice_bounds-framed-end : goal.slice_bounds-framed-end

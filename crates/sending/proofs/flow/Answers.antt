@@ -1,5 +1,4 @@
 -- `flow` meets its contract.
-use borrow.Author.Rules.{rules}
 use Rattle.sending.proofs.flow.Goals as goal
 
 pub returns-in-Idle : goal.returns-in-Idle

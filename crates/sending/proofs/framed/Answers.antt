@@ -1,7 +1,6 @@
 -- `framed` meets its contract.
 use Rattle.transport.specs.Frames.{frame_of}
 use mathlib.Core.Path.{ap, ◌∙◌}
-use borrow.Author.Rules.{rules}
 use Rattle.sending.proofs.framed.Goals as goal
 
 pub returns : goal.returns

@@ -1,7 +1,6 @@
 -- `goes_on` meets its contract.
 use borrow.Author.Tests.{eq-eqb, ne_eqb}
 use Rattle.transport.specs.Sending.{carries_on}
-use borrow.Author.Rules.{rules}
 use Rattle.sending.proofs.goes_on.Goals as goal
 
 pub returns-then-left-eq0 : goal.returns-then-left-eq0

@@ -1,5 +1,4 @@
 -- `next` meets its contract.
-use borrow.Author.Rules.{rules}
 use Rattle.sending.proofs.next.Goals as goal
 
 pub returns-in-Running : goal.returns-in-Running

@@ -1,8 +1,6 @@
 -- `running` meets its contract.
 use mathlib.Core.Path.{sym, ◌∙◌}
-use borrow.Author.Tests.{not-true, not-false}
 use Rattle.transport.specs.Sending.{running}
-use borrow.Author.Rules.{rules}
 use Rattle.sending.proofs.running.Goals as goal
 
 pub returns-then-not-has : goal.returns-then-not-has

@@ -3,7 +3,6 @@ use native.Mathlib.Omega.{arith}
 use borrow.Author.Tests.{eq-eqb, ne_eqb}
 use Rattle.transport.specs.Sending.{sent}
 use Rattle.transport.proofs.FramesLaws.{has_tells}
-use borrow.Author.Rules.{rules}
 use Rattle.sending.proofs.sent.Goals as goal
 
 pub returns-then-k-size : goal.returns-then-k-size

@@ -1,6 +1,5 @@
 -- `single` meets its contract.
 use Rattle.sending.proofs.FramedLaws.{framed_one}
-use borrow.Author.Rules.{rules}
 use Rattle.sending.proofs.single.Goals as goal
 
 pub returns : goal.returns

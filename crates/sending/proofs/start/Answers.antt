@@ -2,10 +2,9 @@
 use native.Mathlib.Omega.{arith}
 use mathlib.Core.Path.{sym, ◌∙◌}
 use lib.ListN.{length}
-use borrow.Author.Tests.{not-true, not-false, le-leb, lt-leb}
+use borrow.Author.Tests.{le-leb, lt-leb}
 use Rattle.transport.specs.Sending.{start}
 use Rattle.sending.proofs.FramedLaws.{allowed_tells}
-use borrow.Author.Rules.{rules}
 use Rattle.sending.proofs.start.Goals as goal
 
 pub returns-then-not-allowed : goal.returns-then-not-allowed

@@ -1,7 +1,5 @@
 -- `waiting` meets its contract.
-use borrow.Author.Tests.{not-true, not-false}
 use Rattle.transport.specs.Sending.{waiting}
-use borrow.Author.Rules.{rules}
 use Rattle.sending.proofs.waiting.Goals as goal
 
 pub returns-then-not-has : goal.returns-then-not-has

@@ -6,7 +6,6 @@ use Rattle.history.specs.StatusByte.{warning_indicator_requested}
 use Rattle.status.specs.Clauses.{limits_ok}
 use Rattle.status.proofs.MasksLaws.{contains_is}
 use Rattle.status.proofs.ClausesLaws.{three_hold}
-use borrow.Author.Rules.{rules}
 use Rattle.status.proofs.limits_ok.Goals as goal
 
 pub contains-requires : goal.contains-requires

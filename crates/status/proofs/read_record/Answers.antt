@@ -1,6 +1,5 @@
 -- `read_record` meets its contract: the four bytes are there, and are those of `stored_at`.
 use mathlib.Core.Path.{refl}
-use native.Mathlib.Omega.{arith}
 use Rattle.manual.specs.State.{stored_at}
 use Rattle.status.proofs.read_record.Goals as goal
 

@@ -1,6 +1,5 @@
 -- `rises_if` meets its contract: a count below 255 rises to 255 at most.
 use native.Mathlib.Omega.{arith}
-use borrow.Author.Rules.{rules}
 use Rattle.status.proofs.rises_if.Goals as goal
 
 pub returns-then-test : goal.returns-then-test

@@ -1,6 +1,5 @@
 use mathlib.Core.Path.{refl}
 use Rattle.manual.specs.State.{stored_at}
-use native.Mathlib.Omega.{arith}
 use Rattle.status.proofs.status_within.Goals as goal
 
 pub returns : goal.returns

@@ -1,7 +1,6 @@
 -- `stopped` meets its contract: (a) leaves g as it was, and (b) takes the record that (a) leaves.
 use mathlib.Core.Path.{◌≡◌, ap, ◌∙◌}
 use mathlib.Core.Bool.{false}
-use borrow.Author.Rules.{rules}
 use Rattle.history.specs.StatusByte.{EventRecord, stop_a, ages, stop_b}
 use Rattle.manual.specs.State.{Stored, opened, stored}
 use Rattle.manual.proofs.StateLaws.{opened_stored}

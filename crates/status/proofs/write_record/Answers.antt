@@ -2,7 +2,6 @@
 use mathlib.Core.Path.{refl}
 use native.Mathlib.Omega.{arith}
 use lib.ListN.{length-set}
-use borrow.Author.Rules.{rules}
 use Rattle.manual.specs.State.{with_stored}
 use Rattle.status.proofs.write_record.Goals as goal
 

@@ -1,9 +1,4 @@
-use mathlib.Core.Path.{◌≡◌, refl, sym, ◌∙◌}
-use Prim.Native.Nat.{◌-◌}
-use native.Mathlib.Omega.{arith}
-use borrow.Author.Tests.{not-true, not-false}
-use lib.ListN.{length, drop}
-use Rattle.history.specs.Words.{all_of}
+use mathlib.Core.Path.{refl, sym, ◌∙◌}
 use Rattle.transcript.specs.Text.{is_digit}
 use Rattle.transcript.proofs.TextLaws.{all_more, all_stop, all_end}
 use Rattle.transcript.proofs.all_digits.Goals as goal

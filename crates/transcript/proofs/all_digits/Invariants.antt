@@ -1,13 +1,10 @@
 -- `all_digits`: at each turn all bytes pass exactly where all that are left pass. The measure is what is left of the
 -- word.
-use mathlib.Core.Path.{◌≡◌, refl, sym, ◌∙◌}
+use mathlib.Core.Path.{◌≡◌}
 use Prim.Native.Nat.{◌-◌}
-use native.Mathlib.Omega.{arith}
-use borrow.Author.Tests.{not-true, not-false}
 use lib.ListN.{length, drop}
 use Rattle.history.specs.Words.{all_of}
 use Rattle.transcript.specs.Text.{is_digit}
-use Rattle.transcript.proofs.TextLaws.{all_more, all_stop, all_end}
 use Rattle.transcript.proofs.all_digits.Given as goal
 
 abbrev pub invariant-loop-i : goal.invariant-loop-i

@@ -2,7 +2,6 @@
 use mathlib.Core.Path.{◌∙◌}
 use native.Mathlib.Nat.{le_trans}
 use native.Mathlib.Omega.{arith}
-use borrow.Author.Rules.{rules}
 use Rattle.writing.proofs.WritingLaws.{append_then, append_next, append_filled}
 use Rattle.transcript.specs.Line.{line}
 use Rattle.transcript.proofs.LineLaws.{decimal_few, statuses_few, line_few}

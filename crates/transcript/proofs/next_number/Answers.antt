@@ -1,7 +1,6 @@
 -- `next_number`: the word begins behind the separators and ends before the next (`found`).
 use mathlib.Core.Path.{◌∙◌}
 use native.Mathlib.Omega.{arith}
-use borrow.Author.Rules.{rules}
 use Rattle.transcript.proofs.TextLaws.{found, next_end, next_word}
 use Rattle.transcript.proofs.next_number.Goals as goal
 

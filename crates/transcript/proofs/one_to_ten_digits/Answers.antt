@@ -1,5 +1,4 @@
 -- `one_to_ten_digits` is the test of the definition, with `all_digits` for its last part.
-use borrow.Author.Rules.{rules}
 use Rattle.transcript.specs.Text.{one_to_ten_digits}
 use Rattle.transcript.proofs.one_to_ten_digits.Goals as goal
 

@@ -1,5 +1,4 @@
 -- `put_decimal` writes one, two or three digits, as the definition chooses.
-use borrow.Author.Rules.{rules}
 use borrow.Author.Tests.{lt-ltb, le-ltb}
 use Rattle.transcript.specs.Line.{decimal}
 use Rattle.transcript.proofs.put_decimal.Goals as goal

@@ -1,6 +1,5 @@
 -- `put_spaced` writes the space, and then the number.
 use native.Mathlib.Omega.{arith}
-use borrow.Author.Rules.{rules}
 use Rattle.writing.proofs.WritingLaws.{append_then, append_next}
 use Rattle.transcript.specs.Line.{spaced}
 use Rattle.transcript.proofs.put_spaced.Goals as goal

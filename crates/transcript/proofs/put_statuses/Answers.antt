@@ -1,11 +1,6 @@
 use mathlib.Core.Path.{◌≡◌, refl, sym, ◌∙◌}
-use mathlib.Core.List.{flat_map}
-use Prim.Native.Nat.{◌-◌, ◌≤◌}
 use native.Mathlib.Omega.{arith}
-use lib.ListN.{length}
-use Rattle.writing.specs.Writing.{written, append}
 use Rattle.writing.proofs.WritingLaws.{append_none, append_then, append_next}
-use Rattle.transcript.specs.Line.{spaced, status_bytes}
 use Rattle.transcript.proofs.LineLaws.{statuses_none, statuses_more, statuses_few}
 use Rattle.transcript.proofs.put_statuses.Goals as goal
 

@@ -1,14 +1,11 @@
 -- `put_statuses`: at each turn the status bytes of the events below e are written. The measure is the number of events
 -- left.
-use mathlib.Core.Path.{◌≡◌, refl, sym, ◌∙◌}
+use mathlib.Core.Path.{◌≡◌}
 use mathlib.Core.List.{flat_map}
 use Prim.Native.Nat.{◌-◌, ◌≤◌}
-use native.Mathlib.Omega.{arith}
 use lib.ListN.{length}
 use Rattle.writing.specs.Writing.{written, append}
-use Rattle.writing.proofs.WritingLaws.{append_none, append_then, append_next}
 use Rattle.transcript.specs.Line.{spaced, status_bytes}
-use Rattle.transcript.proofs.LineLaws.{statuses_none, statuses_more, statuses_few}
 use Rattle.transcript.proofs.put_statuses.Given as goal
 
 abbrev pub invariant-loop-e : goal.invariant-loop-e

@@ -1,8 +1,6 @@
 -- `read_word`: the digits are what follows the first byte where that is a minus, else the whole word.
 use mathlib.Core.Path.{sym, ap, ◌∙◌}
 use native.Mathlib.Omega.{arith}
-use borrow.Author.Rules.{rules}
-use borrow.Author.Tests.{not-true, not-false}
 use mir.Syntax.{w32}
 use mir.Facts.{to_z-of_z}
 use Rattle.transcript.specs.Text.{has_minus, with_sign}

@@ -1,8 +1,4 @@
-use mathlib.Core.Path.{◌≡◌, refl, sym, ◌∙◌}
-use Prim.Native.Nat.{◌+◌, ◌-◌}
-use native.Mathlib.Omega.{arith}
-use lib.ListN.{length, drop}
-use Rattle.transcript.specs.Text.{run}
+use mathlib.Core.Path.{refl, sym, ◌∙◌}
 use Rattle.transcript.proofs.TextLaws.{differ, agree, run_more, run_stop, run_end}
 use Rattle.transcript.proofs.run_end.Goals as goal
 

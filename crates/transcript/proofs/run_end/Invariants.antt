@@ -1,11 +1,9 @@
 -- `run_end`: at each turn the place reached and the run that is left make the end of the run. The measure is what is
 -- left of the text.
-use mathlib.Core.Path.{◌≡◌, refl, sym, ◌∙◌}
+use mathlib.Core.Path.{◌≡◌}
 use Prim.Native.Nat.{◌+◌, ◌-◌}
-use native.Mathlib.Omega.{arith}
 use lib.ListN.{length, drop}
 use Rattle.transcript.specs.Text.{run}
-use Rattle.transcript.proofs.TextLaws.{differ, agree, run_more, run_stop, run_end}
 use Rattle.transcript.proofs.run_end.Given as goal
 
 abbrev pub invariant-loop-i : goal.invariant-loop-i

@@ -1,7 +1,4 @@
-use Prim.Native.Nat.{◌-◌}
-use native.Mathlib.Omega.{arith}
-use lib.ListN.{length}
-use Rattle.transcript.proofs.TextLaws.{digit_least, digit_most, Added, added_none, added_here}
+use Rattle.transcript.proofs.TextLaws.{digit_least, digit_most, added_none, added_here}
 use Rattle.transcript.proofs.TextLaws.{added_room, added_more, added_all}
 use Rattle.transcript.proofs.value_of.Goals as goal
 

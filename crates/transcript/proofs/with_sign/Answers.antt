@@ -2,7 +2,6 @@
 use mathlib.Core.Bool.{true}
 use Prim.Native.Nat.{◌^◌, ◌<◌}
 use native.Mathlib.Omega.{arith}
-use borrow.Author.Rules.{rules}
 use mir.Syntax.{w32}
 use mir.Facts.{to_z_pos, to_z-of_z}
 use lib.IntN.{+ℤ_idl}

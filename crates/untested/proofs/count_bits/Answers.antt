@@ -1,9 +1,7 @@
 use mathlib.Core.Path.{◌≡◌, refl}
-use Prim.Native.Nat.{◌-◌, ◌≤◌}
 use native.Mathlib.Omega.{arith}
-use lib.ListN.{length, length-set}
-use Rattle.untested.specs.Page.{Risen}
-use Rattle.untested.proofs.PageLaws.{Left, left_whole, left_next, risen_none, not_yet, risen_more}
+use lib.ListN.{length-set}
+use Rattle.untested.proofs.PageLaws.{left_whole, left_next, risen_none, not_yet, risen_more}
 use Rattle.untested.proofs.count_bits.Goals as goal
 
 pub loop-bit-init : goal.loop-bit-init

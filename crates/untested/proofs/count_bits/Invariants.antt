@@ -1,10 +1,9 @@
 -- `count_bits` meets its contract.
-use mathlib.Core.Path.{◌≡◌, refl}
+use mathlib.Core.Path.{◌≡◌}
 use Prim.Native.Nat.{◌-◌, ◌≤◌}
-use native.Mathlib.Omega.{arith}
-use lib.ListN.{length, length-set}
+use lib.ListN.{length}
 use Rattle.untested.specs.Page.{Risen}
-use Rattle.untested.proofs.PageLaws.{Left, left_whole, left_next, risen_none, not_yet, risen_more}
+use Rattle.untested.proofs.PageLaws.{Left}
 use Rattle.untested.proofs.count_bits.Given as goal
 
 -- the counts of the bits passed have risen

@@ -3,7 +3,6 @@ use native.Mathlib.Omega.{arith}
 use Rattle.manual.proofs.ConfigurationLaws.{config_tells}
 use Rattle.config.proofs.PartLaws.{row_within}
 use Rattle.untested.proofs.PageLaws.{row_fits, counts_next}
-use borrow.Author.Rules.{rules}
 use Rattle.untested.proofs.count_event.Goals as goal
 
 pub cycle_within-at-requires : goal.cycle_within-at-requires

@@ -2,7 +2,6 @@
 use Rattle.history.specs.StatusByte.{test_not_completed_this_operation_cycle}
 use Rattle.manual.specs.Untested.{is_grey}
 use Rattle.status.proofs.MasksLaws.{contains_is}
-use borrow.Author.Rules.{rules}
 use Rattle.untested.proofs.is_grey.Goals as goal
 
 pub returns : goal.returns

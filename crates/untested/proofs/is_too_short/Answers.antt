@@ -5,7 +5,6 @@ use native.Mathlib.Omega.{arith}
 use lib.Dec.{ltb}
 use lib.ListN.{length}
 use borrow.Author.Tests.{le-ltb}
-use borrow.Author.Rules.{rules}
 use Rattle.manual.specs.Configuration.{events}
 use Rattle.manual.specs.Untested.{is_grey, grey_events}
 use Rattle.manual.proofs.BelowLaws.{count_most}

@@ -12,7 +12,6 @@ use Rattle.judgement.specs.Checks.{check_number}
 use Rattle.judgement.proofs.BeginLaws.{begun}
 use Rattle.judgement.proofs.JudgedLaws.{judged_by, stopped_by}
 use Rattle.untested.proofs.PageLaws.{list_in, judged_records}
-use borrow.Author.Rules.{rules}
 use Rattle.untested.proofs.judge_list.Goals as goal
 
 pub is_too_short-requires : goal.is_too_short-requires

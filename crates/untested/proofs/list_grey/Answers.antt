@@ -5,7 +5,6 @@ use Rattle.manual.specs.Untested.{list_grey}
 use Rattle.judgement.specs.Checks.{check_number}
 use Rattle.judgement.proofs.JudgedLaws.{refused_by}
 use Rattle.untested.proofs.PageLaws.{may_list, list_done}
-use borrow.Author.Rules.{rules}
 use Rattle.untested.proofs.list_grey.Goals as goal
 
 pub write_grey-requires : goal.write_grey-requires

@@ -1,7 +1,5 @@
 use mathlib.Core.Path.{◌≡◌, sym}
-use Prim.Native.Nat.{◌-◌, ◌≤◌}
 use native.Mathlib.Omega.{arith}
-use Rattle.manual.specs.Words.{count_below}
 use Rattle.manual.specs.Untested.{is_grey}
 use Rattle.manual.proofs.ConfigurationLaws.{config_tells}
 use Rattle.manual.proofs.BelowLaws.{count_none, count_more, count_most}

@@ -1,14 +1,9 @@
 -- `number_grey` meets its contract.
-use mathlib.Core.Path.{◌≡◌, sym}
+use mathlib.Core.Path.{◌≡◌}
 use Prim.Native.Nat.{◌-◌, ◌≤◌}
-use native.Mathlib.Omega.{arith}
 use Rattle.manual.specs.Words.{count_below}
 use Rattle.manual.specs.Untested.{is_grey}
-use Rattle.manual.proofs.ConfigurationLaws.{config_tells}
-use Rattle.manual.proofs.BelowLaws.{count_none, count_more, count_most}
-use Rattle.manual.proofs.UntestedLaws.{grey_number}
 use Rattle.untested.specs.Page.{holding}
-use Rattle.untested.proofs.PageLaws.{event_within}
 use Rattle.untested.proofs.number_grey.Given as goal
 
 -- the events passed are counted

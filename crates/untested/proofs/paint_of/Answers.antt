@@ -2,7 +2,6 @@
 use Rattle.history.specs.StatusByte.{test_failed}
 use Rattle.manual.specs.Untested.{paint_of}
 use Rattle.status.proofs.MasksLaws.{contains_is}
-use borrow.Author.Rules.{rules}
 use Rattle.untested.proofs.paint_of.Goals as goal
 
 pub returns-then-is_grey : goal.returns-then-is_grey

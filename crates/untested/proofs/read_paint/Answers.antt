@@ -3,7 +3,6 @@ use mathlib.Core.Path.{sym, ap, ◌∙◌}
 use Rattle.manual.specs.State.{lent}
 use Rattle.judgement.specs.Checks.{check_number}
 use Rattle.untested.proofs.PageLaws.{event_read, paint_is_lem, paint_refused}
-use borrow.Author.Rules.{rules}
 use Rattle.untested.proofs.read_paint.Goals as goal
 
 pub paint_of-requires : goal.paint_of-requires

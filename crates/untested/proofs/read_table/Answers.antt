@@ -5,7 +5,6 @@ use Rattle.manual.specs.State.{lent}
 use Rattle.judgement.specs.Checks.{check_number}
 use Rattle.judgement.proofs.JudgedLaws.{begun_by_lem}
 use Rattle.untested.proofs.PageLaws.{table_is, table_refused}
-use borrow.Author.Rules.{rules}
 use Rattle.untested.proofs.read_table.Goals as goal
 
 pub table_of-requires : goal.table_of-requires

@@ -1,9 +1,6 @@
 -- `table_of` meets its contract.
-use mathlib.Core.Path.{◌≡◌, sym}
 use Prim.Native.Nat.{◌-◌, ◌≤◌}
-use native.Mathlib.Omega.{arith}
 use Rattle.untested.specs.Page.{CountsBelow}
-use Rattle.untested.proofs.PageLaws.{counts_none, counts_are_table}
 use Rattle.untested.proofs.table_of.Given as goal
 
 -- the events passed are counted

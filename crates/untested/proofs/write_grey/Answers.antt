@@ -1,8 +1,7 @@
 use mathlib.Core.Path.{◌≡◌, refl, sym, ap, ◌∙◌}
 use mathlib.Core.List.{List}
-use Prim.Native.Nat.{ℕ, ◌-◌, ◌≤◌}
+use Prim.Native.Nat.{ℕ}
 use native.Mathlib.Omega.{arith}
-use lib.ListN.{length}
 use Rattle.manual.specs.Words.{join_below}
 use Rattle.manual.proofs.BelowLaws.{join_none, join_more, join_within}
 use Rattle.manual.proofs.UntestedLaws.{grey_joined}

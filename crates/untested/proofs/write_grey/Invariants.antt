@@ -1,14 +1,9 @@
 -- `write_grey` meets its contract.
-use mathlib.Core.Path.{◌≡◌, refl, sym, ap, ◌∙◌}
-use mathlib.Core.List.{List}
-use Prim.Native.Nat.{ℕ, ◌-◌, ◌≤◌}
-use native.Mathlib.Omega.{arith}
+use mathlib.Core.Path.{◌≡◌}
+use Prim.Native.Nat.{◌-◌, ◌≤◌}
 use lib.ListN.{length}
 use Rattle.manual.specs.Words.{join_below}
-use Rattle.manual.proofs.BelowLaws.{join_none, join_more, join_within}
-use Rattle.manual.proofs.UntestedLaws.{grey_joined}
 use Rattle.writing.specs.Writing.{written, append}
-use Rattle.writing.proofs.WritingLaws.{append_none, append_then, append_next, append_filled}
 use Rattle.untested.specs.Page.{holding, if_grey}
 use Rattle.untested.proofs.write_grey.Given as goal
 

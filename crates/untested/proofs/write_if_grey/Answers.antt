@@ -4,7 +4,6 @@ use native.Mathlib.Omega.{arith}
 use Rattle.manual.proofs.ConfigurationLaws.{config_tells}
 use Rattle.writing.proofs.WritingLaws.{append_none}
 use Rattle.untested.proofs.PageLaws.{event_within, one_written}
-use borrow.Author.Rules.{rules}
 use Rattle.untested.proofs.write_if_grey.Goals as goal
 
 pub is_grey-requires : goal.is_grey-requires

@@ -1,7 +1,6 @@
 -- `copy_bytes` meets its contract.
 use mathlib.Core.Path.{◌∙◌}
 use Rattle.writing.proofs.PartlyWritten.{sets_laid}
-use borrow.Author.Rules.{rules}
 use Rattle.writing.proofs.copy_bytes.Goals as goal
 
 pub returns : goal.returns

@@ -1,9 +1,7 @@
-use mathlib.Core.Path.{◌≡◌, refl, ◌∙◌}
-use Prim.Native.Nat.{◌-◌, ◌≤◌}
+use mathlib.Core.Path.{refl, ◌∙◌}
 use native.Mathlib.Omega.{arith}
 use lib.IntN.{pos}
-use lib.ListN.{length, take, length-set}
-use lib.Seq.{sets}
+use lib.ListN.{length-set}
 use mir.Facts.{to_z-of_z}
 use mir.Syntax.{w32}
 use Rattle.writing.proofs.PartlyWritten.{sets_first, sets_all, sets_laid}

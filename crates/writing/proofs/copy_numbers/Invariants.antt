@@ -1,12 +1,8 @@
 -- `copy_numbers`: at each turn the first i numbers are copied.
-use mathlib.Core.Path.{◌≡◌, refl, ◌∙◌}
+use mathlib.Core.Path.{◌≡◌}
 use Prim.Native.Nat.{◌-◌, ◌≤◌}
-use native.Mathlib.Omega.{arith}
-use lib.IntN.{pos}
-use lib.ListN.{length, take, length-set}
+use lib.ListN.{length, take}
 use lib.Seq.{sets}
-use mir.Facts.{to_z-of_z}
-use Rattle.writing.proofs.PartlyWritten.{sets_first, sets_all, sets_laid}
 use Rattle.writing.proofs.copy_numbers.Given as goal
 
 abbrev pub invariant-loop-i : goal.invariant-loop-i

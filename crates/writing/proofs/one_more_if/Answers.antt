@@ -1,5 +1,4 @@
 -- `one_more_if` meets its contract.
-use borrow.Author.Rules.{rules}
 use Rattle.writing.proofs.one_more_if.Goals as goal
 
 pub returns-then-test : goal.returns-then-test

@@ -1,8 +1,6 @@
-use mathlib.Core.Path.{◌≡◌, refl, ◌∙◌}
-use Prim.Native.Nat.{◌-◌, ◌≤◌}
+use mathlib.Core.Path.{refl, ◌∙◌}
 use native.Mathlib.Omega.{arith}
-use lib.ListN.{length, take, length-set}
-use lib.Seq.{sets}
+use lib.ListN.{length-set}
 use Rattle.writing.proofs.PartlyWritten.{sets_more, sets_all}
 use Rattle.writing.proofs.put.Goals as goal
 

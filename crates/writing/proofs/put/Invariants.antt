@@ -1,10 +1,8 @@
 -- `put`: at each turn the first i bytes are stored. The measure is what is left of them.
-use mathlib.Core.Path.{◌≡◌, refl, ◌∙◌}
+use mathlib.Core.Path.{◌≡◌}
 use Prim.Native.Nat.{◌-◌, ◌≤◌}
-use native.Mathlib.Omega.{arith}
-use lib.ListN.{length, take, length-set}
+use lib.ListN.{length, take}
 use lib.Seq.{sets}
-use Rattle.writing.proofs.PartlyWritten.{sets_more, sets_all}
 use Rattle.writing.proofs.put.Given as goal
 
 abbrev pub invariant-loop-i : goal.invariant-loop-i

@@ -2,7 +2,6 @@
 use Prim.Native.Nat.{◌+◌}
 use lib.ListN.{length}
 use Rattle.writing.specs.Writing.{written, append}
-use borrow.Author.Rules.{rules}
 use Rattle.writing.proofs.write.Goals as goal
 
 pub returns : goal.returns

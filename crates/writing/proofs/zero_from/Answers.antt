@@ -1,8 +1,7 @@
 use mathlib.Core.Path.{◌≡◌, refl}
-use Prim.Native.Nat.{◌-◌, ◌≤◌}
 use native.Mathlib.Omega.{arith}
 use lib.ListN.{length, length-set}
-use Rattle.writing.proofs.FilledLaws.{filled_to, fill_none, fill_more, fill_all}
+use Rattle.writing.proofs.FilledLaws.{fill_none, fill_more, fill_all}
 use Rattle.writing.proofs.zero_from.Goals as goal
 
 pub loop-i-init : goal.loop-i-init

@@ -1,8 +1,7 @@
-use mathlib.Core.Path.{◌≡◌, refl}
+use mathlib.Core.Path.{◌≡◌}
 use Prim.Native.Nat.{◌-◌, ◌≤◌}
-use native.Mathlib.Omega.{arith}
-use lib.ListN.{length, length-set}
-use Rattle.writing.proofs.FilledLaws.{filled_to, fill_none, fill_more, fill_all}
+use lib.ListN.{length}
+use Rattle.writing.proofs.FilledLaws.{filled_to}
 use Rattle.writing.proofs.zero_from.Given as goal
 
 abbrev pub invariant-loop-i : goal.invariant-loop-i

@@ -1,5 +1,4 @@
 use mathlib.Core.Path.{◌∙◌}
-use borrow.Author.Rules.{rules}
 use Rattle.memory.proofs.BlockLaws.{closed_end}
 use Rattle.memory.proofs.block.close.Goals as goal
 

@@ -1,9 +1,7 @@
-use mathlib.Core.Path.{◌≡◌, refl, ap, ◌∙◌}
-use Prim.Native.Nat.{ℕ, ◌≤◌, ◌+◌, ◌-◌}
-use native.Mathlib.Omega.{arith}
-use lib.ListN.{length, length-set}
+use mathlib.Core.Path.{◌≡◌}
+use Prim.Native.Nat.{◌≤◌, ◌-◌}
+use lib.ListN.{length}
 use Rattle.memory.specs.Block.{closed}
-use Rattle.memory.proofs.BlockLaws.{closed_one}
 use Rattle.memory.proofs.block.move_down.Given as goal
 
 -- the gap, which is now at i, closed from there on leaves what it leaves closed from the start

@@ -4,11 +4,6 @@ use Prim.Native.Nat.{ℕ}
 use Rattle.history.specs.StatusByte.{test_failed, status_of}
 use Rattle.manual.specs.State.{stored_at}
 use Rattle.status.proofs.MasksLaws.{contains_is}
-use borrow.Author.Rules.{rules}
-use Rattle.memory.proofs.readings.is_quiet.Reads as reads
-use Rattle.memory.proofs.readings.is_quiet.Lts as lts
-use Rattle.status.proofs.Status.contains.Reads as contains-reads
-use Rattle.status.proofs.status_of.Reads as status-of-reads
 use Rattle.memory.proofs.readings.is_quiet.Goals as goal
 
 -- src/readings.rt:11:1

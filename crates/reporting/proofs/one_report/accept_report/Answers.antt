@@ -2,7 +2,6 @@
 use mathlib.Core.Path.{ap}
 use Rattle.manual.specs.Answers.{Outcome}
 use Rattle.one_event.specs.Steps.{Stepped}
-use borrow.Author.Rules.{rules}
 use Rattle.reporting.proofs.ReportLaws.{report_ready, report_rise}
 use Rattle.reporting.proofs.one_report.accept_report.Goals as goal
 

@@ -1,8 +1,6 @@
 -- `carries_past` meets its contract: far from the limit no report carries a count past it.
 use native.Mathlib.Omega.{arith}
-use borrow.Author.Tests.{not-true}
 use Rattle.manual.proofs.CountsLaws.{report_most}
-use borrow.Author.Rules.{rules}
 use Rattle.reporting.proofs.CountedLaws.{all_far, past_by}
 use Rattle.reporting.proofs.one_report.carries_past.Goals as goal
 

@@ -1,5 +1,4 @@
 -- `rehearse_on` meets its contract: the report on the copies is the report.
-use borrow.Author.Rules.{rules}
 use Rattle.reporting.proofs.ReportLaws.{may_rehearse, rehearsed}
 use Rattle.reporting.proofs.one_report.rehearse_on.Goals as goal
 

@@ -1,8 +1,6 @@
 -- `carries_past` meets its contract: far from the limit no tick carries a count past it.
-use borrow.Author.Tests.{not-true}
 use Rattle.manual.proofs.ConfigurationLaws.{config_tells}
 use Rattle.manual.proofs.CountsLaws.{tick_most}
-use borrow.Author.Rules.{rules}
 use Rattle.reporting.proofs.CountedLaws.{all_far, past_by}
 use Rattle.reporting.proofs.one_tick.carries_past.Goals as goal
 

@@ -1,5 +1,4 @@
 -- `rehearse_on` meets its contract: the tick on the copies is the tick.
-use borrow.Author.Rules.{rules}
 use Rattle.reporting.proofs.TickLaws.{may_rehearse, rehearsed}
 use Rattle.reporting.proofs.one_tick.rehearse_on.Goals as goal
 

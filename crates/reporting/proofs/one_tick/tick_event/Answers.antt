@@ -1,7 +1,5 @@
 -- `tick_event` meets its contract.
-use borrow.Author.Tests.{not-true, not-false}
 use Rattle.config.proofs.PartLaws.{row_within}
-use borrow.Author.Rules.{rules}
 use Rattle.reporting.proofs.one_tick.tick_event.Goals as goal
 
 pub tick_moves-requires : goal.tick_moves-requires

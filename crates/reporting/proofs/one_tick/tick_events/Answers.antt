@@ -1,16 +1,13 @@
 use mathlib.Core.Path.{◌≡◌, refl, ap, ◌∙◌}
-use Prim.Native.Nat.{◌-◌, ◌≤◌, ◌<◌}
+use Prim.Native.Nat.{◌<◌}
 use native.Mathlib.Omega.{arith}
-use lib.ListN.{length}
 use Rattle.manual.specs.declared.Rise.{Rise}
 use Rattle.manual.specs.Configuration.{events}
 use Rattle.manual.specs.State.{lent}
-use Rattle.manual.specs.Counts.{rise_of, numbers}
+use Rattle.manual.specs.Counts.{numbers}
 use Rattle.manual.specs.Calls.{tick_moves, ticks}
-use Rattle.one_event.specs.Ready.{flagged}
 use Rattle.one_event.proofs.TurnsLaws.{no_turn}
-use borrow.Author.Rules.{rules}
-use Rattle.reporting.proofs.TickLaws.{ticked_below, logged_below, turn_ready, may_count}
+use Rattle.reporting.proofs.TickLaws.{turn_ready, may_count}
 use Rattle.reporting.proofs.TickLaws.{none_ticked, next_ticked, next_logged, all_ticked, all_logged}
 use Rattle.reporting.proofs.one_tick.tick_events.Goals as goal
 

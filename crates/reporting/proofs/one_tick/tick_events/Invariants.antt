@@ -1,18 +1,11 @@
 -- `tick_events` meets its contract: at each turn the events below have had their part of the tick, and it is counted.
-use mathlib.Core.Path.{◌≡◌, refl, ap, ◌∙◌}
-use Prim.Native.Nat.{◌-◌, ◌≤◌, ◌<◌}
-use native.Mathlib.Omega.{arith}
+use mathlib.Core.Path.{◌≡◌}
+use Prim.Native.Nat.{◌-◌, ◌≤◌}
 use lib.ListN.{length}
-use Rattle.manual.specs.declared.Rise.{Rise}
-use Rattle.manual.specs.Configuration.{events}
 use Rattle.manual.specs.State.{lent}
 use Rattle.manual.specs.Counts.{rise_of, numbers}
-use Rattle.manual.specs.Calls.{tick_moves, ticks}
 use Rattle.one_event.specs.Ready.{flagged}
-use Rattle.one_event.proofs.TurnsLaws.{no_turn}
-use borrow.Author.Rules.{rules}
-use Rattle.reporting.proofs.TickLaws.{ticked_below, logged_below, turn_ready, may_count}
-use Rattle.reporting.proofs.TickLaws.{none_ticked, next_ticked, next_logged, all_ticked, all_logged}
+use Rattle.reporting.proofs.TickLaws.{ticked_below, logged_below}
 use Rattle.reporting.proofs.one_tick.tick_events.Given as goal
 
 abbrev pub invariant-loop-event : goal.invariant-loop-event

@@ -1,5 +1,4 @@
 -- `with_event` meets its contract.
-use borrow.Author.Rules.{rules}
 use Rattle.reporting.proofs.TickLaws.{untold_added}
 use Rattle.reporting.proofs.one_tick.with_event.Goals as goal
 

@@ -1,5 +1,4 @@
 -- `cycle_runs` meets its contract.
-use borrow.Author.Rules.{rules}
 use Rattle.reporting.proofs.tests.cycle_runs.Goals as goal
 
 pub returns : goal.returns

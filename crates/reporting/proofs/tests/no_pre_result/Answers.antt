@@ -1,5 +1,4 @@
 -- `no_pre_result` meets its contract.
-use borrow.Author.Rules.{rules}
 use Rattle.reporting.proofs.tests.no_pre_result.Goals as goal
 
 pub returns : goal.returns

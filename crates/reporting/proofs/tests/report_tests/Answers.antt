@@ -3,7 +3,6 @@ use native.Mathlib.Omega.{arith}
 use borrow.Author.Tests.{lt-ltb, le-ltb, lt-leb, le-leb}
 use Rattle.manual.specs.Answers.{first_that_applies}
 use Rattle.manual.proofs.ConfigurationLaws.{config_tells}
-use borrow.Author.Rules.{rules}
 use Rattle.reporting.proofs.tests.report_tests.Goals as goal
 
 pub returns-then-event_refused : goal.returns-then-event_refused

@@ -1,6 +1,5 @@
 -- `row_tests` meets its contract: each test in turn.
 use Rattle.manual.specs.Answers.{first_that_applies}
-use borrow.Author.Rules.{rules}
 use Rattle.reporting.proofs.tests.row_tests.Goals as goal
 
 pub returns-then-pre_refused : goal.returns-then-pre_refused

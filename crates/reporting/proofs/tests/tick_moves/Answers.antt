@@ -1,7 +1,4 @@
 -- `tick_moves` meets its contract.
-use mathlib.Core.Path.{◌∙◌}
-use borrow.Author.Tests.{not-true, not-false}
-use borrow.Author.Rules.{rules}
 use Rattle.reporting.proofs.tests.tick_moves.Goals as goal
 
 pub returns-then-not-time_runs : goal.returns-then-not-time_runs

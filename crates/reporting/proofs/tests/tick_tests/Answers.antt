@@ -1,7 +1,6 @@
 -- `tick_tests` meets its contract: each test in turn.
 use Rattle.manual.specs.Answers.{first_that_applies}
 use borrow.Author.Tests.{lt-ltb, le-ltb}
-use borrow.Author.Rules.{rules}
 use Rattle.reporting.proofs.tests.tick_tests.Goals as goal
 
 pub returns-then-ms_refused : goal.returns-then-ms_refused

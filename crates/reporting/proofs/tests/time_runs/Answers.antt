@@ -1,5 +1,4 @@
 -- `time_runs` meets its contract.
-use borrow.Author.Rules.{rules}
 use Rattle.reporting.proofs.TickLaws.{of_no_time, by_its_cycle}
 use Rattle.reporting.proofs.tests.time_runs.Goals as goal
 

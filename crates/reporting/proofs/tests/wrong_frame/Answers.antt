@@ -1,5 +1,4 @@
 -- `wrong_frame` meets its contract.
-use borrow.Author.Rules.{rules}
 use Rattle.reporting.proofs.tests.wrong_frame.Goals as goal
 
 pub returns : goal.returns

@@ -1,5 +1,4 @@
 -- `Status::clear_if` meets its contract.
-use borrow.Author.Rules.{rules}
 use Rattle.status.proofs.Status.clear_if.Goals as goal
 
 pub clear-requires : goal.clear-requires

@@ -1,5 +1,4 @@
 -- `Status::set_if` meets its contract.
-use borrow.Author.Rules.{rules}
 use Rattle.status.proofs.Status.set_if.Goals as goal
 
 pub set-requires : goal.set-requires
