@@ -7,11 +7,11 @@ use lib.Signed.{mag}
 use native.Mathlib.Omega.{arith}
 use Rattle.text.proofs.negative.Goals as goal
 
-minus-size : (n : ℕ) → mag (neg_ℤ (pos n)) ≤ n
-minus-size zero = omega arith
-minus-size (suc n) = omega arith
+minus_size : (n : ℕ) → mag (neg_ℤ (pos n)) ≤ n
+minus_size zero = omega arith
+minus_size (suc n) = omega arith
 
 pub overflow_sub-result : goal.overflow_sub-result
 overflow_sub-result c = let n = c.args.n in
     let h : n < 2 ^ 31 = omega arith in
-    rw (to_z_pos w32 h, +ℤ_idl) (record { sfits = omega (arith, minus-size n) })
+    rw (to_z_pos w32 h, +ℤ_idl) (record { sfits = omega (arith, minus_size n) })

@@ -1,0 +1,8 @@
+-- `room` meets its contract.
+use Prim.Native.Nat.{ℕ}
+use lib.ListN.{length-replicate}
+use mathlib.Core.Path.{sym}
+use Rattle.page_cases.proofs.room.Goals as goal
+
+pub returns : goal.returns
+returns c = sym (length-replicate {0} {A = ℕ} 400000 0)
