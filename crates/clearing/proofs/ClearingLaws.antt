@@ -1,5 +1,5 @@
 -- Laws of a clear: what each event of its loop may count on, and what the loop leaves.
-use mathlib.Core.Path.{◌≡◌, refl, ap, ◌∙◌}
+use mathlib.Core.Path.{◌≡◌, ap, ◌∙◌}
 use mathlib.Core.Bool.{true}
 use Prim.Native.Nat.{ℕ, ◌<◌}
 use Rattle.manual.specs.Words.{for_below}

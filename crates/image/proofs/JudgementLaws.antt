@@ -7,26 +7,23 @@ use native.Mathlib.Nat.{mul_comm, mul-sub, mul-le-mul_left}
 use native.Mathlib.Numerals.{add-one}
 use native.Mathlib.Omega.{arith}
 use lib.Dec.{eqb, leb}
-use lib.IntN.{ℤ, pos}
+use lib.IntN.{pos}
 use lib.ListN.{length, get_or, take, drop, replicate, length-append, length-replicate}
 use lib.ListN.{length-drop, get_or-replicate, drop_of_length-le, get_or-eq_default}
 use lib.Seq.{take_at, drop_at, drop-cons, length-take-le, get_or-take}
 use borrow.Author.Tests.{eq-eqb, ne_eqb, lt-leb}
-use Rattle.history.specs.Words.{holds}
 use Rattle.history.proofs.WordsLaws.{and_true, and_assoc}
-use Rattle.manual.specs.declared.Board.{Board}
 use Rattle.manual.specs.Words.{equal}
 use Rattle.manual.specs.Configuration.{Configuration, events, places, frame_bytes, entry_frames, cycle_of}
-use Rattle.manual.specs.State.{State, lent, all_stopped, record_width, opened, stored_at}
-use Rattle.manual.specs.WellFormed.{record_ok, d_fits, d_ok, memory_fits_with, lengths_fit_with, memory_ok_with}
+use Rattle.manual.specs.State.{State, lent, all_stopped, record_width}
+use Rattle.manual.specs.WellFormed.{d_fits, d_ok, lengths_fit_with}
 use Rattle.manual.specs.WellFormed.{well_formed_with}
 use Rattle.manual.specs.Memory.{entry_width, entry_count, bytes_in_use, memory_length}
 use Rattle.manual.specs.Image.{header_length, header, image_from, Edition, edition, edition1, edition2, memory_body}
 use Rattle.manual.specs.Image.{image_in, records_of, state_in, acceptable_in, acceptable, used_in, after_records}
 use Rattle.manual.proofs.WordsLaws.{clash, all_below_lem, zeros_pass, equal_is, equal_refl}
 use Rattle.manual.proofs.ImageLaws.{none_runs, accepted_image, accepted_state, accepted_byte_1}
-use Rattle.manual.proofs.WellFormedLaws.{lengths_tell, lengths_told, state_tells, used_length}
-use Rattle.config.proofs.Tests.{all_both}
+use Rattle.manual.proofs.WellFormedLaws.{lengths_told, state_tells, used_length}
 use Rattle.memory.specs.Judgement.{used_ok, block_ok}
 use Rattle.memory.proofs.JudgementLaws.{block_rest, count_in_front}
 use Rattle.judgement.proofs.WellFormedLaws.{records_are, numbers_are, judged_in_passes}

@@ -4,14 +4,13 @@ use mathlib.Core.Bool.{Bool}
 use mathlib.Core.List.{List}
 use Prim.Native.Nat.{ℕ, ◌<◌}
 use native.Mathlib.Omega.{arith}
-use lib.IntN.{ℤ, pos, ◌+ℤ◌}
+use lib.IntN.{ℤ}
 use mir.Syntax.{w8}
 use mir.Val.{SFits}
 use Rattle.manual.specs.declared.Board.{Board}
 use Rattle.manual.specs.declared.Paint.{Paint}
 use Rattle.manual.specs.declared.Place.{Place}
-use Rattle.manual.specs.Words.{nat_of}
-use Rattle.manual.specs.Configuration.{Configuration, most_events, events, code_of, cycle_of, entry_frames}
+use Rattle.manual.specs.Configuration.{Configuration, most_events, code_of, cycle_of, entry_frames}
 use Rattle.manual.specs.State.{State, lent, runs, status_byte}
 use Rattle.manual.specs.Memory.{entries_of, is_of, entry_for}
 use Rattle.manual.specs.Counter.{counter_in}

@@ -4,7 +4,6 @@ use Prim.Native.Nat.{ℕ}
 use Rattle.manual.specs.State.{lent}
 use Rattle.manual.specs.Counts.{raised, past}
 use Rattle.clearing.proofs.ClearRiseLaws.{far}
-use borrow.Author.Rules.{rules}
 use Rattle.clearing.proofs.carries_past.Goals as goal
 
 pub returns-then-some_near : goal.returns-then-some_near

@@ -3,7 +3,6 @@ use Rattle.manual.specs.State.{lent}
 use Rattle.manual.specs.Calls.{clear_code}
 use Rattle.judgement.proofs.JudgedLaws.{passed_by, accepted_by, refused_by}
 use Rattle.clearing.proofs.ClearRiseLaws.{may_clear, may_raise, leaves_done}
-use borrow.Author.Rules.{rules}
 use Rattle.clearing.proofs.clear.Goals as goal
 
 pub clear_covered-after-requires : goal.clear_covered-after-requires

@@ -1,7 +1,6 @@
 use native.Mathlib.Omega.{arith}
 use Rattle.manual.specs.State.{lent}
 use Rattle.clearing.proofs.ClearAllLaws.{blocks_fit, counted, all_cleared}
-use borrow.Author.Rules.{rules}
 use Rattle.clearing.proofs.clear_all.Goals as goal
 
 -- by a block of one byte at least, so that an edit of the place fails at what it leaves

@@ -1,13 +1,11 @@
 use mathlib.Core.Path.{◌≡◌, refl, ◌∙◌}
-use Prim.Native.Nat.{◌-◌, ◌≤◌, ◌<◌}
+use Prim.Native.Nat.{◌<◌}
 use native.Mathlib.Omega.{arith}
-use lib.ListN.{length}
 use Rattle.manual.specs.Configuration.{events}
-use Rattle.manual.specs.State.{lent}
 use Rattle.manual.specs.OneEvent.{clears}
 use Rattle.manual.specs.Calls.{covers}
 use Rattle.one_event.proofs.TurnsLaws.{no_turn, next_turn}
-use Rattle.clearing.proofs.ClearingLaws.{up_to, fits_at, after_all_lem}
+use Rattle.clearing.proofs.ClearingLaws.{fits_at, after_all_lem}
 use Rattle.clearing.proofs.clear_each.Goals as goal
 
 pub events-event-end-requires : goal.events-event-end-requires

@@ -1,13 +1,8 @@
-use mathlib.Core.Path.{◌≡◌, refl, ◌∙◌}
-use Prim.Native.Nat.{◌-◌, ◌≤◌, ◌<◌}
-use native.Mathlib.Omega.{arith}
+use mathlib.Core.Path.{◌≡◌}
+use Prim.Native.Nat.{◌-◌, ◌≤◌}
 use lib.ListN.{length}
-use Rattle.manual.specs.Configuration.{events}
 use Rattle.manual.specs.State.{lent}
-use Rattle.manual.specs.OneEvent.{clears}
-use Rattle.manual.specs.Calls.{covers}
-use Rattle.one_event.proofs.TurnsLaws.{no_turn, next_turn}
-use Rattle.clearing.proofs.ClearingLaws.{up_to, fits_at, after_all_lem}
+use Rattle.clearing.proofs.ClearingLaws.{up_to}
 use Rattle.clearing.proofs.clear_each.Given as goal
 
 abbrev pub invariant-loop-event : goal.invariant-loop-event

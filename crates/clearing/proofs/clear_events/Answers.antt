@@ -2,7 +2,6 @@ use mathlib.Core.Path.{sym, ap, ◌∙◌}
 use Prim.Native.Nat.{ℕ}
 use Rattle.manual.specs.State.{lent}
 use Rattle.manual.specs.Calls.{cleared}
-use borrow.Author.Rules.{rules}
 use Rattle.clearing.proofs.clear_events.Goals as goal
 
 pub returns-then-code-eq-FOR_ALL : goal.returns-then-code-eq-FOR_ALL

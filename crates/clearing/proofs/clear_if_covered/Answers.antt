@@ -1,6 +1,5 @@
 use mathlib.Core.Path.{sym, ◌∙◌}
 use Rattle.config.proofs.PartLaws.{row_within}
-use borrow.Author.Rules.{rules}
 use Rattle.clearing.proofs.clear_if_covered.Goals as goal
 
 pub covers-requires : goal.covers-requires

@@ -1,6 +1,5 @@
 use mathlib.Core.Path.{sym, ap, ◌∙◌}
 use borrow.Author.Tests.{eq-eqb, ne_eqb}
-use borrow.Author.Rules.{rules}
 use Rattle.config.specs.Search.{search_is}
 use Rattle.config.proofs.SearchLaws.{known_where_all, known_where_found, unknown_where_nothing}
 use Rattle.clearing.proofs.is_unknown.Goals as goal

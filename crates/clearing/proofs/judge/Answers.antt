@@ -1,6 +1,5 @@
 use Rattle.manual.specs.State.{lent}
 use Rattle.clearing.proofs.ClearRiseLaws.{may_be_limited, then_limit, not_so_far}
-use borrow.Author.Rules.{rules}
 use Rattle.clearing.proofs.judge.Goals as goal
 
 pub carries_past-past-requires : goal.carries_past-past-requires

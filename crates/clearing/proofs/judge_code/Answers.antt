@@ -1,5 +1,4 @@
 use Rattle.manual.specs.Answers.{first_that_applies}
-use borrow.Author.Rules.{rules}
 use Rattle.clearing.proofs.judge_code.Goals as goal
 
 pub returns-then-is_unknown : goal.returns-then-is_unknown

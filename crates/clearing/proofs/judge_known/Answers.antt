@@ -1,6 +1,5 @@
 use Rattle.manual.specs.State.{lent}
 use Rattle.judgement.proofs.JudgedLaws.{begun_by_lem, judged_by, stopped_by}
-use borrow.Author.Rules.{rules}
 use Rattle.clearing.proofs.judge_known.Goals as goal
 
 pub judge_code-requires : goal.judge_code-requires

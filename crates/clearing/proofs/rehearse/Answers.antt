@@ -1,7 +1,6 @@
 use mathlib.Core.Path.{sym}
 use lib.Seq.{length-take-le}
 use Rattle.rehearsal.proofs.CopiesLaws.{records_most, numbers_most, entries_most}
-use borrow.Author.Rules.{rules}
 use Rattle.clearing.proofs.rehearse.Goals as goal
 
 pub slice_bounds-records_copy-end : goal.slice_bounds-records_copy-end

@@ -3,7 +3,6 @@ use Rattle.manual.specs.State.{State}
 use Rattle.manual.specs.Counts.{rise_of}
 use Rattle.manual.specs.Calls.{clear_log}
 use Rattle.clearing.proofs.ClearRiseLaws.{MayClear}
-use borrow.Author.Rules.{rules}
 use Rattle.clearing.proofs.rehearse_on.Goals as goal
 
 pub clear_covered-after-requires : goal.clear_covered-after-requires

@@ -1,15 +1,11 @@
 use mathlib.Core.Path.{◌≡◌, refl, ap, ◌∙◌}
-use mathlib.Core.List.{List}
-use Prim.Native.Nat.{ℕ, ◌-◌, ◌≤◌, ◌<◌}
+use Prim.Native.Nat.{ℕ, ◌<◌}
 use native.Mathlib.Omega.{arith}
-use lib.ListN.{length}
-use Rattle.manual.specs.declared.Board.{Board}
 use Rattle.manual.specs.Words.{for_below}
 use Rattle.manual.specs.Configuration.{events}
 use Rattle.manual.specs.State.{lent}
 use Rattle.one_event.specs.Steps.{resetting}
 use Rattle.clearing.proofs.ClearAllLaws.{no_reset, next_reset}
-use borrow.Author.Rules.{rules}
 use Rattle.clearing.proofs.reset_all.Goals as goal
 
 pub events-n-requires : goal.events-n-requires

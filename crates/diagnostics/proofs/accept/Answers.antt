@@ -4,7 +4,6 @@ use Rattle.diagnostics.specs.Replies.{left_to_clear}
 use Rattle.diagnostics.proofs.ShowLaws.{may_read}
 use Rattle.diagnostics.proofs.RequestLaws.{counts_stay, may_raise, counts_rise}
 use Rattle.diagnostics.proofs.RequestLaws.{with_counts_lem, replied_is, cleared_is}
-use borrow.Author.Rules.{rules}
 use Rattle.diagnostics.proofs.accept.Goals as goal
 
 pub serve-requires : goal.serve-requires

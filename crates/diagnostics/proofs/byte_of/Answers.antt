@@ -1,6 +1,5 @@
 use mathlib.Core.Path.{sym}
 use lib.ListN.{get_or-eq_default}
-use borrow.Author.Rules.{rules}
 use Rattle.diagnostics.proofs.byte_of.Goals as goal
 
 pub returns-else-index-request : goal.returns-else-index-request

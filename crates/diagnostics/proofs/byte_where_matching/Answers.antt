@@ -1,4 +1,3 @@
-use borrow.Author.Rules.{rules}
 use Rattle.diagnostics.proofs.byte_where_matching.Goals as goal
 
 pub returns-then-matches : goal.returns-then-matches

@@ -6,7 +6,6 @@ use mir.Val.{to_z, of_z}
 use mir.Facts.{to_z-of_z}
 use Rattle.manual.specs.Diagnostics.{is_near, counter_byte}
 use Rattle.diagnostics.specs.Replies.{holding}
-use borrow.Author.Rules.{rules}
 use Rattle.diagnostics.proofs.byte_where_near.Goals as goal
 
 pub counter_byte-requires : goal.counter_byte-requires

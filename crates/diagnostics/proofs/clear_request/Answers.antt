@@ -1,7 +1,6 @@
 use mathlib.Core.Path.{sym, ◌∙◌}
 use Rattle.diagnostics.proofs.RequestLaws.{clear_wrong_length, clear_unknown, clear_known}
 use Rattle.diagnostics.proofs.RequestLaws.{no_clear_of_length, no_clear_of_code, clear_of_code}
-use borrow.Author.Rules.{rules}
 use Rattle.diagnostics.proofs.clear_request.Goals as goal
 
 pub returns-then-request-ne4 : goal.returns-then-request-ne4

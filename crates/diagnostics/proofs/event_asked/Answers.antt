@@ -1,6 +1,5 @@
 use mathlib.Core.Path.{sym, ◌∙◌}
 use Rattle.diagnostics.proofs.ShowLaws.{asked_by_code, asked_for_nothing}
-use borrow.Author.Rules.{rules}
 use Rattle.diagnostics.proofs.event_asked.Goals as goal
 
 pub returns-then-is_record : goal.returns-then-is_record

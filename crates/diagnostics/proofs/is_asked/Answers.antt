@@ -1,4 +1,3 @@
-use borrow.Author.Rules.{rules}
 use Rattle.diagnostics.proofs.is_asked.Goals as goal
 
 pub returns-in-All : goal.returns-in-All

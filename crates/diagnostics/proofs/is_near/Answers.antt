@@ -7,7 +7,6 @@ use mir.Val.{to_z, of_z}
 use mir.Facts.{to_z-of_z}
 use Rattle.manual.specs.Words.{between}
 use Rattle.manual.specs.Diagnostics.{is_near}
-use borrow.Author.Rules.{rules}
 use Rattle.diagnostics.proofs.is_near.Goals as goal
 
 pub returns : goal.returns

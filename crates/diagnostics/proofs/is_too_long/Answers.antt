@@ -9,7 +9,6 @@ use Rattle.manual.proofs.ConfigurationLaws.{config_tells}
 use Rattle.manual.proofs.BelowLaws.{count_most}
 use Rattle.diagnostics.specs.Replies.{holding, asks}
 use Rattle.diagnostics.proofs.RepliesLaws.{number_most}
-use borrow.Author.Rules.{rules}
 use Rattle.diagnostics.proofs.is_too_long.Goals as goal
 
 pub overflow_mul-events : goal.overflow_mul-events

@@ -1,6 +1,5 @@
 use Rattle.manual.specs.State.{lent}
 use Rattle.diagnostics.proofs.RequestLaws.{may_be_limited, then_limit, not_so_far}
-use borrow.Author.Rules.{rules}
 use Rattle.diagnostics.proofs.judge.Goals as goal
 
 pub judge_limit-requires : goal.judge_limit-requires

@@ -1,6 +1,5 @@
 use Rattle.manual.specs.State.{lent}
 use Rattle.judgement.proofs.JudgedLaws.{judged_by, stopped_by}
-use borrow.Author.Rules.{rules}
 use Rattle.diagnostics.proofs.judge_begin.Goals as goal
 
 pub returns-in-Go : goal.returns-in-Go

@@ -2,7 +2,6 @@ use mathlib.Core.Path.{sym, ap, ◌∙◌}
 use Rattle.manual.specs.State.{lent}
 use Rattle.diagnostics.specs.Replies.{code_of14}
 use Rattle.diagnostics.proofs.RequestLaws.{asks_14, asks_none, no_limit, limit_is}
-use borrow.Author.Rules.{rules}
 use Rattle.diagnostics.proofs.judge_limit.Goals as goal
 
 pub returns-in-Clear : goal.returns-in-Clear

@@ -1,4 +1,3 @@
-use borrow.Author.Rules.{rules}
 use Rattle.diagnostics.proofs.line_byte.Goals as goal
 
 pub returns-in-All : goal.returns-in-All

@@ -1,4 +1,3 @@
-use borrow.Author.Rules.{rules}
 use Rattle.diagnostics.proofs.RepliesLaws.{by_reply, list_all_is}
 use Rattle.diagnostics.proofs.list_all.Goals as goal
 

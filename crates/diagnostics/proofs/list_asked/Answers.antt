@@ -10,7 +10,6 @@ use Rattle.manual.specs.State.{lent}
 use Rattle.diagnostics.specs.Replies.{holding, asks}
 use Rattle.diagnostics.proofs.RepliesLaws.{written_is_sent, nothing_is_sent, by_turn}
 use Rattle.diagnostics.proofs.RepliesLaws.{lines_length, lines_in_lem, list_length, list_tests}
-use borrow.Author.Rules.{rules}
 use Rattle.diagnostics.proofs.list_asked.Goals as goal
 
 pub is_too_long-too_long-requires : goal.is_too_long-too_long-requires

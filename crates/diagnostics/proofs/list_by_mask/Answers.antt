@@ -1,4 +1,3 @@
-use borrow.Author.Rules.{rules}
 use Rattle.diagnostics.proofs.RepliesLaws.{by_reply, list_by_mask_is}
 use Rattle.diagnostics.proofs.list_by_mask.Goals as goal
 

@@ -1,4 +1,3 @@
-use borrow.Author.Rules.{rules}
 use Rattle.diagnostics.proofs.matches.Goals as goal
 
 pub returns : goal.returns

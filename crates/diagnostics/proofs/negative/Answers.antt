@@ -1,4 +1,3 @@
-use borrow.Author.Rules.{rules}
 use Rattle.diagnostics.proofs.RepliesLaws.{written_is_sent}
 use Rattle.diagnostics.proofs.negative.Goals as goal
 

@@ -1,9 +1,6 @@
-use mathlib.Core.Path.{◌≡◌, sym}
+use mathlib.Core.Path.{◌≡◌}
 use Prim.Native.Nat.{◌-◌, ◌≤◌}
-use native.Mathlib.Omega.{arith}
 use Rattle.manual.specs.Words.{count_below}
-use Rattle.manual.proofs.ConfigurationLaws.{config_tells}
-use Rattle.manual.proofs.BelowLaws.{count_none, count_more, count_most}
 use Rattle.diagnostics.specs.Replies.{holding, asks}
 use Rattle.diagnostics.proofs.number_asked.Given as goal
 

@@ -1,7 +1,6 @@
 use mathlib.Core.Path.{refl}
 use native.Mathlib.Omega.{arith}
 use borrow.Author.Tests.{ltb-false}
-use borrow.Author.Rules.{rules}
 use Rattle.diagnostics.proofs.RepliesLaws.{written_is_sent, nothing_is_sent, by_turn, number_most, number_tests}
 use Rattle.diagnostics.proofs.number_by_mask.Goals as goal
 

@@ -2,7 +2,6 @@ use mathlib.Core.Path.{sym, ap, ◌∙◌}
 use Rattle.diagnostics.specs.Replies.{clear_request_is, code_of14}
 use Rattle.diagnostics.specs.declared.ClearRequest.{ClearRequest}
 use Rattle.diagnostics.proofs.RequestLaws.{replies_54, replies_negative}
-use borrow.Author.Rules.{rules}
 use Rattle.diagnostics.proofs.reply_14.Goals as goal
 
 pub returns-in-Clear : goal.returns-in-Clear

@@ -1,5 +1,4 @@
 use mathlib.Core.Path.{sym, ◌∙◌}
-use borrow.Author.Rules.{rules}
 use Rattle.manual.specs.Words.{first_of}
 use Rattle.diagnostics.proofs.RepliesLaws.{of_length_1, of_number, no_such_number}
 use Rattle.diagnostics.proofs.reply_19.Goals as goal

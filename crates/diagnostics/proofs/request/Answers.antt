@@ -3,7 +3,6 @@ use Rattle.manual.specs.State.{lent}
 use Rattle.manual.specs.Diagnostics.{request_reply}
 use Rattle.judgement.proofs.JudgedLaws.{passed_by, accepted_by, refused_by}
 use Rattle.diagnostics.proofs.RequestLaws.{may_answer}
-use borrow.Author.Rules.{rules}
 use Rattle.diagnostics.proofs.request.Goals as goal
 
 pub accept-requires : goal.accept-requires

@@ -1,6 +1,5 @@
 use native.Mathlib.Omega.{arith}
 use Rattle.diagnostics.proofs.RequestLaws.{serves_19, serves_14, serves_no_other, asks_14, asks_none}
-use borrow.Author.Rules.{rules}
 use Rattle.diagnostics.proofs.serve.Goals as goal
 
 pub returns-in-25 : goal.returns-in-25

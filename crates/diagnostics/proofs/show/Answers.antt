@@ -1,5 +1,4 @@
 use mathlib.Core.Path.{sym, ap, ◌∙◌}
-use borrow.Author.Rules.{rules}
 use Rattle.manual.specs.State.{lent}
 use Rattle.config.specs.Search.{search_is}
 use Rattle.diagnostics.specs.Showing.{remembering}

@@ -4,7 +4,6 @@ use lib.Dec.{ltb}
 use lib.ListN.{length}
 use mathlib.Core.Path.{sym, ap}
 use borrow.Author.Tests.{ltb-false}
-use borrow.Author.Rules.{rules}
 use Rattle.manual.specs.State.{lent}
 use Rattle.diagnostics.specs.Showing.{remembering}
 use Rattle.diagnostics.proofs.RepliesLaws.{written_is_sent, nothing_is_sent}

@@ -3,7 +3,6 @@ use Prim.Native.Nat.{ℕ, ◌+◌}
 use native.Mathlib.Omega.{arith}
 use Rattle.diagnostics.specs.Showing.{shown_length}
 use Rattle.diagnostics.proofs.ShowLaws.{told_most}
-use borrow.Author.Rules.{rules}
 use Rattle.diagnostics.proofs.shown_length.Goals as goal
 
 pub overflow_add-result : goal.overflow_add-result

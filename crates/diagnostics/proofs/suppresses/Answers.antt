@@ -1,4 +1,3 @@
-use borrow.Author.Rules.{rules}
 use Rattle.diagnostics.proofs.suppresses.Goals as goal
 
 pub returns : goal.returns

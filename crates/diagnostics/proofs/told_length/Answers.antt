@@ -1,6 +1,5 @@
 use mathlib.Core.Path.{sym, ap, ◌∙◌}
 use Rattle.diagnostics.specs.Showing.{told_length}
-use borrow.Author.Rules.{rules}
 use Rattle.diagnostics.proofs.told_length.Goals as goal
 
 pub returns-in-Frame : goal.returns-in-Frame

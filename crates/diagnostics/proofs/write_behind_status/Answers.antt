@@ -1,7 +1,6 @@
 use native.Mathlib.Omega.{arith}
 use Rattle.writing.proofs.WritingLaws.{append_next}
 use Rattle.diagnostics.proofs.ShowLaws.{place_fits, behind_entry, behind_none, entry_fits}
-use borrow.Author.Rules.{rules}
 use Rattle.diagnostics.proofs.write_behind_status.Goals as goal
 
 pub write-next-requires : goal.write-next-requires

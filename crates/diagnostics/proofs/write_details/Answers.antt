@@ -1,5 +1,4 @@
 use Rattle.diagnostics.proofs.ShowLaws.{append_these, place_again, details_are}
-use borrow.Author.Rules.{rules}
 use Rattle.diagnostics.proofs.write_details.Goals as goal
 
 pub count_at-count-requires : goal.count_at-count-requires

@@ -1,5 +1,4 @@
 use native.Mathlib.Omega.{arith}
-use borrow.Author.Rules.{rules}
 use Rattle.manual.proofs.ConfigurationLaws.{config_tells}
 use Rattle.config.proofs.PartLaws.{row_within}
 use Rattle.diagnostics.proofs.write_line.Goals as goal

@@ -7,7 +7,6 @@ use Rattle.manual.proofs.ConfigurationLaws.{config_tells}
 use Rattle.writing.specs.Writing.{written, append}
 use Rattle.writing.proofs.WritingLaws.{append_none}
 use Rattle.diagnostics.specs.Replies.{line_with}
-use borrow.Author.Rules.{rules}
 use Rattle.diagnostics.proofs.write_line_if_asked.Goals as goal
 
 pub line_byte-requires : goal.line_byte-requires

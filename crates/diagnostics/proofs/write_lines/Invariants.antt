@@ -1,12 +1,8 @@
-use mathlib.Core.Path.{◌≡◌, refl, sym, ◌∙◌}
+use mathlib.Core.Path.{◌≡◌}
 use Prim.Native.Nat.{◌-◌, ◌≤◌}
-use native.Mathlib.Omega.{arith}
 use lib.ListN.{length}
 use Rattle.manual.specs.Words.{join_below}
-use Rattle.manual.specs.Diagnostics.{lines}
-use Rattle.manual.proofs.BelowLaws.{join_none, join_more, join_within}
 use Rattle.writing.specs.Writing.{written, append}
-use Rattle.writing.proofs.WritingLaws.{append_none, append_then, append_next}
 use Rattle.diagnostics.specs.Replies.{holding, line_if_asked}
 use Rattle.diagnostics.proofs.write_lines.Given as goal
 

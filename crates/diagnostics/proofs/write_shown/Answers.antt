@@ -1,7 +1,6 @@
 use native.Mathlib.Omega.{arith}
 use Rattle.writing.proofs.WritingLaws.{append_next}
 use Rattle.diagnostics.proofs.ShowLaws.{shown_least, shown_written}
-use borrow.Author.Rules.{rules}
 use Rattle.diagnostics.proofs.write_shown.Goals as goal
 
 pub write-at-requires : goal.write-at-requires

@@ -1,6 +1,5 @@
 use Rattle.diagnostics.proofs.ShowLaws.{append_these, place_again, frame_told_lem, frame_fits}
 use Rattle.diagnostics.proofs.ShowLaws.{details_told_lem, details_fit}
-use borrow.Author.Rules.{rules}
 use Rattle.diagnostics.proofs.write_told.Goals as goal
 
 pub payload_at-payload-requires : goal.payload_at-payload-requires

@@ -1,5 +1,4 @@
 -- `answer_of` meets its contract.
-use borrow.Author.Rules.{rules}
 use Rattle.manual.specs.State.{lent}
 use Rattle.manual.specs.Answers.{of_answer}
 use Rattle.grelpicado.proofs.PanelLaws.{answer_verdict, answer_value, crossed}

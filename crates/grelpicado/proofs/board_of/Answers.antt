@@ -1,6 +1,5 @@
 -- `board_of` meets its contract.
 use mathlib.Core.List.{[], ◌∷◌}
-use borrow.Author.Rules.{rules}
 use Rattle.grelpicado.proofs.board_of.Goals as goal
 
 pub returns : goal.returns

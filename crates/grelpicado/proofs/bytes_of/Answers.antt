@@ -1,6 +1,5 @@
 -- `bytes_of` meets its contract.
 use mathlib.Core.List.{[], ◌∷◌}
-use borrow.Author.Rules.{rules}
 use Rattle.grelpicado.proofs.bytes_of.Goals as goal
 
 pub returns : goal.returns

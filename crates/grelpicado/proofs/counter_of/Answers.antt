@@ -1,7 +1,6 @@
 -- `counter_of` meets its contract.
 use mir.Syntax.{w8}
 use mir.Facts.{to_z-of_z}
-use borrow.Author.Rules.{rules}
 use Rattle.grelpicado.proofs.PanelLaws.{crossed_with_counter}
 use Rattle.grelpicado.proofs.counter_of.Goals as goal
 

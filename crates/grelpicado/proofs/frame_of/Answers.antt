@@ -1,5 +1,4 @@
 -- `frame_of` meets its contract.
-use borrow.Author.Rules.{rules}
 use Rattle.grelpicado.proofs.PanelLaws.{crossed_with_frame}
 use Rattle.grelpicado.proofs.frame_of.Goals as goal
 

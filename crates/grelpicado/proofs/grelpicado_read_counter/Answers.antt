@@ -1,5 +1,4 @@
 -- `grelpicado_read_counter` meets its contract.
-use borrow.Author.Rules.{rules}
 use Rattle.manual.specs.Answers.{alone}
 use Rattle.manual.specs.State.{lent}
 use Rattle.manual.specs.Counter.{counter_read}

@@ -1,6 +1,5 @@
 -- `grelpicado_read_frame` meets its contract.
 use mathlib.Core.Path.{ap, ◌∙◌}
-use borrow.Author.Rules.{rules}
 use Rattle.manual.specs.declared.Which.{Which}
 use Rattle.manual.specs.State.{lent}
 use Rattle.queries.specs.Reading.{frame_read}

@@ -4,7 +4,6 @@ use Rattle.manual.specs.State.{lent}
 use Rattle.manual.specs.Calls.{report}
 use Rattle.grelpicado.specs.Panel.{crosses}
 use Rattle.grelpicado.proofs.PanelLaws.{through}
-use borrow.Author.Rules.{rules}
 use Rattle.grelpicado.proofs.grelpicado_report.Goals as goal
 
 pub returns : goal.returns

@@ -1,5 +1,4 @@
 -- `grelpicado_save` meets its contract.
-use borrow.Author.Rules.{rules}
 use Rattle.manual.specs.Answers.{lent_room}
 use Rattle.manual.specs.State.{lent}
 use Rattle.manual.specs.Image.{save}

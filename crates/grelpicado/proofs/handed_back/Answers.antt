@@ -1,7 +1,6 @@
 -- `handed_back` meets its contract.
 use mathlib.Core.Path.{refl}
 use borrow.Author.Tests.{eq-eqb, ne_eqb}
-use borrow.Author.Rules.{rules}
 use Rattle.grelpicado.proofs.handed_back.Goals as goal
 
 pub returns-then-number-eq0 : goal.returns-then-number-eq0

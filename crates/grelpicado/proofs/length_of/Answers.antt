@@ -1,5 +1,4 @@
 -- `length_of` meets its contract.
-use borrow.Author.Rules.{rules}
 use Rattle.manual.specs.Answers.{lent_room, of_length}
 use Rattle.grelpicado.proofs.PanelLaws.{length_verdict, crossed_without_board}
 use Rattle.grelpicado.proofs.length_of.Goals as goal

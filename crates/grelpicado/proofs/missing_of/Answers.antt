@@ -1,5 +1,4 @@
 -- `missing_of` meets its contract.
-use borrow.Author.Rules.{rules}
 use Rattle.grelpicado.proofs.PanelLaws.{crossed_with_missing}
 use Rattle.grelpicado.proofs.missing_of.Goals as goal
 

@@ -1,6 +1,5 @@
 -- `paint_of` meets its contract.
 use mathlib.Core.Path.{ap, ◌∙◌}
-use borrow.Author.Rules.{rules}
 use Rattle.grelpicado.specs.Panel.{paint_number}
 use Rattle.grelpicado.proofs.PanelLaws.{crossed_with_paint}
 use Rattle.grelpicado.proofs.paint_of.Goals as goal

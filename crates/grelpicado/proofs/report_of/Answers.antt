@@ -1,6 +1,5 @@
 -- `report_of` meets its contract.
 use mathlib.Core.Path.{ap, ◌∙◌}
-use borrow.Author.Rules.{rules}
 use Rattle.manual.specs.State.{lent}
 use Rattle.manual.specs.Answers.{of_report}
 use Rattle.grelpicado.specs.Panel.{verdict_number}

@@ -1,5 +1,4 @@
 -- `request_of` meets its contract.
-use borrow.Author.Rules.{rules}
 use Rattle.manual.specs.State.{lent}
 use Rattle.manual.specs.Answers.{of_length}
 use Rattle.grelpicado.proofs.PanelLaws.{length_verdict, crossed}

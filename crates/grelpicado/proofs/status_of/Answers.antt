@@ -1,5 +1,4 @@
 -- `status_of` meets its contract.
-use borrow.Author.Rules.{rules}
 use Rattle.manual.specs.Answers.{alone, of_status}
 use Rattle.grelpicado.proofs.PanelLaws.{status_verdict, crossed_without_board}
 use Rattle.grelpicado.proofs.status_of.Goals as goal

@@ -1,5 +1,4 @@
 -- `table_of` meets its contract.
-use borrow.Author.Rules.{rules}
 use Rattle.grelpicado.proofs.PanelLaws.{crossed_with_table}
 use Rattle.grelpicado.proofs.table_of.Goals as goal
 

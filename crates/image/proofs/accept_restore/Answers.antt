@@ -3,7 +3,6 @@ use Prim.Native.Nat.{◌+◌, ◌≤◌}
 use native.Mathlib.Omega.{arith}
 use lib.ListN.{length}
 use Rattle.image.proofs.RestoreLaws.{end_least, fillable, restored_is}
-use borrow.Author.Rules.{rules}
 use Rattle.image.proofs.accept_restore.Goals as goal
 
 pub overflow_sub-end : goal.overflow_sub-end

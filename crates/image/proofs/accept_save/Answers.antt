@@ -5,7 +5,6 @@ use Rattle.writing.specs.Writing.{filled}
 use mathlib.Core.Path.{ap, ◌∙◌}
 use Prim.Native.Nat.{ℕ}
 use native.Mathlib.Omega.{arith}
-use borrow.Author.Rules.{rules}
 use Rattle.image.proofs.accept_save.Goals as goal
 
 pub used_length-used-requires : goal.used_length-used-requires

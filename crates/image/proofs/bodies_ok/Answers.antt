@@ -5,7 +5,6 @@ use native.Mathlib.Omega.{arith}
 use Rattle.manual.proofs.ConfigurationLaws.{config_tells}
 use Rattle.memory.specs.Judgement.{used_ok}
 use Rattle.image.specs.Layout.{bodies_ok}
-use borrow.Author.Rules.{rules}
 use Rattle.image.proofs.bodies_ok.Goals as goal
 
 pub entries_ok-requires : goal.entries_ok-requires

@@ -3,7 +3,6 @@ use native.Mathlib.Omega.{arith}
 use Rattle.writing.proofs.WritingLaws.{append_next}
 use Rattle.image.specs.Widened.{made_of}
 use Rattle.image.proofs.RestoreLaws.{front_written}
-use borrow.Author.Rules.{rules}
 use Rattle.image.proofs.fill_memory.Goals as goal
 
 pub zero_from-requires : goal.zero_from-requires

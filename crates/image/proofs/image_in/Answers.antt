@@ -5,12 +5,10 @@ use Prim.Native.Nat.{◌+◌, ◌≤◌}
 use native.Mathlib.Omega.{arith}
 use lib.ListN.{length}
 use lib.Seq.{length-take-le}
-use borrow.Author.Tests.{not-true, not-false}
 use Rattle.manual.specs.Image.{edition}
 use Rattle.image.specs.Layout.{memory_at, length_ok}
 use Rattle.image.proofs.LayoutLaws.{length_least, length_most}
 use Rattle.image.proofs.JudgementLaws.{refused_by_length, records_cut_long, judged_right}
-use borrow.Author.Rules.{rules}
 use Rattle.image.proofs.image_in.Goals as goal
 
 pub returns-then-not-length_ok : goal.returns-then-not-length_ok

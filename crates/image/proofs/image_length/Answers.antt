@@ -4,7 +4,6 @@ use Prim.Native.Nat.{ℕ, ◌+◌}
 use native.Mathlib.Omega.{arith}
 use lib.ListN.{length}
 use Rattle.image.proofs.SaveLaws.{counted, size_most, image_length}
-use borrow.Author.Rules.{rules}
 use Rattle.image.proofs.image_length.Goals as goal
 
 pub used_length-requires : goal.used_length-requires

@@ -3,7 +3,6 @@ use mathlib.Core.Path.{sym}
 use native.Mathlib.Omega.{arith}
 use Rattle.manual.proofs.ConfigurationLaws.{config_tells}
 use Rattle.image.proofs.JudgementLaws.{judged_as_1, judged_as_2, refused_short}
-use borrow.Author.Rules.{rules}
 use Rattle.image.proofs.image_ok.Goals as goal
 
 pub returns-then-image-le-EDITION_AT : goal.returns-then-image-le-EDITION_AT

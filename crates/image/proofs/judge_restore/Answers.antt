@@ -5,7 +5,6 @@ use Rattle.manual.specs.State.{all_stopped}
 use mathlib.Core.Path.{sym, ap, ◌∙◌}
 use Rattle.judgement.specs.Checks.{check_number}
 use Rattle.image.proofs.RestoreLaws.{begun_accepted, judged_go, judged_bad, judged_stop}
-use borrow.Author.Rules.{rules}
 use Rattle.image.proofs.judge_restore.Goals as goal
 
 pub image_ok-requires : goal.image_ok-requires

@@ -2,7 +2,6 @@
 use mathlib.Core.Path.{sym, ap, ◌∙◌}
 use Rattle.judgement.specs.Checks.{check_number}
 use Rattle.image.proofs.SaveLaws.{begun_savable, judged_on, judged_stop}
-use borrow.Author.Rules.{rules}
 use Rattle.image.proofs.judge_save.Goals as goal
 
 pub image_length-requires : goal.image_length-requires

@@ -3,7 +3,6 @@ use mathlib.Core.Path.{sym}
 use native.Mathlib.Omega.{arith}
 use Prim.Native.Nat.{◌+◌, ◌≤◌}
 use Rattle.image.proofs.LayoutLaws.{too_short, too_many, counted, end_most, few_enough}
-use borrow.Author.Rules.{rules}
 use Rattle.image.proofs.length_ok.Goals as goal
 
 pub returns-then-image-start : goal.returns-then-image-start

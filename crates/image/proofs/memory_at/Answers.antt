@@ -1,7 +1,6 @@
 -- `memory_at` meets its contract.
 use native.Mathlib.Omega.{arith}
 use Rattle.manual.proofs.ConfigurationLaws.{config_tells}
-use borrow.Author.Rules.{rules}
 use Rattle.image.proofs.memory_at.Goals as goal
 
 pub overflow_mul-result : goal.overflow_mul-result

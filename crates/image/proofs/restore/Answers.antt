@@ -4,7 +4,6 @@ use native.Mathlib.Omega.{arith}
 use Rattle.manual.specs.Image.{restore}
 use Rattle.judgement.proofs.JudgedLaws.{passed_by, refused_by}
 use Rattle.image.proofs.RestoreLaws.{restore_ready, restore_five, restored_counted, few_enough, restore_done}
-use borrow.Author.Rules.{rules}
 use Rattle.image.proofs.restore.Goals as goal
 
 pub accept_restore-restored-requires : goal.accept_restore-restored-requires

@@ -1,8 +1,5 @@
-use mathlib.Core.Path.{◌≡◌, refl, sym, ◌∙◌}
-use Prim.Native.Nat.{◌-◌, ◌≤◌}
+use mathlib.Core.Path.{refl, sym, ◌∙◌}
 use native.Mathlib.Omega.{arith}
-use lib.ListN.{length, drop}
-use Rattle.manual.specs.Words.{equal}
 use Rattle.image.proofs.JudgementLaws.{equal_lengths, equal_goes_on, equal_ends, equal_through}
 use Rattle.image.proofs.same_bytes.Goals as goal
 

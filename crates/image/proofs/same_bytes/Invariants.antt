@@ -1,10 +1,8 @@
 -- `same_bytes`: at each turn the bytes before i are the same. The measure is the number of bytes left.
-use mathlib.Core.Path.{◌≡◌, refl, sym, ◌∙◌}
+use mathlib.Core.Path.{◌≡◌}
 use Prim.Native.Nat.{◌-◌, ◌≤◌}
-use native.Mathlib.Omega.{arith}
 use lib.ListN.{length, drop}
 use Rattle.manual.specs.Words.{equal}
-use Rattle.image.proofs.JudgementLaws.{equal_lengths, equal_goes_on, equal_ends, equal_through}
 use Rattle.image.proofs.same_bytes.Given as goal
 
 abbrev pub invariant-loop-i : goal.invariant-loop-i

@@ -4,7 +4,6 @@ use Rattle.judgement.specs.Checks.{check_number}
 use Rattle.manual.specs.Image.{save}
 use Rattle.judgement.proofs.JudgedLaws.{refused_by}
 use Rattle.image.proofs.SaveLaws.{save_ready, save_room, save_done}
-use borrow.Author.Rules.{rules}
 use Rattle.image.proofs.save.Goals as goal
 
 pub accept_save-requires : goal.accept_save-requires

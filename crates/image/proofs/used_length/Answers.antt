@@ -4,7 +4,6 @@ use Prim.Native.Nat.{ℕ}
 use native.Mathlib.Omega.{arith}
 use Rattle.manual.specs.Memory.{entry_count, bytes_in_use}
 use Rattle.manual.proofs.ConfigurationLaws.{config_tells}
-use borrow.Author.Rules.{rules}
 use Rattle.image.proofs.used_length.Goals as goal
 
 pub bytes_in_use-requires : goal.bytes_in_use-requires

@@ -1,8 +1,6 @@
 use mathlib.Core.Path.{sym, ◌∙◌}
 use native.Mathlib.Omega.{arith}
-use lib.ListN.{drop}
-use Rattle.writing.specs.Writing.{written, append}
-use Rattle.image.proofs.WidenedLaws.{next, Going, count_long, begins, makes_whole, entry_within, entry_long}
+use Rattle.image.proofs.WidenedLaws.{count_long, begins, makes_whole, entry_within, entry_long}
 use Rattle.image.proofs.WidenedLaws.{entry_room, goes_on, ends}
 use Rattle.image.proofs.widen.Goals as goal
 

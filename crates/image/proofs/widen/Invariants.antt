@@ -1,11 +1,8 @@
 -- `widen`: at each turn the entries that are left, written behind what is written, make the whole. The measure is
 -- their number.
-use mathlib.Core.Path.{sym, ◌∙◌}
-use native.Mathlib.Omega.{arith}
 use lib.ListN.{drop}
 use Rattle.writing.specs.Writing.{written, append}
-use Rattle.image.proofs.WidenedLaws.{next, Going, count_long, begins, makes_whole, entry_within, entry_long}
-use Rattle.image.proofs.WidenedLaws.{entry_room, goes_on, ends}
+use Rattle.image.proofs.WidenedLaws.{next, Going}
 use Rattle.image.proofs.widen.Given as goal
 
 abbrev pub invariant-loop-left : goal.invariant-loop-left

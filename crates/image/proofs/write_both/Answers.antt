@@ -4,7 +4,6 @@ use native.Mathlib.Omega.{arith}
 use Rattle.writing.specs.Writing.{written}
 use Rattle.writing.proofs.WritingLaws.{append_next}
 use Rattle.image.proofs.WidenedLaws.{head_long, frames_written}
-use borrow.Author.Rules.{rules}
 use Rattle.image.proofs.write_both.Goals as goal
 
 pub slice_bounds-write-end : goal.slice_bounds-write-end

@@ -6,7 +6,6 @@ use native.Mathlib.Omega.{arith}
 use lib.ListN.{length}
 use Rattle.writing.specs.Writing.{written, append}
 use Rattle.image.proofs.WidenedLaws.{made_of_1, made_of_other}
-use borrow.Author.Rules.{rules}
 use Rattle.image.proofs.write_entries.Goals as goal
 
 pub widen-requires : goal.widen-requires

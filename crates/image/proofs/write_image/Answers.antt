@@ -3,7 +3,6 @@ use native.Mathlib.Omega.{arith}
 use mathlib.Core.Bool.{cond}
 use Rattle.writing.proofs.WritingLaws.{append_next}
 use Rattle.image.proofs.SaveLaws.{bodies_written}
-use borrow.Author.Rules.{rules}
 use Rattle.image.proofs.write_image.Goals as goal
 
 pub write-memory_at-requires : goal.write-memory_at-requires

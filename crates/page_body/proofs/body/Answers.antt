@@ -1,7 +1,6 @@
 -- `body` meets its contract.
 use Rattle.page_body.specs.Body.{body}
 use Rattle.page_text.proofs.TextLaws.{puts_then}
-use borrow.Author.Rules.{rules}
 use Rattle.page_body.proofs.body.Goals as goal
 
 pub returns : goal.returns

@@ -3,7 +3,6 @@ use Rattle.page_body.specs.Body.{failed_section}
 use Rattle.page_text.proofs.TextLaws.{puts_then, puts_most}
 use Rattle.page_text.specs.Text.{text}
 use native.Mathlib.Omega.{arith}
-use borrow.Author.Rules.{rules}
 use Rattle.page_body.proofs.failed_section.Goals as goal
 
 pub returns : goal.returns

@@ -6,7 +6,6 @@ use Rattle.manual.specs.State.{lent}
 use mathlib.Core.Path.{ap, ◌∙◌}
 use Rattle.page_text.proofs.TextLaws.{puts_then, puts_most}
 use native.Mathlib.Omega.{arith}
-use borrow.Author.Rules.{rules}
 use Rattle.page_body.proofs.four_cycles.Goals as goal
 
 pub cycle_row-requires : goal.cycle_row-requires

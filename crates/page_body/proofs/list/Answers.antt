@@ -3,7 +3,6 @@ use Rattle.page_body.specs.Body.{table_end, list_of}
 use Rattle.page_text.proofs.TextLaws.{puts_then, puts_most}
 use Rattle.page_text.specs.Text.{text}
 use native.Mathlib.Omega.{arith}
-use borrow.Author.Rules.{rules}
 use Rattle.page_body.proofs.list.Goals as goal
 
 pub returns : goal.returns

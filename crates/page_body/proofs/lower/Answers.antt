@@ -2,7 +2,6 @@
 use Rattle.page_body.specs.Body.{lower}
 use Rattle.page_text.proofs.TextLaws.{puts_then, puts_most}
 use native.Mathlib.Omega.{arith}
-use borrow.Author.Rules.{rules}
 use Rattle.page_body.proofs.lower.Goals as goal
 
 pub returns : goal.returns

@@ -5,7 +5,6 @@ use Rattle.manual.proofs.ConfigurationLaws.{config_tells}
 use Rattle.page_text.proofs.TextLaws.{puts_then, puts_most}
 use Rattle.page_text.specs.Text.{text}
 use native.Mathlib.Omega.{arith}
-use borrow.Author.Rules.{rules}
 use Rattle.page_body.proofs.memory_part.Goals as goal
 
 pub entry_count-taken-requires : goal.entry_count-taken-requires

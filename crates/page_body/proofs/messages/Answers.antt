@@ -2,7 +2,6 @@
 use Rattle.page_body.specs.Body.{messages}
 use Rattle.page_text.proofs.TextLaws.{puts_then, puts_most}
 use native.Mathlib.Omega.{arith}
-use borrow.Author.Rules.{rules}
 use Rattle.page_body.proofs.messages.Goals as goal
 
 pub overflow_cast-line : goal.overflow_cast-line

@@ -5,9 +5,7 @@ use Rattle.untested.specs.Page.{holding}
 use Rattle.untested.proofs.PageLaws.{event_within}
 use Rattle.manual.proofs.BelowLaws.{count_none, count_more, count_most}
 use Rattle.manual.proofs.ConfigurationLaws.{config_tells}
-use Rattle.manual.specs.Words.{count_below}
 use native.Mathlib.Omega.{arith}
-use Prim.Native.Nat.{◌-◌, ◌≤◌}
 use mathlib.Core.Path.{◌≡◌, sym, ◌∙◌}
 use Rattle.page_body.proofs.painted.Goals as goal
 

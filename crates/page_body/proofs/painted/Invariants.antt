@@ -1,15 +1,9 @@
 -- `painted` meets its contract.
-use Rattle.page_body.proofs.BodyLaws.{painted_in, painted_by}
-use Rattle.page_body.specs.Body.{painted}
 use Rattle.page_rows.specs.Rows.{is_painted}
 use Rattle.untested.specs.Page.{holding}
-use Rattle.untested.proofs.PageLaws.{event_within}
-use Rattle.manual.proofs.BelowLaws.{count_none, count_more, count_most}
-use Rattle.manual.proofs.ConfigurationLaws.{config_tells}
 use Rattle.manual.specs.Words.{count_below}
-use native.Mathlib.Omega.{arith}
 use Prim.Native.Nat.{◌-◌, ◌≤◌}
-use mathlib.Core.Path.{◌≡◌, sym, ◌∙◌}
+use mathlib.Core.Path.{◌≡◌}
 use Rattle.page_body.proofs.painted.Given as goal
 
 abbrev pub invariant-loop-event : goal.invariant-loop-event

@@ -1,14 +1,8 @@
 use Rattle.page_body.specs.Body.{rows_of}
-use Rattle.page_rows.specs.Rows.{part_of}
 use Rattle.manual.proofs.BelowLaws.{join_none, join_more}
 use Rattle.manual.proofs.ConfigurationLaws.{config_tells}
-use Rattle.manual.specs.Words.{join_below}
-use Rattle.manual.specs.State.{lent}
-use lib.ListN.{length}
 use Rattle.page_text.proofs.TextLaws.{puts_none, puts_then, puts_most}
-use Rattle.page_text.specs.Text.{Puts}
 use native.Mathlib.Omega.{arith}
-use Prim.Native.Nat.{◌-◌, ◌*◌, ◌≤◌}
 use mathlib.Core.Path.{◌≡◌, refl, ◌∙◌}
 use Rattle.page_body.proofs.rows.Goals as goal
 

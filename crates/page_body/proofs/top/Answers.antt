@@ -3,7 +3,6 @@ use Rattle.page_body.specs.Body.{top}
 use Rattle.manual.proofs.ConfigurationLaws.{config_tells}
 use Rattle.page_text.proofs.TextLaws.{puts_then, puts_most}
 use native.Mathlib.Omega.{arith}
-use borrow.Author.Rules.{rules}
 use Rattle.page_rows.proofs.RowsLaws.{records_for}
 use Rattle.page_body.proofs.top.Goals as goal
 

@@ -4,7 +4,6 @@ use borrow.Author.Tests.{eq-eqb, ne_eqb}
 use Rattle.page_text.proofs.TextLaws.{puts_most}
 use Rattle.page_text.specs.Text.{text}
 use native.Mathlib.Omega.{arith}
-use borrow.Author.Rules.{rules}
 use Rattle.page_rows.proofs.RowsLaws.{records_for}
 use Rattle.page_body.proofs.untested_list.Goals as goal
 

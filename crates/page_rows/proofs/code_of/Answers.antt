@@ -1,7 +1,6 @@
 -- `code_of` meets its contract.
 use Rattle.page_rows.proofs.RowsLaws.{in_most, codes_small}
 use native.Mathlib.Omega.{arith}
-use borrow.Author.Rules.{rules}
 use Rattle.page_rows.proofs.code_of.Goals as goal
 
 pub code_of-code-requires : goal.code_of-code-requires

@@ -2,7 +2,6 @@
 use Rattle.page_rows.proofs.RowsLaws.{place_fits, counts_at, counts_none}
 use Rattle.manual.specs.Configuration.{entry_frames}
 use mathlib.Core.Path.{sym, ◌∙◌}
-use borrow.Author.Rules.{rules}
 use Rattle.page_rows.proofs.count_of.Goals as goal
 
 pub place_of-own-requires : goal.place_of-own-requires

@@ -1,7 +1,6 @@
 -- `cycle_of` meets its contract.
 use Rattle.page_rows.proofs.RowsLaws.{in_most, cycles_small}
 use native.Mathlib.Omega.{arith}
-use borrow.Author.Rules.{rules}
 use Rattle.page_rows.proofs.cycle_of.Goals as goal
 
 pub cycle_of-cycle-requires : goal.cycle_of-cycle-requires

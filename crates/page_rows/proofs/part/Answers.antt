@@ -4,7 +4,6 @@ use Rattle.page_rows.specs.Rows.{listed, part_of}
 use Rattle.page_names.proofs.NamesLaws.{name_few}
 use Rattle.manual.specs.State.{lent}
 use native.Mathlib.Omega.{arith}
-use borrow.Author.Rules.{rules}
 use Rattle.page_rows.proofs.part.Goals as goal
 
 pub overflow_cast-e : goal.overflow_cast-e

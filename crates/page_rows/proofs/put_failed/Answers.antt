@@ -1,7 +1,6 @@
 -- `put_failed` meets its contract.
 use Rattle.page_text.proofs.TextLaws.{puts_none}
 use borrow.Author.Tests.{eq-eqb, ne_eqb}
-use borrow.Author.Rules.{rules}
 use Rattle.page_rows.proofs.put_failed.Goals as goal
 
 pub returns-then-paint_number-ne1 : goal.returns-then-paint_number-ne1

@@ -1,7 +1,6 @@
 -- `put_listed` meets its contract.
 use Rattle.page_text.proofs.TextLaws.{puts_most}
 use native.Mathlib.Omega.{arith}
-use borrow.Author.Rules.{rules}
 use Rattle.page_rows.proofs.put_listed.Goals as goal
 
 pub returns-in-Untested : goal.returns-in-Untested

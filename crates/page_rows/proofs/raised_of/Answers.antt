@@ -6,7 +6,6 @@ use mir.Facts.{to_z-of_z}
 use mir.Val.{to_z, of_z, SFits}
 use mir.Syntax.{w8, w64}
 use mathlib.Core.Path.{◌≡◌}
-use borrow.Author.Rules.{rules}
 use Rattle.page_rows.proofs.raised_of.Goals as goal
 
 pub counter_of-counter-requires : goal.counter_of-counter-requires

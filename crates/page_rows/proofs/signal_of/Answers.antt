@@ -1,6 +1,5 @@
 -- `signal_of` meets its contract.
 use Rattle.page_rows.proofs.RowsLaws.{event_in_lem, in_blocks, entries_ok, signal_is}
-use borrow.Author.Rules.{rules}
 use Rattle.page_rows.proofs.signal_of.Goals as goal
 
 pub paint_of-paint-requires : goal.paint_of-paint-requires

@@ -3,7 +3,6 @@ use Prim.Native.Nat.{ℕ}
 use Rattle.manual.specs.Words.{nat_of}
 use Rattle.config.proofs.SignedInCode.{back}
 use Rattle.replay_step.specs.declared.Argument.TheVariants.{Is}
-use borrow.Author.Rules.{rules}
 use Rattle.replay_step.proofs.argument_of.Goals as goal
 
 pub returns-else-read : goal.returns-else-read

@@ -3,7 +3,6 @@ use lib.IntN.{ℤ}
 use Rattle.config.proofs.SignedInCode.{back}
 use Rattle.replay_step.specs.Beginning.{beginning, with_count, beginning_left}
 use Rattle.writing.specs.Writing.{laid}
-use borrow.Author.Rules.{rules}
 use Rattle.replay_step.proofs.begin.Goals as goal
 
 pub returns-then-longer : goal.returns-then-longer

@@ -1,6 +1,5 @@
 use borrow.Author.Tests.{ne_eqb}
 use Rattle.replay_step.specs.Asked.{call_with}
-use borrow.Author.Rules.{rules}
 use Rattle.replay_step.proofs.call_with.Goals as goal
 
 pub returns-in-1 : goal.returns-in-1

@@ -2,11 +2,9 @@ use mathlib.Core.Path.{sym, ap, ◌∙◌}
 use Prim.Native.Nat.{ℕ}
 use mir.Facts.{to_z-of_z}
 use native.Mathlib.Nat.{le_trans}
-use borrow.Author.Tests.{not-true, not-false}
 use Rattle.replay_step.specs.Beginning.{with_count, of_numbers, numbers_read, beginning_left}
 use Rattle.replay_step.proofs.BeginningLaws.{count_small}
 use Rattle.writing.specs.Writing.{laid}
-use borrow.Author.Rules.{rules}
 use Rattle.replay_step.proofs.counted.Goals as goal
 
 pub returns-then-not-count_allowed : goal.returns-then-not-count_allowed

@@ -5,7 +5,6 @@ use Rattle.replay_step.specs.declared.Begun.TheVariants.{Ready}
 use Rattle.replay_step.specs.Beginning.{leaving}
 use Rattle.writing.proofs.PartlyWritten.{laid_front}
 use Rattle.replay_step.proofs.BeginningLaws.{length_of_front}
-use borrow.Author.Rules.{rules}
 use Rattle.replay_step.proofs.judged.Goals as goal
 
 pub slice_bounds-config_ok-end : goal.slice_bounds-config_ok-end

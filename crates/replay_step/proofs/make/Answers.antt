@@ -2,7 +2,6 @@
 use mathlib.Core.Path.{◌∙◌}
 use Rattle.manual.specs.Answers.{of_answer}
 use Rattle.replay_step.proofs.TurnLaws.{made_by, start_made}
-use borrow.Author.Rules.{rules}
 use Rattle.replay_step.proofs.make.Goals as goal
 
 pub returns-in-Report : goal.returns-in-Report

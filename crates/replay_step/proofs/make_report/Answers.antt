@@ -1,7 +1,6 @@
 -- `make_report` meets its contract.
 use Rattle.manual.specs.Answers.{of_report}
 use Rattle.replay_step.proofs.TurnLaws.{made_by}
-use borrow.Author.Rules.{rules}
 use Rattle.replay_step.proofs.make_report.Goals as goal
 
 pub returns : goal.returns

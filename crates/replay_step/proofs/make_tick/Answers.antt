@@ -1,7 +1,6 @@
 -- `make_tick` meets its contract.
 use Rattle.manual.specs.Answers.{of_answer}
 use Rattle.replay_step.proofs.TurnLaws.{made_by}
-use borrow.Author.Rules.{rules}
 use Rattle.replay_step.proofs.make_tick.Goals as goal
 
 pub returns : goal.returns

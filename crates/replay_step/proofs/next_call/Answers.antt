@@ -3,7 +3,6 @@ use Rattle.manual.specs.Words.{nat_of}
 use Rattle.config.proofs.SignedInCode.{back}
 use Rattle.replay_step.specs.Asked.{asked_at, call_asked}
 use Prim.Native.Nat.{ℕ}
-use borrow.Author.Rules.{rules}
 use Rattle.replay_step.proofs.next_call.Goals as goal
 
 pub returns-then-read : goal.returns-then-read

@@ -3,7 +3,6 @@ use Rattle.manual.specs.State.{lent}
 use Rattle.manual.proofs.ConfigurationLaws.{config_tells}
 use Rattle.replay_step.proofs.BeginningLaws.{length_of_front}
 use Rattle.replay_step.proofs.TurnLaws.{line_made, zeros_front}
-use borrow.Author.Rules.{rules}
 use Rattle.replay_step.proofs.play.Goals as goal
 
 pub slice_bounds-zeros-end : goal.slice_bounds-zeros-end

@@ -1,6 +1,5 @@
 use Rattle.replay_step.specs.Asked.{argument_at, argument_of}
 use mathlib.Core.Path.{◌∙◌, ap}
-use borrow.Author.Rules.{rules}
 use Rattle.replay_step.proofs.read_argument.Goals as goal
 
 pub returns : goal.returns

@@ -1,6 +1,5 @@
 use Rattle.replay_step.proofs.BeginningLaws.{counts, read_judged, unread_begins}
 use Rattle.replay_step.specs.Beginning.{numbers_read}
-use borrow.Author.Rules.{rules}
 use Rattle.replay_step.proofs.read_configuration.Goals as goal
 
 pub returns-in-Read : goal.returns-in-Read

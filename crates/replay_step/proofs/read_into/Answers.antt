@@ -4,7 +4,6 @@ use Rattle.config.proofs.SignedInCode.{back}
 use Rattle.replay_step.specs.declared.Numbers.{Numbers}
 use Rattle.replay_step.specs.Beginning.{leaving}
 use Rattle.writing.proofs.PartlyWritten.{laid_next, laid_front}
-use borrow.Author.Rules.{rules}
 use Rattle.replay_step.proofs.read_into.Goals as goal
 
 pub returns-in-Number : goal.returns-in-Number

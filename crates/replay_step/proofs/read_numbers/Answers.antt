@@ -1,11 +1,8 @@
 use Rattle.replay_step.proofs.BeginningLaws.{turn_read, turn_unread, all_read}
 use mathlib.Core.Path.{◌≡◌, refl, ◌∙◌}
-use Prim.Native.Nat.{◌-◌, ◌≤◌}
 use native.Mathlib.Omega.{arith}
-use lib.ListN.{length, take, drop}
 use native.Mathlib.Numerals.{add-one}
-use borrow.Author.Rules.{rules}
-use Rattle.replay_step.specs.Beginning.{read_to, numbers_read}
+use Rattle.replay_step.specs.Beginning.{numbers_read}
 use Rattle.replay_step.proofs.read_numbers.Goals as goal
 
 pub loop-place-init : goal.loop-place-init

@@ -1,10 +1,6 @@
-use Rattle.replay_step.proofs.BeginningLaws.{turn_read, turn_unread, all_read}
-use mathlib.Core.Path.{◌≡◌, refl, ◌∙◌}
+use mathlib.Core.Path.{◌≡◌}
 use Prim.Native.Nat.{◌-◌, ◌≤◌}
-use native.Mathlib.Omega.{arith}
 use lib.ListN.{length, take, drop}
-use native.Mathlib.Numerals.{add-one}
-use borrow.Author.Rules.{rules}
 use Rattle.replay_step.specs.Beginning.{read_to, numbers_read}
 use Rattle.replay_step.proofs.read_numbers.Given as goal
 

@@ -1,5 +1,4 @@
 use Rattle.replay_step.specs.Asked.{report_asked}
-use borrow.Author.Rules.{rules}
 use Rattle.replay_step.proofs.report_asked.Goals as goal
 
 pub returns-in-Is : goal.returns-in-Is

@@ -1,5 +1,4 @@
 use Rattle.replay_step.specs.Turn.{turn}
-use borrow.Author.Rules.{rules}
 use Rattle.replay_step.proofs.step.Goals as goal
 
 pub returns-in-Makes : goal.returns-in-Makes
