@@ -42,7 +42,7 @@ module _ (cfg : Configuration) (e : ℕ) where
   row_within ok h =
       let exactly : length cfg ≡ in_front + row_width * events cfg =
       eqb-true (length cfg) (in_front + row_width * events cfg) (part _ ok 4) in
-      record { event_below_lem = omega (arith, (config_tells cfg ok).n_most); within = omega (arith, exactly) }
+      record { event_inside = omega (arith, (config_tells cfg ok).n_most); within = omega (arith, exactly) }
 
 pub rows_within : (cfg : Configuration) {n : ℕ} → config_ok cfg ≡ true → n ≡ events cfg → RowsWithin cfg n
 unfolding config_ok

@@ -8,7 +8,7 @@ use Rattle.config.specs.declared.Limits.{Limits}
 -- "n events (1 to 512)", "Then 13 per event", with W5 14: an event that a configuration can have, and a number of its
 -- row
 pub record InRow (e k : ℕ) : Type 0 where
-  pub event_below_lem : e < most_events
+  pub event_inside : e < most_events
   pub least : 1 ≤ k
   pub most : k ≤ row_width
 
@@ -19,7 +19,7 @@ pub record RowsWithin (cfg : Configuration) (n : ℕ) : Type 0 where
   pub within : in_front + row_width * n ≤ length cfg
 
 pub record RowWithin (cfg : Configuration) (e : ℕ) : Type 0 where
-  pub event_below_lem : e < most_events
+  pub event_inside : e < most_events
   pub within : in_front + row_width * e + row_width ≤ length cfg
 
 pub record Within (cfg : Configuration) (e k : ℕ) : Type 0 where

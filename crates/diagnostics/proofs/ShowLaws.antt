@@ -45,7 +45,7 @@ pub may_read : (cfg : Configuration) (s : State) → config_ok cfg ≡ true → 
     → Within cfg s.records s.memory
 may_read cfg s ok formed = record {
   config = ok;
-  records_fit_lem = (state_tells cfg s formed).lengths.records;
+  records_as_long = (state_tells cfg s formed).lengths.records;
   entries_fit = entries_fit cfg s ok formed;
 }
 
@@ -146,8 +146,8 @@ module _ (cfg : Configuration) (records memory : List ℕ) (e : ℕ) {own : Find
     below = omega (arith, place_there p q, entries_are_count (entry_frames cfg) memory);
   }
 
-  pub no_entry_lem : own ≡ Nothing → entry_for e entries_here ≡ none
-  no_entry_lem q = found_nothing (is_of e) entries_here (sym is ∙ q)
+  pub without_entry : own ≡ Nothing → entry_for e entries_here ≡ none
+  without_entry q = found_nothing (is_of e) entries_here (sym is ∙ q)
 
   module _ (told : Entry → List ℕ) (w : Written) where
     pub behind_entry : (p : Place) → own ≡ At p → {v u : Written} → v ≡ append (0x01 ∷ []) w
@@ -158,7 +158,7 @@ module _ (cfg : Configuration) (records memory : List ℕ) (e : ℕ) {own : Find
 
     pub behind_none : own ≡ Nothing → w ≡ append (behind_status cfg told (entry_for e entries_here)) w
     unfolding behind_status
-    behind_none q = rw (no_entry_lem q) (sym (append_none w))
+    behind_none q = rw (without_entry q) (sym (append_none w))
 
 -- ---- the whole reply
 
@@ -215,7 +215,7 @@ module _ (cfg : Configuration) (told : Told) (e : ℕ) where
             let fits = place_fits cfg records memory e is within p q in
             rw (entry_there cfg records memory e is p q)
             (omega (arith, told_length_is cfg records memory e p.0 told fits))
-        go Nothing q = rw (no_entry_lem cfg records memory e is q) refl
+        go Nothing q = rw (without_entry cfg records memory e is q) refl
 
   -- in any state, with the entry sought in payloads of w bytes: the length that the code compares
   module _ (s : State) {w : ℕ} (width : w ≡ entry_frames cfg) {own : Find}

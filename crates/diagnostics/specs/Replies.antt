@@ -75,7 +75,7 @@ module _ (cfg : Configuration) where
   -- it holds the bytes of one event from `at` on
   pub record EventFits (e at : ℕ) (bytes room : List ℕ) : Type 0 where
     pub config : config_ok cfg ≡ true
-    pub event_below_lem : e < events cfg
+    pub event_inside : e < events cfg
     pub within : at + length bytes ≤ length room
 
   -- it holds these bytes from `at` on

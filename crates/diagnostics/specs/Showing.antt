@@ -57,7 +57,7 @@ module _ (cfg : Configuration) where
   -- an event's record and the entries lie within what is lent
   pub record Within (records memory : List ℕ) : Type 0 where
     pub config : config_ok cfg ≡ true
-    pub records_fit_lem : length records ≡ record_width * events cfg
+    pub records_as_long : length records ≡ record_width * events cfg
     pub entries_fit : EntriesFit (entry_frames cfg) memory
 
   -- and the request was accepted
@@ -68,13 +68,13 @@ module _ (cfg : Configuration) where
   -- an event, the place of an entry, and room for these many bytes from `at` on
   pub record MayTell (records memory : List ℕ) (e p at size : ℕ) (room : List ℕ) : Type 0 where
     pub within : Within records memory
-    pub event_below_lem : e < events cfg
+    pub event_inside : e < events cfg
     pub place_fits : PlaceFits (entry_frames cfg) memory p
     pub fits : at + size ≤ length room
 
   -- an event, where its entry was found, and room for its reply
   pub record MayShow (records memory : List ℕ) (e : ℕ) (told : Told) (own : Find) (room : List ℕ) : Type 0 where
     pub within : Within records memory
-    pub event_below_lem : e < events cfg
+    pub event_inside : e < events cfg
     pub own_is : own ≡ place_of e (entries_of (entry_frames cfg) memory)
     pub fits : shown_length told own ≤ length room

@@ -86,8 +86,8 @@ module _ (cfg : Configuration) (records : List ℕ) (debounce : List ℤ) (memor
   lengths : LengthsTell cfg (lent records debounce memory stopped)
   lengths = lengths_tell cfg (lent records debounce memory stopped) (fits stopped)
 
-  pub records_fit_lem : length records ≡ record_width * events cfg
-  records_fit_lem = lengths.records
+  pub records_as_long : length records ≡ record_width * events cfg
+  records_as_long = lengths.records
 
   pub state_fresh : {records' : List ℕ} {debounce' : List ℤ} {memory' : List ℕ} {board : Board}
       → records' ≡ fresh_records (events cfg) → debounce' ≡ replicate (length debounce) (pos 0)

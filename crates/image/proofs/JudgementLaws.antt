@@ -141,8 +141,8 @@ module _ (cfg : Configuration) (ed : Edition) (head records used : List ℕ) (fl
   numbers_fit : numbers_are cfg told.board told.debounce ≡ true
   numbers_fit = all_below_lem n (λ e. d_ok cfg told.board e (get_or told.debounce e (pos 0))) number_fits
 
-  memory_fits_lem : block_ok n M F records (used ++ behind) ≡ used_ok n M F records used
-  memory_fits_lem =
+  memory_as_long : block_ok n M F records (used ++ behind) ≡ used_ok n M F records used
+  memory_as_long =
       block_rest n M F records used behind fits.used_long memory_long fits.few
       ∙ ap (λ (b : Bool). used_ok n M F records used && b) (zeros_pass (entry_width F * (M - entry_count used)))
       ∙ and_true (used_ok n M F records used)
@@ -151,7 +151,7 @@ module _ (cfg : Configuration) (ed : Edition) (head records used : List ℕ) (fl
   unfolding bodies_ok
   formed_is =
       sym (judged_in_passes cfg F records told.debounce (used ++ behind) told.board lengths_fit_lem)
-      ∙ (λ i. records_are cfg records && numbers_fit i && memory_fits_lem i)
+      ∙ (λ i. records_are cfg records && numbers_fit i && memory_as_long i)
       ∙ ap (λ (b : Bool). b && used_ok n M F records used) (and_true (records_are cfg records))
 
   body_is : memory_body cfg ed told ≡ used

@@ -94,9 +94,9 @@ module _ (cfg : Configuration) (image counts records : List ℕ) (debounce : Lis
         let t = lengths_tell cfg s lengths_right.1 in
         record {
           accepted = not-false (config_ok cfg) (none 0);
-          records_fit_lem = t.records;
-          debounce_fits_lem = t.debounce;
-          memory_fits_lem = t.memory;
+          records_as_long = t.records;
+          debounce_as_long = t.debounce;
+          memory_as_long = t.memory;
           image_accepted = not-false (acceptable cfg image) (none 2);
         }
 
@@ -188,12 +188,12 @@ module _ (cfg : Configuration) (ed : Edition) (image : List ℕ) (a : acceptable
       → debounce' ≡ replicate (length debounce) (pos 0)
       → board' ≡ record { running = all_stopped; overflow = eqb (get_or image (length image - 1) 0) 1 }
       → lent records' debounce' memory' board' ≡ with_memory memory' (state_in cfg ed image)
-  made_around records debounce {memory'} at records_fit_lem debounce_fits_lem p d b =
+  made_around records debounce {memory'} at records_as_long debounce_as_long p d b =
       let body =
       p
       ∙ ap (λ (l : List ℕ). append l (written 0 records)) (records_cut cfg ed.payload image right_length at) in
-      let records-are = whole_written (records_of cfg image) records (fits.records_long ∙ sym records_fit_lem) body in
-      let numbers-are = d ∙ ap (λ (k : ℕ). replicate k (pos 0)) debounce_fits_lem in
+      let records-are = whole_written (records_of cfg image) records (fits.records_long ∙ sym records_as_long) body in
+      let numbers-are = d ∙ ap (λ (k : ℕ). replicate k (pos 0)) debounce_as_long in
       (λ i. lent (records-are i) (numbers-are i) memory' (b i)) ∙ ap (with_memory memory') (sym state_is)
 
 module _ (cfg : Configuration) (records : List ℕ) (debounce : List ℤ) (memory image : List ℕ)
@@ -237,7 +237,7 @@ module _ (cfg : Configuration) (records : List ℕ) (debounce : List ℤ) (memor
   block_holds : (k : ℕ) → k ≤ places cfg → bytes_in_use (entry_frames cfg) k ≤ length memory
   block_holds k h =
       let w = entry_width (entry_frames cfg) in
-      omega (arith, mul-le-mul_left w h, mul_comm (places cfg) w, r.memory_fits_lem)
+      omega (arith, mul-le-mul_left w h, mul_comm (places cfg) w, r.memory_as_long)
 
   module _ (a : As1) where
     abbrev F₁ : ℕ
@@ -272,7 +272,7 @@ module _ (cfg : Configuration) (records : List ℕ) (debounce : List ℤ) (memor
         ∙ entries_in_front F₁ body₁ _ long₁ in
         ap (λ (l : List ℕ). with_memory l s)
         ((λ i. made₁ i ++ replicate (length memory - length (made₁ i)) 0)
-        ∙ widened_memory F₁ body₁ long₁ (places cfg) memory r.memory_fits_lem)
+        ∙ widened_memory F₁ body₁ long₁ (places cfg) memory r.memory_as_long)
         ∙ ap (λ (xs : List Entry). with_entries cfg (map with_both xs) s) (sym entries)
         ∙ sym (state_1 cfg image a)
 
@@ -306,7 +306,7 @@ module _ (cfg : Configuration) (records : List ℕ) (debounce : List ℤ) (memor
         let w = entry_width (entry_frames cfg) in
         let zeros : length memory - length body₂ ≡ w * (places cfg - entry_count body₂) =
         omega
-        (arith, r.memory_fits_lem, long₂, mul-sub w (places cfg) (entry_count body₂), mul_comm (places cfg) w) in
+        (arith, r.memory_as_long, long₂, mul-sub w (places cfg) (entry_count body₂), mul_comm (places cfg) w) in
         ap (λ (l : List ℕ). with_memory l (state_in cfg (edition2 cfg) image))
         ((λ i. made₂ i ++ replicate (length memory - length (made₂ i)) 0)
         ∙ ap (λ (k : ℕ). body₂ ++ replicate k 0) zeros
@@ -343,7 +343,7 @@ module _ (cfg : Configuration) (records : List ℕ) (debounce : List ℤ) (memor
             → lent records' debounce' memory' board'
             ≡ with_memory (block (frame_bytes cfg) (used cfg ed image a)) (state_in cfg ed image)
         state ed a =
-            made_around cfg ed image a records debounce at r.records_fit_lem r.debounce_fits_lem p d b
+            made_around cfg ed image a records debounce at r.records_as_long r.debounce_as_long p d b
             ∙ ap (λ (l : List ℕ). with_memory l (state_in cfg ed image))
             (m ∙ (λ i. block (body_is ed a i).0 (body_is ed a i).1))
 

@@ -54,17 +54,17 @@ module _ (cfg : Configuration) (records memory : List ℕ) (r : Savable cfg reco
   used = bytes_in_use (entry_frames cfg) (entry_count memory)
 
   pub counted : Counted cfg memory
-  counted = record { accepted = r.accepted; some = omega (arith, r.memory_fits_lem); few = r.few }
+  counted = record { accepted = r.accepted; some = omega (arith, r.memory_as_long); few = r.few }
 
   pub used_long : length (take used memory) ≡ used
-  used_long = end_length (places cfg) (entry_frames cfg) memory r.memory_fits_lem r.few
+  used_long = end_length (places cfg) (entry_frames cfg) memory r.memory_as_long r.few
 
   pub size_most : header_length + length records + used ≤ 6357
   size_most =
       let t = config_tells cfg r.accepted in
       omega (
         arith,
-        r.records_fit_lem,
+        r.records_as_long,
         t.n_most,
         used_most (entry_frames cfg) (entry_count memory) t.payload_most (omega (arith, r.few, t.M_most)),
       )
@@ -91,7 +91,7 @@ module _ (cfg : Configuration) (room records : List ℕ) (debounce : List ℤ) (
   savable : config_ok cfg ≡ true → well_formed cfg s ≡ true → Savable cfg records memory
   savable c w =
       let t = state_tells cfg s w in
-      record { accepted = c; records_fit_lem = t.lengths.records; memory_fits_lem = t.lengths.memory; few = t.few }
+      record { accepted = c; records_as_long = t.lengths.records; memory_as_long = t.lengths.memory; few = t.few }
 
   module _ (go : first_that_applies (begins cfg s true []) ≡ 0) where
     pub begun_savable : Savable cfg records memory

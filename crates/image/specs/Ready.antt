@@ -16,8 +16,8 @@ pub record Counted (cfg : Configuration) (memory : List ℕ) : Type 0 where
 -- the records and the memory of a well-formed state
 pub record Savable (cfg : Configuration) (records memory : List ℕ) : Type 0 where
   pub accepted : config_ok cfg ≡ true
-  pub records_fit_lem : length records ≡ record_width * events cfg
-  pub memory_fits_lem : length memory ≡ memory_length (places cfg) (entry_frames cfg)
+  pub records_as_long : length records ≡ record_width * events cfg
+  pub memory_as_long : length memory ≡ memory_length (places cfg) (entry_frames cfg)
   pub few : entry_count memory ≤ places cfg
 
 -- body 2 of an image of edition 1, with frames of F bytes, and a block that holds its entries with both frames
@@ -35,7 +35,7 @@ pub record Fillable (number F : ℕ) (used memory : List ℕ) : Type 0 where
 pub record Restorable (cfg : Configuration) (records : List ℕ) (debounce : List ℤ) (memory image : List ℕ)
     : Type 0 where
   pub accepted : config_ok cfg ≡ true
-  pub records_fit_lem : length records ≡ record_width * events cfg
-  pub debounce_fits_lem : length debounce ≡ events cfg
-  pub memory_fits_lem : length memory ≡ memory_length (places cfg) (entry_frames cfg)
+  pub records_as_long : length records ≡ record_width * events cfg
+  pub debounce_as_long : length debounce ≡ events cfg
+  pub memory_as_long : length memory ≡ memory_length (places cfg) (entry_frames cfg)
   pub image_accepted : acceptable cfg image ≡ true

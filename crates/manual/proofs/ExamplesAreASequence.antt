@@ -104,8 +104,8 @@ module _ (cfg : Configuration) where
 -- ---- the stories of the table
 
 -- it begins with an accepted fresh, each of its calls goes on, and there is an event 0
-is_asequence : Story → Bool
-is_asequence t =
+is_a_sequence : Story → Bool
+is_a_sequence t =
     holds
     (eqb (fresh t.config zeroed (blank t.config)).answer 0
     ∷ rows_go_on t.config t.rows (after_fresh t.config)
@@ -119,23 +119,23 @@ read_in t = bytes_read t.config t.rows (after_fresh t.config) (λ e. [])
 abbrev pub said_in : Story → List ℕ
 said_in t = map (λ r. r.seen.status) t.rows
 
-story_read : (t : Story) → is_asequence t ≡ true → replayed_rows t.config t.rows (after_fresh t.config) ≡ t.rows
+story_read : (t : Story) → is_a_sequence t ≡ true → replayed_rows t.config t.rows (after_fresh t.config) ≡ t.rows
     → read_in t ≡ said_in t
-unfolding is_asequence SeesIt
+unfolding is_a_sequence SeesIt
 story_read t is e =
     rows_read t.config (ltb-true 0 (events t.config) (part _ is 2)) t.rows (after_fresh t.config)
     (begun zeroed (blank t.config) (eqb-true _ 0 (part _ is 0))) refl (part _ is 1) e
 
-stories_read : (ts : List Story) → all_of is_asequence ts ≡ true → replayed ts ≡ ts → map read_in ts ≡ map said_in ts
+stories_read : (ts : List Story) → all_of is_a_sequence ts ≡ true → replayed ts ≡ ts → map read_in ts ≡ map said_in ts
 stories_read [] are e = refl
 stories_read (t ∷ ts) are e =
     ap₂ ◌∷◌
-    (story_read t (and_left (is_asequence t) (all_of is_asequence ts) are)
+    (story_read t (and_left (is_a_sequence t) (all_of is_a_sequence ts) are)
     (ap (λ (l : List Story). (get_or l 0 t).rows) e))
-    (stories_read ts (and_right (is_asequence t) (all_of is_asequence ts) are) (ap tail e))
+    (stories_read ts (and_right (is_a_sequence t) (all_of is_a_sequence ts) are) (ap tail e))
 
-are_sequences : all_of is_asequence table ≡ true
-unfolding table e1_to_e10 e11 e12 is_asequence rows_go_on all_go_on holds all_below between events places frame_bytes column
+are_sequences : all_of is_a_sequence table ≡ true
+unfolding table e1_to_e10 e11 e12 is_a_sequence rows_go_on all_go_on holds all_below between events places frame_bytes column
     row_ok config_ok lengths_fit_with first_that_applies Answers.judged fresh_rules fresh
 are_sequences = refl
 
@@ -149,31 +149,31 @@ abbrev pub calls_of : List Row → List Call
 calls_of [] = []
 calls_of (r ∷ rs) = r.calls ++ calls_of rs
 
-abbrev pub e1_to_e10_lem : List Call
-e1_to_e10_lem = calls_of e1_to_e10
+abbrev pub calls_e1_to_e10 : List Call
+calls_e1_to_e10 = calls_of e1_to_e10
 
 abbrev pub begins : After
 begins = after_fresh marked
 
 fresh_accepted : (fresh marked zeroed (blank marked)).answer ≡ 0
-unfolding table is_asequence
+unfolding table is_a_sequence
 fresh_accepted = eqb-true _ 0 (part _ (and_left _ _ are_sequences) 0)
 
-go_on : all_go_on marked e1_to_e10_lem begins.state ≡ true
+go_on : all_go_on marked calls_e1_to_e10 begins.state ≡ true
 unfolding e1_to_e10 all_go_on
 go_on = refl
 
 -- they are one sequence, with these histories
-pub is_reached : Reached marked (after_calls marked e1_to_e10_lem begins).state
-    (histories_after marked e1_to_e10_lem begins.state (λ e. []))
-is_reached = follow marked e1_to_e10_lem begins (begun zeroed (blank marked) fresh_accepted) go_on
+pub is_reached : Reached marked (after_calls marked calls_e1_to_e10 begins).state
+    (histories_after marked calls_e1_to_e10 begins.state (λ e. []))
+is_reached = follow marked calls_e1_to_e10 begins (begun zeroed (blank marked) fresh_accepted) go_on
 
 -- the pre-failed report of E2 gives no token
 abbrev pub history : History
 history =
     stop ∷ start ∷ stop ∷ start ∷ stop ∷ passed ∷ start ∷ stop ∷ passed ∷ failed ∷ start ∷ stop ∷ failed ∷ start ∷ []
 
-pub its_history : histories_after marked e1_to_e10_lem begins.state (λ e. []) 0 ≡ history
+pub its_history : histories_after marked calls_e1_to_e10 begins.state (λ e. []) 0 ≡ history
 unfolding e1_to_e10 histories_after tokens holds well_formed_record all_below for_below first_of those equal between smaller
     larger events places frame_bytes column row_ok config_ok stored_at with_stored lengths_fit_with d_fits memory_ok_with
     well_formed_with

@@ -18,7 +18,7 @@ use Rattle.manual.specs.Counts.{counts_fit}
 use Rattle.manual.specs.Diagnostics.{request_reply}
 use Rattle.manual.specs.Replies.{rising, shares_bit, number_by, list_by, list_events, fours, lines_in, Tells, second_byte}
 use Rattle.manual.specs.Replies.{Due, sends, refused_with, length_of_01, length_of_02, length_of_0a}
-use Rattle.manual.specs.Replies.{number_by_mask_lem, list_by_mask_lem, list_all, too_long, negative, positive}
+use Rattle.manual.specs.Replies.{numbered_by_mask, listed_by_mask, list_all, too_long, negative, positive}
 use Rattle.manual.proofs.WordsLaws.{those_le}
 use Rattle.manual.proofs.ConfigurationLaws.{config_tells}
 use Rattle.manual.proofs.RepliesLaws.{rising_length, fours_flat, flat_length, accepted_told}
@@ -47,7 +47,7 @@ module _ (cfg : Configuration) (s : State) (configured : config_ok cfg ≡ true)
       five_counts = five;
       formed = formed;
       room_least = least;
-      not_empty_lem = w.asked;
+      some_bytes = w.asked;
       not_past = λ c. let is19 = w.due.sized.service_19 in let is14 = c.0 in let z : ⊥ = omega arith in absurd z;
     })
 
@@ -116,7 +116,7 @@ module _ (cfg : Configuration) (s : State) (configured : config_ok cfg ≡ true)
       asked = λ e. omega arith;
       due = record {
         sized = record { service_19 = refl; more = λ e. omega arith; must_have = length_of_01 refl };
-        asks = number_by_mask_lem refl;
+        asks = numbered_by_mask refl;
       };
       plain = omega arith;
     }
@@ -136,7 +136,7 @@ module _ (cfg : Configuration) (s : State) (configured : config_ok cfg ≡ true)
       asked = λ e. omega arith;
       due = record {
         sized = record { service_19 = refl; more = λ e. omega arith; must_have = length_of_02 refl };
-        asks = list_by_mask_lem refl;
+        asks = listed_by_mask refl;
       };
       plain = omega arith;
     }

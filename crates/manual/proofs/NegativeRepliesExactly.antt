@@ -12,9 +12,9 @@ use Rattle.manual.specs.Configuration.{Configuration, config_ok}
 use Rattle.manual.specs.State.{State}
 use Rattle.manual.specs.Answers.{Beside, Outcome}
 use Rattle.manual.specs.Diagnostics.{request_reply}
-use Rattle.manual.specs.Replies.{Asks, Negative, Replies, refused_with, number_by_mask_lem, list_by_mask_lem}
-use Rattle.manual.specs.Replies.{list_all, list_near_lem, frame_of_entry, details_of_entry, frame_without_entry}
-use Rattle.manual.specs.Replies.{details_without_entry, asked_code, AsksForUnknown, unknown_code_lem, negative}
+use Rattle.manual.specs.Replies.{Asks, Negative, Replies, refused_with, numbered_by_mask, listed_by_mask}
+use Rattle.manual.specs.Replies.{list_all, listed_near, frame_of_entry, details_of_entry, frame_without_entry}
+use Rattle.manual.specs.Replies.{details_without_entry, asked_code, AsksForUnknown, code_unknown, negative}
 use Rattle.manual.specs.Replies.{suppressed, positive, clears}
 use Rattle.manual.proofs.ConfigurationLaws.{config_tells}
 use Rattle.manual.proofs.RepliesFollowTheSentences.{reply_said, reply_is}
@@ -34,10 +34,10 @@ module _ (cfg : Configuration) (request : List ℕ) (b : Beside) (s : State) whe
 
   -- a positive reply of service 19 begins with 59
   begins_59 : {bytes : List ℕ} → Asks cfg request s bytes → (rest : List ℕ) → get_or (bytes ++ rest) 0 0 ≡ 0x59
-  begins_59 (number_by_mask_lem e) rest = refl
-  begins_59 (list_by_mask_lem e) rest = refl
+  begins_59 (numbered_by_mask e) rest = refl
+  begins_59 (listed_by_mask e) rest = refl
   begins_59 (list_all e) rest = refl
-  begins_59 (list_near_lem e) rest = refl
+  begins_59 (listed_near e) rest = refl
   begins_59 (frame_of_entry n e h x q) rest = refl
   begins_59 (details_of_entry n e h x q) rest = refl
   begins_59 (frame_without_entry n e h q) rest = refl
@@ -56,7 +56,7 @@ module _ (cfg : Configuration) (request : List ℕ) (b : Beside) (s : State) whe
   -- document 02, W4: "FFFFFFh is an unknown code here.", under every accepted configuration
   pub all_codes_is_unknown : config_ok cfg ≡ true → asked_code cfg request s ≡ 0xFFFFFF → AsksForUnknown cfg request s
   all_codes_is_unknown ok q =
-      unknown_code_lem (λ e h c. let most = ((config_tells cfg ok).row e h).code_most in omega arith)
+      code_unknown (λ e h c. let most = ((config_tells cfg ok).row e h).code_most in omega arith)
 
   module _ (answered : outcome.answer ≡ 0) where
     pub only_negative_begins_7f : outcome.value ≢ 0 → first_byte outcome ≡ 0x7F

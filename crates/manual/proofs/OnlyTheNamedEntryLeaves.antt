@@ -106,7 +106,7 @@ module _ (M : ℕ) (priority : ℕ → ℕ) (quiet : ℕ → Bool) (e : ℕ) (fr
       taken : {p : Entry → Bool} {v : Entry} → any_of (is_of e) xs ≡ false → M ≤ length xs → (f : First p xs v)
           → Victim f.older v → TakenOut v
       taken n l f h =
-          record { no_entry_lem = others n; full = l; older = f.older; newer = f.newer; there = f.there; is_victim = h }
+          record { without_entry = others n; full = l; older = f.older; newer = f.newer; there = f.there; is_victim = h }
 
   -- an entry of another event stays as it is, but for the one that rule 3 takes out
   pub others_stay : no_twice xs ≡ true → (x : Entry) → Memᴰ x xs → event_of x ≢ e

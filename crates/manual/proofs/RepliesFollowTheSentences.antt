@@ -25,8 +25,8 @@ use Rattle.manual.specs.Diagnostics.{sub_function_of, sub_function_reply, servic
 use Rattle.manual.specs.Diagnostics.{asks_clear, counts_after, service14, served_by, sent, replied, request_reply}
 use Rattle.manual.specs.Replies as Replies
 use Rattle.manual.specs.Replies.{rising, length_of_01, length_of_02, length_of_0a, length_of_14, length_of_04}
-use Rattle.manual.specs.Replies.{length_of_06, number_by_mask_lem, list_by_mask_lem, list_all, list_near_lem, frame_of_entry}
-use Rattle.manual.specs.Replies.{details_of_entry, frame_without_entry, details_without_entry, unknown_code_lem}
+use Rattle.manual.specs.Replies.{length_of_06, numbered_by_mask, listed_by_mask, list_all, listed_near, frame_of_entry}
+use Rattle.manual.specs.Replies.{details_of_entry, frame_without_entry, details_without_entry, code_unknown}
 use Rattle.manual.specs.Replies.{unknown_record, other_service, alone, no_sub_function, other_length}
 use Rattle.manual.specs.Replies.{unknown_in_04, unknown_in_06, too_long, not_four, unknown, negative, suppressed}
 use Rattle.manual.specs.Replies.{positive, clears}
@@ -145,12 +145,12 @@ module _ (cfg : Configuration) (request : List ℕ) (b : Beside) (s : State) whe
   unfolding event_asked shown_event
   unknown_is =
       by (is_record cfg (Replies.asked_record cfg request s)) (λ (o : Option ℕ). o ≡ none → AsksForUnknown)
-      (λ t q. unknown_code_lem (nothing_tells cfg _ q))
+      (λ t q. code_unknown (nothing_tells cfg _ q))
       (λ f q. record_unknown f)
 
   is_unknown : AsksForUnknown → event_asked cfg request s ≡ none
   unfolding event_asked shown_event
-  is_unknown (unknown_code_lem n) =
+  is_unknown (code_unknown n) =
       by (is_record cfg (Replies.asked_record cfg request s)) (λ (o : Option ℕ). o ≡ none)
       (λ t. nothing_is cfg _ n) (λ f. refl)
   is_unknown (unknown_record a b) = rw (ne_eqb _ _ a, ne_eqb _ _ b)
@@ -235,16 +235,16 @@ module _ (cfg : Configuration) (request : List ℕ) (b : Beside) (s : State) whe
     -- each sub-function
     said_01 : number ≡ 0x01 → SaidSub (some (sub_function 0x01 3 (number_by_mask cfg)))
     said_01 n =
-        sub_said 0x01 3 _ (named (length_of_01 n)) (λ z. rw number_is (due_said z _ (number_by_mask_lem n)))
+        sub_said 0x01 3 _ (named (length_of_01 n)) (λ z. rw number_is (due_said z _ (numbered_by_mask n)))
 
     said_02 : number ≡ 0x02 → SaidSub (some (sub_function 0x02 3 (list_by_mask cfg)))
-    said_02 n = sub_said 0x02 3 _ (named (length_of_02 n)) (λ z. rw list_is (due_said z _ (list_by_mask_lem n)))
+    said_02 n = sub_said 0x02 3 _ (named (length_of_02 n)) (λ z. rw list_is (due_said z _ (listed_by_mask n)))
 
     said_0a : number ≡ 0x0A → SaidSub (some (sub_function 0x0A 2 (list_events cfg)))
     said_0a n = sub_said 0x0A 2 _ (named (length_of_0a n)) (λ z. rw all_is (due_said z _ (list_all n)))
 
     said_14 : number ≡ 0x14 → SaidSub (some (sub_function 0x14 2 (list_near cfg)))
-    said_14 n = sub_said 0x14 2 _ (named (length_of_14 n)) (λ z. rw near_is (due_said z _ (list_near_lem n)))
+    said_14 n = sub_said 0x14 2 _ (named (length_of_14 n)) (λ z. rw near_is (due_said z _ (listed_near n)))
 
     said_04 : number ≡ 0x04 → SaidSub (some (sub_function 0x04 6 (show_frame cfg)))
     said_04 n = sub_said 0x04 6 _ (named (length_of_04 n)) (λ z. frame_said z n)
@@ -331,10 +331,10 @@ module _ (cfg : Configuration) (request : List ℕ) (b : Beside) (s : State) whe
 
   asks_is : {bytes : List ℕ} → Asks bytes → the_reply ≡ Reply.positive bytes
   unfolding first_of behind_status
-  asks_is (number_by_mask_lem e) = rw e number_is
-  asks_is (list_by_mask_lem e) = rw e list_is
+  asks_is (numbered_by_mask e) = rw e number_is
+  asks_is (listed_by_mask e) = rw e list_is
   asks_is (list_all e) = rw e all_is
-  asks_is (list_near_lem e) = rw e near_is
+  asks_is (listed_near e) = rw e near_is
   asks_is (frame_of_entry n e h x q) = rw (as_stored cfg x) (rw n (shows_entry 0x04 (frame_told cfg) e h (some x) q))
   asks_is (details_of_entry n e h x q) = rw n (shows_entry 0x06 (details_told cfg) e h (some x) q)
   asks_is (frame_without_entry n e h q) = rw n (shows_entry 0x04 (frame_told cfg) e h none q)

@@ -170,7 +170,7 @@ module _ (cfg : Configuration) (request : List ℕ) (b : Beside) (s : State) whe
         five_counts = (three_passed (counts_fit b.counts) (well_formed cfg s) (none 1)).0;
         formed = (three_passed (counts_fit b.counts) (well_formed cfg s) (none 1)).1;
         room_least = ltb-false _ _ (none 2);
-        not_empty_lem = eqb-false _ _ (none 3);
+        some_bytes = eqb-false _ _ (none 3);
         not_past = λ c. rw (asks_clear_lem c) at (none 4);
       }
 
@@ -190,7 +190,7 @@ module _ (cfg : Configuration) (request : List ℕ) (b : Beside) (s : State) whe
         a.five_counts,
         a.formed,
         le-ltb _ _ a.room_least,
-        ne_eqb _ _ a.not_empty_lem,
+        ne_eqb _ _ a.some_bytes,
         below (asks_clear cfg request) refl,
       ) in
       ap (λ (o : Outcome). o.answer) (goes_through _ b s _ none_first)

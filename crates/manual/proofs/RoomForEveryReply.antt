@@ -16,8 +16,8 @@ use Rattle.manual.specs.WellFormed.{entries, well_formed}
 use Rattle.manual.specs.Answers.{Beside}
 use Rattle.manual.specs.Counter.{counter_in}
 use Rattle.manual.specs.Diagnostics.{request_reply}
-use Rattle.manual.specs.Replies.{rising, refused_with, HasEntry, Asks, Negative, number_by_mask_lem, list_by_mask_lem}
-use Rattle.manual.specs.Replies.{list_all, list_near_lem, frame_of_entry, details_of_entry, frame_without_entry}
+use Rattle.manual.specs.Replies.{rising, refused_with, HasEntry, Asks, Negative, numbered_by_mask, listed_by_mask}
+use Rattle.manual.specs.Replies.{list_all, listed_near, frame_of_entry, details_of_entry, frame_without_entry}
 use Rattle.manual.specs.Replies.{details_without_entry, line_of, counter_line, other_service, alone}
 use Rattle.manual.specs.Replies.{no_sub_function, other_length, unknown_in_04, unknown_in_06, too_long, not_four}
 use Rattle.manual.specs.Replies.{unknown, shares_bit, mask}
@@ -46,8 +46,8 @@ module _ (cfg : Configuration) (request : List ℕ) (s : State) where
 
   module _ (formed : well_formed cfg s ≡ true) where
     -- "first, then latest", F bytes each
-    pub frames_have_2_f_bytes : (e : ℕ) (x : Entry) → HasEntry cfg request s e x → length x.payload ≡ entry_frames cfg
-    frames_have_2_f_bytes e x q =
+    pub frames_have_2f_bytes : (e : ℕ) (x : Entry) → HasEntry cfg request s e x → length x.payload ≡ entry_frames cfg
+    frames_have_2f_bytes e x q =
         let f = first_is (is_of e) (entries cfg s) x q in
         let each : All (Framed (entry_frames cfg)) (entries cfg s) =
         frames (events cfg) (entry_frames cfg) (has_failed_bit cfg s) (entries cfg s)
@@ -58,19 +58,19 @@ module _ (cfg : Configuration) (request : List ℕ) (s : State) where
     module _ (room : ℕ) (all : 3 + 4 * events cfg ≤ room) (frame : 7 + entry_frames cfg ≤ room)
         (details : 11 ≤ room) where
       holds : {bytes : List ℕ} → Asks cfg request s bytes → length bytes ≤ room
-      holds (number_by_mask_lem n) = omega arith
-      holds (list_by_mask_lem n) =
+      holds (numbered_by_mask n) = omega arith
+      holds (listed_by_mask n) =
           omega (
             arith,
             lines_most (λ e. shares_bit (status_byte s e) (mask cfg request s)) (line_of cfg request s) (λ e. refl),
           )
       holds (list_all n) = let l = all_lines in omega arith
-      holds (list_near_lem n) =
+      holds (listed_near n) =
           omega (
             arith,
             lines_most (λ e. between (pos 1) (pos 126) (counter_in cfg s e)) (counter_line cfg request s) (λ e. refl),
           )
-      holds (frame_of_entry n e h x q) = rw (as_stored cfg x) (let l = frames_have_2_f_bytes e x q in omega arith)
+      holds (frame_of_entry n e h x q) = rw (as_stored cfg x) (let l = frames_have_2f_bytes e x q in omega arith)
       holds (details_of_entry n e h x q) = omega arith
       holds (frame_without_entry n e h q) = omega arith
       holds (details_without_entry n e h q) = omega arith

@@ -12,7 +12,7 @@ use Rattle.manual.specs.Answers.{Beside, lent_both}
 use Rattle.manual.specs.Image.{save}
 use Rattle.manual.specs.Sequences.{Call, Fresh, Restore, saved_image, outcome, log_at, carries_on, Reached}
 use Rattle.manual.specs.Tallies.{Tally, tally_of, counting, aside, after, Tallied, begun, called, passed_by}
-use Rattle.manual.specs.Tallies.{Leaves, after_fresh_lem, after_call, after_aside, after_restore}
+use Rattle.manual.specs.Tallies.{Leaves, begun_fresh, after_call, after_aside, after_restore}
 use Rattle.manual.proofs.SequencesLaws.{Histories}
 use Rattle.manual.proofs.AdmittedIsPresentAndLeft.{admitted_is_present_and_left}
 
@@ -43,7 +43,7 @@ module _ (cfg : Configuration) where
 
   pub sequences_are_tallied : {s : State} {H : Histories} {r : Reached cfg s H} {t : Tally} → Leaves cfg s H r t
       → Among s t
-  sequences_are_tallied (after_fresh_lem b s z) = record { tallied = begun Fresh b s (rw z); state = refl }
+  sequences_are_tallied (begun_fresh b s z) = record { tallied = begun Fresh b s (rw z); state = refl }
   sequences_are_tallied (after_call {s} {t = t} l c b g left) = goes c b s t g left (sequences_are_tallied l)
   sequences_are_tallied (after_aside {s} {t = t} l c b g f) = goes_aside c b s t f (sequences_are_tallied l)
   sequences_are_tallied (after_restore {s} l b z b' s' a) =

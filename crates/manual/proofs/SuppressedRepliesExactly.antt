@@ -10,8 +10,8 @@ use Rattle.manual.specs.Configuration.{Configuration}
 use Rattle.manual.specs.State.{State}
 use Rattle.manual.specs.Answers.{Beside, Outcome}
 use Rattle.manual.specs.Diagnostics.{request_reply}
-use Rattle.manual.specs.Replies.{Asks, Suppressed, sends, Replies, number_by_mask_lem, list_by_mask_lem}
-use Rattle.manual.specs.Replies.{list_all, list_near_lem, frame_of_entry, details_of_entry, frame_without_entry}
+use Rattle.manual.specs.Replies.{Asks, Suppressed, sends, Replies, numbered_by_mask, listed_by_mask}
+use Rattle.manual.specs.Replies.{list_all, listed_near, frame_of_entry, details_of_entry, frame_without_entry}
 use Rattle.manual.specs.Replies.{details_without_entry, negative, suppressed, positive, clears}
 use Rattle.manual.proofs.RepliesFollowTheSentences.{reply_said, reply_is}
 
@@ -20,20 +20,20 @@ module _ (cfg : Configuration) (request : List ℕ) (b : Beside) (s : State) whe
   outcome = request_reply cfg request b s
 
   -- no positive reply is empty
-  not_empty_lem : {bytes : List ℕ} → Asks cfg request s bytes → 2 ≤ length bytes
-  not_empty_lem (number_by_mask_lem e) = omega arith
-  not_empty_lem (list_by_mask_lem e) = omega arith
-  not_empty_lem (list_all e) = omega arith
-  not_empty_lem (list_near_lem e) = omega arith
-  not_empty_lem (frame_of_entry n e h x q) = omega arith
-  not_empty_lem (details_of_entry n e h x q) = omega arith
-  not_empty_lem (frame_without_entry n e h q) = omega arith
-  not_empty_lem (details_without_entry n e h q) = omega arith
+  some_bytes : {bytes : List ℕ} → Asks cfg request s bytes → 2 ≤ length bytes
+  some_bytes (numbered_by_mask e) = omega arith
+  some_bytes (listed_by_mask e) = omega arith
+  some_bytes (list_all e) = omega arith
+  some_bytes (listed_near e) = omega arith
+  some_bytes (frame_of_entry n e h x q) = omega arith
+  some_bytes (details_of_entry n e h x q) = omega arith
+  some_bytes (frame_without_entry n e h q) = omega arith
+  some_bytes (details_without_entry n e h q) = omega arith
 
   silent_is : (o : Outcome) → Replies cfg request s b o → o.value ≡ 0 → Suppressed cfg request s
   silent_is _ (negative code n) z = absurd (let w : ⊥ = omega arith in w)
   silent_is _ (suppressed q) z = q
-  silent_is _ (positive bytes n p l) z = absurd (let h = not_empty_lem n.asks in let w : ⊥ = omega arith in w)
+  silent_is _ (positive bytes n p l) z = absurd (let h = some_bytes n.asks in let w : ⊥ = omega arith in w)
   silent_is _ (clears a l k) z = absurd (let w : ⊥ = omega arith in w)
 
   module _ (answered : outcome.answer ≡ 0) where

@@ -26,7 +26,7 @@ module _ (M : ℕ) (priority : ℕ → ℕ) (quiet : ℕ → Bool) (e : ℕ) (fr
 
   -- rule 3 takes v out: e has no entry, there are not fewer than M, and v is the victim
   pub record TakenOut (v : Entry) : Type 0 where
-    pub no_entry_lem : All (λ x. event_of x ≢ e) xs
+    pub without_entry : All (λ x. event_of x ≢ e) xs
     pub full : M ≤ length xs
     pub older : List Entry
     pub newer : List Entry

@@ -104,14 +104,14 @@ module _ (cfg : Configuration) (request : List ℕ) (s : State) where
   -- a sub-function's positive reply
   pub data Asks : List ℕ → Type 0 where
     -- "01 mask: `59 01 FF 01` and the number of matching events, 2 bytes high first."
-    number_by_mask_lem : number ≡ 0x01 → Asks (0x59 ∷ 0x01 ∷ 0xFF ∷ 0x01 ∷ two (length matching))
+    numbered_by_mask : number ≡ 0x01 → Asks (0x59 ∷ 0x01 ∷ 0xFF ∷ 0x01 ∷ two (length matching))
     -- "02 mask: `59 02 FF`, then per matching event trouble code (3 bytes high first) and status, rising."
-    list_by_mask_lem : number ≡ 0x02 → Asks (0x59 ∷ 0x02 ∷ 0xFF ∷ flat_map line_of matching)
+    listed_by_mask : number ≡ 0x02 → Asks (0x59 ∷ 0x02 ∷ 0xFF ∷ flat_map line_of matching)
     -- "0A: `59 0A FF`, then all events likewise."
     list_all : number ≡ 0x0A → Asks (0x59 ∷ 0x0A ∷ 0xFF ∷ flat_map line_of (rising (events cfg)))
     -- document 02, W1: "request `19 14` of length 2: `59 14`, then trouble code and counter byte (two's complement) for
     -- each event whose counter is 1 to 126, rising"
-    list_near_lem : number ≡ 0x14 → Asks (0x59 ∷ 0x14 ∷ flat_map counter_line nearing)
+    listed_near : number ≡ 0x14 → Asks (0x59 ∷ 0x14 ∷ flat_map counter_line nearing)
     -- document 02, W4: "`59 04`, code, status, then if the event has an entry `01` and the F frame bytes"; W6: "`19 04`
     -- sends first, then latest."
     frame_of_entry : number ≡ 0x04 → (e : ℕ) → Shown e → (x : Entry) → HasEntry e x
@@ -141,7 +141,7 @@ module _ (cfg : Configuration) (request : List ℕ) (s : State) where
   -- "unknown code or record", in a request for the event of a code: no event has the code, or the record is neither 01
   -- nor FF
   pub data AsksForUnknown : Type 0 where
-    unknown_code_lem : ((e : ℕ) → e < events cfg → code_of cfg e ≢ asked_code) → AsksForUnknown
+    code_unknown : ((e : ℕ) → e < events cfg → code_of cfg e ≢ asked_code) → AsksForUnknown
     unknown_record : asked_record ≢ 0x01 → asked_record ≢ 0xFF → AsksForUnknown
 
   -- "With the top bit set a positive reply"
@@ -174,7 +174,7 @@ module _ (cfg : Configuration) (request : List ℕ) (s : State) where
       pub five_counts : counts_fit b.counts ≡ true
       pub formed : well_formed cfg s ≡ true
       pub room_least : 3 ≤ length b.room
-      pub not_empty_lem : length request ≢ 0
+      pub some_bytes : length request ≢ 0
       pub not_past : Clearing → carries_past (clear_log cfg trouble_code s) b.counts ≡ false
 
     -- the negative codes

@@ -66,7 +66,7 @@ module _ (cfg : Configuration) where
   -- condition 3's sequences, where each call is lent the counts that the one before left: what is left with such a
   -- sequence
   pub data Leaves : (s : State) → (H : ℕ → History) → Reached cfg s H → Tally → Type 0 where
-    after_fresh_lem : (b : Beside) (s : State) (z : (fresh cfg b s).answer ≡ 0)
+    begun_fresh : (b : Beside) (s : State) (z : (fresh cfg b s).answer ≡ 0)
         → Leaves _ _ (Reached.begun b s z) (anew (fresh cfg b s))
     after_call : {s : State} {H : ℕ → History} {r : Reached cfg s H} {t : Tally} → Leaves s H r t
         → (c : Call) (b : Beside) (g : carries_on cfg c b s ≡ true) → b.counts ≡ t.counts

@@ -185,7 +185,7 @@ module _ (cfg : Configuration) (records m : List ℕ) (e : ℕ) (frame : List �
   pub may_search : EventsFit W m × (e < 512)
   may_search = (
     events_fit n M W m order (priority_of cfg) quiet e frame fits_here,
-    omega (arith, r.event_below_lem, r.in_order.events_most),
+    omega (arith, r.event_inside, r.in_order.events_most),
   )
 
   two_bytes : e < 65536

@@ -9,7 +9,7 @@ use Rattle.memory.specs.InOrder.{InOrder}
 
 -- a caller's memory is in order, and the event and the frame are ones of the configuration
 pub record MayStore (cfg : Configuration) (m : List ℕ) (e : ℕ) (frame : List ℕ) : Type 0 where
-  pub event_below_lem : e < events cfg
+  pub event_inside : e < events cfg
   pub frame_fits : length frame ≡ frame_bytes cfg
   pub in_order : InOrder (events cfg) (places cfg) (entry_frames cfg) m
 

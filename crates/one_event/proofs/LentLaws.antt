@@ -43,7 +43,7 @@ use Rattle.one_event.specs.Steps.{applying, reporting, ticking}
 
 pub record_within : {cfg : Configuration} {records memory : List ℕ} {e : ℕ} → BlocksFit cfg records memory e
     → record_width * e + record_width ≤ length records
-record_within f = omega (arith, f.below, f.records_fit_lem)
+record_within f = omega (arith, f.below, f.records_as_long)
 
 pub may_stop : {cfg : Configuration} {records : List ℕ} {e : ℕ} → RecordFits cfg records e
     → (r : Record) → stored_is r ≡ stored_at e records → RoomToRise r

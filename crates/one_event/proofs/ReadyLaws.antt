@@ -44,8 +44,8 @@ module _ (cfg : Configuration) (s : State) (ok : config_ok cfg ≡ true) where
   ready_of e h r = record {
     event = record {
       configured = ok;
-      blocks = record { below = h; records_fit_lem = r.memory.sized.records; in_order = in_order r.memory };
-      debounce_fits_lem = r.memory.sized.debounce;
+      blocks = record { below = h; records_as_long = r.memory.sized.records; in_order = in_order r.memory };
+      debounce_as_long = r.memory.sized.debounce;
       kept = r.event.kept;
     };
     number = r.event.number;

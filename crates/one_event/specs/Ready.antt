@@ -19,14 +19,14 @@ accepts verdict s = record { answer = 0; verdict = verdict; value = 0; part = []
 -- the records have room for event e, and memory is in order
 pub record BlocksFit (cfg : Configuration) (records memory : List ℕ) (e : ℕ) : Type 0 where
   pub below : e < events cfg
-  pub records_fit_lem : length records ≡ record_width * events cfg
+  pub records_as_long : length records ≡ record_width * events cfg
   pub in_order : InOrder (events cfg) (places cfg) (entry_frames cfg) memory
 
 -- under an accepted configuration, the event has a record, and it is as "well formed" asks
 pub record RecordFits (cfg : Configuration) (records : List ℕ) (e : ℕ) : Type 0 where
   pub configured : config_ok cfg ≡ true
   pub below : e < events cfg
-  pub records_fit_lem : length records ≡ record_width * events cfg
+  pub records_as_long : length records ≡ record_width * events cfg
   pub kept : record_ok cfg e (opened (stored_at e records)) ≡ true
 
 -- under an accepted configuration, the debounce numbers have room for it too, and its record is as "well formed" asks
@@ -34,7 +34,7 @@ pub record EventFits (cfg : Configuration) (records : List ℕ) (debounce : List
     : Type 0 where
   pub configured : config_ok cfg ≡ true
   pub blocks : BlocksFit cfg records memory e
-  pub debounce_fits_lem : length debounce ≡ events cfg
+  pub debounce_as_long : length debounce ≡ events cfg
   pub kept : record_ok cfg e (opened (stored_at e records)) ≡ true
 
 -- and on the board its D is so too: what a step on event e of a well-formed state may count on

@@ -136,18 +136,18 @@ module _ (cfg : Configuration) (s : State) (e : ℕ)
   status_is q = ap (λ (b : ℕ). leaves (answered 0 None b) [] alone s) q ∙ sym (goes_through _ alone s _ z)
 
   -- the event is one of the configuration's, and its counter fits a byte with a sign
-  pub event_below_lem : e < events cfg
-  event_below_lem = leb-false _ _ (none_applies _ z refl 2)
+  pub event_inside : e < events cfg
+  event_inside = leb-false _ _ (none_applies _ z refl 2)
 
   pub event_most : e < most_events
   event_most =
       let most =
-      (config_tells cfg (not-false (config_ok cfg) (none_applies _ z refl 0))).n_most in omega (arith, event_below_lem)
+      (config_tells cfg (not-false (config_ok cfg) (none_applies _ z refl 0))).n_most in omega (arith, event_inside)
 
   pub counter_small : between (negsuc 127) (pos 127) (counter_in cfg s e) ≡ true
   counter_small =
       in_a_byte cfg s (not-false (config_ok cfg) (none_applies _ z refl 0))
-      (not-false (well_formed cfg s) (none_applies _ z refl 1)) e event_below_lem
+      (not-false (well_formed cfg s) (none_applies _ z refl 1)) e event_inside
 
   pub counter_is : {counter : ℤ} → counter ≡ counter_in cfg s e
       → Reading.tells (Counter counter) s ≡ counter_read cfg e alone s

@@ -45,7 +45,7 @@ use Rattle.writing.specs.Writing.{written, append, filled}
 use Rattle.writing.specs.Writing as writing
 use Rattle.judgement.specs.Fits.{RecordsFor}
 use Rattle.queries.specs.Reading.{four}
-use Rattle.queries.proofs.ReadingLaws.{event_below_lem}
+use Rattle.queries.proofs.ReadingLaws.{event_inside}
 use Rattle.untested.specs.Page.{RowFits, Risen, holding, any_board, CountsBelow, OneMore, EventWithin, MayList}
 use Rattle.untested.specs.Page.{table_told, paint_told}
 
@@ -143,7 +143,7 @@ module _ (cfg : Configuration) (records : List ℕ) where
 
   module _ (e : ℕ) (before : List ℕ) (ready : OneMore cfg records e before) where
     cycle_most : cycle_of cfg e < 4
-    cycle_most = let m = ((config_tells cfg ready.config).row e ready.event_below_lem).cycle_most in omega arith
+    cycle_most = let m = ((config_tells cfg ready.config).row e ready.event_inside).cycle_most in omega arith
 
     pub row_fits : RowFits (8 * cycle_of cfg e) before
     row_fits = record {
@@ -152,7 +152,7 @@ module _ (cfg : Configuration) (records : List ℕ) where
           let is = ready.so_far.each (cycle_of cfg e) cycle_most b in
           let most = count_most (counts cfg (holding records any_board) (cycle_of cfg e) b) e in
           let n = (config_tells cfg ready.config).n_most in
-          let below = ready.event_below_lem in
+          let below = ready.event_inside in
           rw (← q, is) (omega arith);
     }
 
@@ -267,7 +267,7 @@ module _ (cfg : Configuration) (s : State) where
       event_within cfg s.records
       (judged_records cfg s (not-false (config_ok cfg) (none_applies _ z refl 0))
       (not-false (well_formed cfg s) (none_applies _ z refl 1)))
-      e (event_below_lem cfg s e z)
+      e (event_inside cfg s e z)
 
   pub paint_is_lem : (e : ℕ) {paint : Paint} → first_that_applies (begins cfg s true (four (no_such_event cfg e))) ≡ 0
       → paint ≡ paint_of cfg (held cfg s) e

@@ -43,7 +43,7 @@ module _ (cfg : Configuration) where
   -- and e is the next event
   pub record OneMore (records : List ℕ) (e : ℕ) (table : List ℕ) : Type 0 where
     pub config : config_ok cfg ≡ true
-    pub event_below_lem : e < events cfg
+    pub event_inside : e < events cfg
     pub so_far : CountsBelow records e table
 
   -- ---- the list
@@ -60,7 +60,7 @@ module _ (cfg : Configuration) where
   -- there is room for it from `at` on
   pub record MayWrite (s : State) (e at : ℕ) (list : List ℕ) : Type 0 where
     pub judged : RecordsFor cfg s.records
-    pub event_below_lem : e < events cfg
+    pub event_inside : e < events cfg
     pub within : at + length (if_grey s e) ≤ length list
 
   -- there is room for all of them

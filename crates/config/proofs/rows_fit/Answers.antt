@@ -9,7 +9,7 @@ loop-event-init c = (omega arith, sym (all_none _))
 pub row_fits-fit-requires : goal.row_fits-fit-requires
 row_fits-fit-requires c =
     record {
-      event_below_lem = omega (arith, c.requires.most);
+      event_inside = omega (arith, c.requires.most);
       within = omega (arith, c.requires.within);
     }
 

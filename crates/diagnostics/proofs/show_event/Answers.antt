@@ -22,7 +22,7 @@ write_shown-requires c =
     ltb-false _ _ (c.turn_of.ensures.fits c.in-Write.is) in
     record {
       within = c.requires.0.within;
-      event_below_lem = c.requires.1;
+      event_inside = c.requires.1;
       own_is =
           own_is a.cfg.now a.told _ (remembering a.records.now a.memory.now) c.entry_frames.ensures
           c.place_of-own.ensures;

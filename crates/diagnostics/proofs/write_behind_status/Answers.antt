@@ -14,7 +14,7 @@ write_told-requires c =
     let room = entry_fits c.args.cfg.now c.args.told _ c.in-At.is _ c.requires.0.fits in
     record {
       within = c.requires.0.within;
-      event_below_lem = c.requires.0.event_below_lem;
+      event_inside = c.requires.0.event_inside;
       place_fits =
           place_fits _ c.args.records.now _ c.args.event.0 c.requires.0.own_is c.requires.0.within _
           c.in-At.is;

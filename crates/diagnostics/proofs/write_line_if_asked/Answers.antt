@@ -11,7 +11,7 @@ use Rattle.diagnostics.proofs.write_line_if_asked.Goals as goal
 
 pub line_byte-requires : goal.line_byte-requires
 line_byte-requires c = let fits = c.requires in
-    let most = (config_tells _ fits.config).n_most in omega (arith, fits.event_below_lem)
+    let most = (config_tells _ fits.config).n_most in omega (arith, fits.event_inside)
 
 pub write_line-requires : goal.write_line-requires
 write_line-requires c =
@@ -21,7 +21,7 @@ write_line-requires c =
     ∙ c.line_byte.ensures in
     record {
       config = fits.config;
-      event_below_lem = fits.event_below_lem;
+      event_inside = fits.event_inside;
       within = subst (λ (l : List ℕ). a.at + length l ≤ length a.room.now) (sym is) fits.within;
     }
 

@@ -21,7 +21,7 @@ write_line_if_asked-next-requires c =
     let below = rw c.events-n.ensures at c.loop-event-test.true in
     record {
       config = fits.config;
-      event_below_lem = below;
+      event_inside = below;
       within =
           omega (
             arith,

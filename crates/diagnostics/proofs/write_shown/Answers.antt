@@ -12,7 +12,7 @@ write_line-next-requires c =
     let least = shown_least c.args.cfg.now c.args.told c.args.own in
     record {
       config = c.requires.within.config;
-      event_below_lem = c.requires.event_below_lem;
+      event_inside = c.requires.event_inside;
       within = omega (arith, least, c.requires.fits, append_next _ _ c.write-at.ensures, c.write-at.auto.room);
     }
 
@@ -20,7 +20,7 @@ pub write_behind_status-requires : goal.write_behind_status-requires
 write_behind_status-requires c = (
   record {
     within = c.requires.within;
-    event_below_lem = c.requires.event_below_lem;
+    event_inside = c.requires.event_inside;
     own_is = c.requires.own_is;
     fits = omega (arith, c.requires.fits, c.write-at.auto.room, c.write_line-next.auto.room);
   },

@@ -17,7 +17,7 @@ pub write_details-requires : goal.write_details-requires
 write_details-requires c =
     record {
       within = c.requires.within;
-      event_below_lem = c.requires.event_below_lem;
+      event_inside = c.requires.event_inside;
       place_fits = c.requires.place_fits;
       fits = details_fit c.args.cfg.now c.in-Details.is _ _ c.requires.fits;
     }

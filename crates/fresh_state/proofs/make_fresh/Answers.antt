@@ -1,8 +1,8 @@
-use Rattle.fresh_state.proofs.FreshLaws.{records_fit_lem, state_fresh}
+use Rattle.fresh_state.proofs.FreshLaws.{records_as_long, state_fresh}
 use Rattle.fresh_state.proofs.make_fresh.Goals as goal
 
 pub fresh_records-requires : goal.fresh_records-requires
-fresh_records-requires c = records_fit_lem _ _ _ _ c.requires
+fresh_records-requires c = records_as_long _ _ _ _ c.requires
 
 pub returns : goal.returns
 returns c =

@@ -9,7 +9,7 @@ loop-event-init c = (omega arith, sym (all_none _))
 pub limits_kept-ok-requires : goal.limits_kept-ok-requires
 limits_kept-ok-requires c =
     let rows = c.requires.0 in (
-      record { event_below_lem = omega (arith, rows.most); within = omega (arith, rows.within) },
+      record { event_inside = omega (arith, rows.most); within = omega (arith, rows.within) },
       omega (arith, c.requires.1),
     )
 

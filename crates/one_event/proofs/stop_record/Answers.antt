@@ -6,7 +6,7 @@ use borrow.Author.Rules.{rules}
 use Rattle.one_event.proofs.stop_record.Goals as goal
 
 pub read_record-before-requires : goal.read_record-before-requires
-read_record-before-requires c = omega (arith, c.requires.below, c.requires.records_fit_lem)
+read_record-before-requires c = omega (arith, c.requires.below, c.requires.records_as_long)
 
 pub returns-then-rests_at_stop : goal.returns-then-rests_at_stop
 returns-then-rests_at_stop c =
@@ -27,7 +27,7 @@ stopped-after-requires c =
 
 pub write_record-requires : goal.write_record-requires
 write_record-requires c =
-    omega (arith, c.requires.below, c.requires.records_fit_lem)
+    omega (arith, c.requires.below, c.requires.records_as_long)
 
 pub returns : goal.returns
 returns c =

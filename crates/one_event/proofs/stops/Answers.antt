@@ -7,7 +7,7 @@ stop_record-aged-requires c =
     record {
       configured = fits.configured;
       below = fits.blocks.below;
-      records_fit_lem = fits.blocks.records_fit_lem;
+      records_as_long = fits.blocks.records_as_long;
       kept = fits.kept;
     }
 

@@ -7,12 +7,12 @@ use Rattle.untested.proofs.count_event.Goals as goal
 
 pub cycle_within-at-requires : goal.cycle_within-at-requires
 cycle_within-at-requires c =
-    let ready = c.requires in row_within _ _ ready.config ready.event_below_lem
+    let ready = c.requires in row_within _ _ ready.config ready.event_inside
 
 pub overflow_mul-at : goal.overflow_mul-at
 overflow_mul-at c =
     let ready = c.requires in
-    let row = (config_tells _ ready.config).row _ ready.event_below_lem in
+    let row = (config_tells _ ready.config).row _ ready.event_inside in
     omega (arith, row.cycle_most, c.cycle_within-at.ensures)
 
 pub count_bits-requires : goal.count_bits-requires

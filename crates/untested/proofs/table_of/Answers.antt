@@ -15,7 +15,7 @@ slice_bounds-count_event-end c = sym c.loop-event.invariant.1.long
 pub count_event-requires : goal.count_event-requires
 count_event-requires c = record {
   config = c.requires;
-  event_below_lem = rw c.events-n.ensures at c.loop-event-test.true;
+  event_inside = rw c.events-n.ensures at c.loop-event-test.true;
   so_far = c.loop-event.invariant.1;
 }
 

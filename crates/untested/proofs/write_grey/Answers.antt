@@ -24,7 +24,7 @@ write_if_grey-next-requires c =
     let below = rw c.events-n.ensures at c.loop-event-test.true in
     record {
       judged = fits.judged;
-      event_below_lem = below;
+      event_inside = below;
       within =
           omega (
             arith,

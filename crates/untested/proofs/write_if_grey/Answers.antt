@@ -7,12 +7,12 @@ use Rattle.untested.proofs.PageLaws.{event_within, one_written}
 use Rattle.untested.proofs.write_if_grey.Goals as goal
 
 pub is_grey-requires : goal.is_grey-requires
-is_grey-requires c = event_within _ _ c.requires.judged _ c.requires.event_below_lem
+is_grey-requires c = event_within _ _ c.requires.judged _ c.requires.event_inside
 
 pub overflow_cast-list : goal.overflow_cast-list
 overflow_cast-list c =
     let fits = c.requires in
-    let most = (config_tells _ fits.judged.accepted).n_most in omega (arith, fits.event_below_lem)
+    let most = (config_tells _ fits.judged.accepted).n_most in omega (arith, fits.event_inside)
 
 pub bounds-list-at : goal.bounds-list-at
 bounds-list-at c =

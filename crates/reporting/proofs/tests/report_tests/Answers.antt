@@ -1,4 +1,5 @@
 -- `report_tests` meets its contract: an event below n has a row.
+-- Each answer finds the tests that were passed by itself, in whatever order they stand.
 use native.Mathlib.Omega.{arith}
 use borrow.Author.Tests.{lt-ltb, le-ltb, lt-leb, le-leb}
 use Rattle.manual.specs.Answers.{first_that_applies}
@@ -7,11 +8,11 @@ use Rattle.reporting.proofs.tests.report_tests.Goals as goal
 
 pub returns-then-event_refused : goal.returns-then-event_refused
 unfolding first_that_applies
-returns-then-event_refused c = simp (← c.events.ensures, le-leb _ _ c.if-event_refused.true)
+returns-then-event_refused c = grind arith
 
 pub returns-then-code_refused : goal.returns-then-code_refused
 unfolding first_that_applies
-returns-then-code_refused c = simp (← c.events.ensures, lt-leb _ _ c.if-event_refused.false, lt-ltb _ _ c.if-code_refused.true)
+returns-then-code_refused c = grind arith
 
 pub row_tests-requires : goal.row_tests-requires
 row_tests-requires c =

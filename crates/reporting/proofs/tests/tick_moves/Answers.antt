@@ -5,7 +5,7 @@ pub returns-then-not-time_runs : goal.returns-then-not-time_runs
 returns-then-not-time_runs c = rw (← c.time_runs.ensures, c.if-not-time_runs.true)
 
 pub enabled-requires : goal.enabled-requires
-enabled-requires c = c.requires.event_below_lem
+enabled-requires c = c.requires.event_inside
 
 pub returns : goal.returns
 returns c =
