@@ -1,21 +1,18 @@
 -- Document 02, W13, for a caller in C: what crosses as plain numbers and bytes. Each call's outcome is that of
 -- `transport`. Assumes nothing.
-use Rattle.std.specs.Prelude.{cond, List, [], ◌∷◌, ℕ, eqb}
+use Rattle.std.specs.Prelude.{cond, List, [], ◌∷◌, ℕ, eqb, Option, Some, None, Result, Ok, Err}
 use Rattle.transport.specs.declared.CanFrame.{CanFrame}
 use Rattle.transport.specs.declared.Sender.{Sender}
 use Rattle.transport.specs.declared.Sender.TheVariants.{Waiting, Running}
 use Rattle.transport.specs.declared.Receiver.{Receiver}
 use Rattle.transport.specs.declared.Receiver.TheVariants.{Collecting}
-use Rattle.transport.specs.declared.Started.{Started}
-use Rattle.transport.specs.declared.Flowed.{Flowed}
+use Rattle.transport.specs.declared.Refused.{Refused}
 use Rattle.transport.specs.declared.FlowAnswer.{FlowAnswer}
 use Rattle.transport.specs.declared.FlowAnswer.TheVariants.{Go, Wait, Aborted}
-use Rattle.transport.specs.declared.Next.{Next}
-use Rattle.transport.specs.declared.Next.TheVariants.{Nothing}
 use Rattle.transport.specs.declared.TakeAnswer.{TakeAnswer}
 use Rattle.transport.specs.declared.TakeAnswer.TheVariants.{Going, Control, Complete}
-use Rattle.transport.specs.Frames.{bytes_of, frame_of}
-use Rattle.transport.specs.Sending.{start, flow, next_frame}
+use Rattle.transport.specs.Frames.{frame_of}
+use Rattle.transport.specs.Sending.{start, Flowed, flow, Next, next_frame}
 use Rattle.transport.specs.Receiving.{Took, take_frame}
 use Rattle.can_panel.specs.declared.PanelCanFrame.{PanelCanFrame}
 use Rattle.can_panel.specs.declared.PanelSender.{PanelSender}
@@ -39,7 +36,7 @@ receiver_of r = cond (eqb r.state 1) (Collecting r.size r.next r.left) Receiver.
 -- ---- what is handed back
 
 abbrev pub frame_bytes : CanFrame → PanelCanFrame
-frame_bytes f = record { bytes = bytes_of f }
+frame_bytes f = record { bytes = f.bytes }
 
 -- where there is no frame, zeros
 abbrev pub no_frame : PanelCanFrame
@@ -59,31 +56,31 @@ receiver_bytes (Collecting size k left) = record { state = 1; left = left; next 
 abbrev pub thirteen : ℕ
 thirteen = 13
 
-abbrev pub started_bytes : Started → PanelStarted
-started_bytes (Started.Send f s) = record { number = 0; frame = frame_bytes f; sender = sender_bytes s }
-started_bytes Started.Refused = record { number = thirteen; frame = no_frame; sender = sender_bytes Sender.Idle }
+abbrev pub started_bytes : Result (CanFrame × Sender) Refused → PanelStarted
+started_bytes (Ok (f, s)) = record { number = 0; frame = frame_bytes f; sender = sender_bytes s }
+started_bytes (Err e) = record { number = thirteen; frame = no_frame; sender = sender_bytes Sender.Idle }
 
 -- a refusal hands back the sender that was given, byte for byte
-abbrev pub flowed_bytes : PanelSender → FlowAnswer → Sender → PanelFlowed
-flowed_bytes given (Go time) s = record { number = 0; says = 1; separation = time; sender = sender_bytes s }
-flowed_bytes given Wait s = record { number = 0; says = 2; separation = 0; sender = sender_bytes s }
-flowed_bytes given Aborted s = record { number = 0; says = 3; separation = 0; sender = sender_bytes s }
-flowed_bytes given FlowAnswer.Refused s = record { number = thirteen; says = 0; separation = 0; sender = given }
+abbrev pub flowed_bytes : PanelSender → Result FlowAnswer Refused → Sender → PanelFlowed
+flowed_bytes given (Ok (Go time)) s = record { number = 0; says = 1; separation = time; sender = sender_bytes s }
+flowed_bytes given (Ok Wait) s = record { number = 0; says = 2; separation = 0; sender = sender_bytes s }
+flowed_bytes given (Ok Aborted) s = record { number = 0; says = 3; separation = 0; sender = sender_bytes s }
+flowed_bytes given (Err e) s = record { number = thirteen; says = 0; separation = 0; sender = given }
 
 -- where nothing is due, the sender that was given
-abbrev pub next_bytes : PanelSender → Next → PanelNext
-next_bytes given (Next.Send f s) = record { due = 1; frame = frame_bytes f; sender = sender_bytes s }
-next_bytes given Nothing = record { due = 0; frame = no_frame; sender = given }
+abbrev pub next_bytes : PanelSender → Option CanFrame → Sender → PanelNext
+next_bytes given (Some f) s = record { due = 1; frame = frame_bytes f; sender = sender_bytes s }
+next_bytes given None s = record { due = 0; frame = no_frame; sender = given }
 
 abbrev pub said : ℕ → ℕ → PanelCanFrame → ℕ → Receiver → PanelTaken
 said number says f size r =
     record { number = number; says = says; frame = f; length = size; receiver = receiver_bytes r }
 
-abbrev pub taken_bytes : TakeAnswer → Receiver → PanelTaken
-taken_bytes Going r = said 0 1 no_frame 0 r
-taken_bytes (Control f) r = said 0 2 (frame_bytes f) 0 r
-taken_bytes (Complete size) r = said 0 3 no_frame size r
-taken_bytes TakeAnswer.Refused r = said thirteen 0 no_frame 0 r
+abbrev pub taken_bytes : Result TakeAnswer Refused → Receiver → PanelTaken
+taken_bytes (Ok Going) r = said 0 1 no_frame 0 r
+taken_bytes (Ok (Control f)) r = said 0 2 (frame_bytes f) 0 r
+taken_bytes (Ok (Complete size)) r = said 0 3 no_frame size r
+taken_bytes (Err e) r = said thirteen 0 no_frame 0 r
 
 -- ---- the four calls
 
@@ -96,8 +93,11 @@ flowed_for given x = flowed_bytes given x.answer x.sender
 unfoldable pub flow_crosses : PanelSender → PanelCanFrame → PanelFlowed
 flow_crosses s f = flowed_for s (flow (sender_of s) (frame_of f.bytes))
 
+abbrev pub next_for : PanelSender → Next → PanelNext
+next_for given x = next_bytes given x.frame x.sender
+
 unfoldable pub next_crosses : PanelSender → List ℕ → PanelNext
-next_crosses s m = next_bytes s (next_frame (sender_of s) m)
+next_crosses s m = next_for s (next_frame (sender_of s) m)
 
 -- take's answer, and the room as it leaves it
 pub record TakeCrossing : Type 0 where

@@ -4,11 +4,11 @@
 
 ghost use Rattle.std.specs.Prelude.{◌≡◌};
 ghost use Rattle.transport.specs.Frames.{frame_of};
-ghost use Rattle.can_panel.specs.CanPanel.{sender_of, receiver_of, frame_bytes, no_frame, sender_bytes, receiver_bytes};
-ghost use Rattle.can_panel.specs.CanPanel.{started_bytes, flowed_bytes, next_bytes, said, taken_bytes, with_room};
+ghost use Rattle.can_panel.specs.CanPanel.{sender_of, receiver_of, frame_bytes, sender_bytes, receiver_bytes};
+ghost use Rattle.can_panel.specs.CanPanel.{started_bytes, flowed_bytes, next_bytes, taken_bytes, with_room};
 ghost use Rattle.can_panel.specs.CanPanel.{start_crosses, flow_crosses, next_crosses, take_crosses};
 
-use transport::{CanFrame, FlowAnswer, Next, Receiver, Sender, Started, TakeAnswer, Taken};
+use transport::{CanFrame, FlowAnswer, FlowControl, Receiver, Refused, Sender, TakeAnswer};
 
 // ---- what crosses by value
 
@@ -78,181 +78,162 @@ pub struct PanelTaken {
     pub receiver: PanelReceiver,
 }
 
-// ---- what is given
+// ---- a frame, a sender and a receiver as bytes and numbers, and back
 
-// Any other state is idle.
-fn sender_of(given: PanelSender) -> Sender
-    ensures { result ≡ sender_of given }
-{
-    if given.state == 1 {
-        return Sender::Waiting(given.next);
+impl From<PanelCanFrame> for CanFrame {
+    ghost from_gives = { λ given frame. frame ≡ frame_of given.bytes };
+
+    fn from(given: PanelCanFrame) -> CanFrame {
+        let bytes = given.bytes;
+        CanFrame { bytes }
     }
-    if given.state == 2 {
-        return Sender::Running(given.next, given.left);
+}
+
+impl From<CanFrame> for PanelCanFrame {
+    ghost from_gives = { λ frame bytes. bytes ≡ frame_bytes frame };
+
+    fn from(frame: CanFrame) -> PanelCanFrame {
+        let bytes = frame.bytes;
+        PanelCanFrame { bytes }
     }
-    Sender::Idle
 }
 
 // Any other state is idle.
-fn receiver_of(given: PanelReceiver) -> Receiver
-    ensures { result ≡ receiver_of given }
-{
-    if given.state == 1 {
-        return Receiver::Collecting(given.size, given.next, given.left);
+impl From<PanelSender> for Sender {
+    ghost from_gives = { λ given sender. sender ≡ sender_of given };
+
+    fn from(given: PanelSender) -> Sender {
+        match given.state {
+            1 => Sender::Waiting(given.next),
+            2 => Sender::Running(given.next, given.left),
+            _ => Sender::Idle,
+        }
     }
-    Receiver::Idle
 }
 
-fn frame_of(given: PanelCanFrame) -> CanFrame
-    ensures { result ≡ frame_of given.bytes }
-{
-    let bytes = given.bytes;
-    transport::frame_of(bytes)
+// Any other state is idle.
+impl From<PanelReceiver> for Receiver {
+    ghost from_gives = { λ given receiver. receiver ≡ receiver_of given };
+
+    fn from(given: PanelReceiver) -> Receiver {
+        match given.state {
+            1 => Receiver::Collecting(given.size, given.next, given.left),
+            _ => Receiver::Idle,
+        }
+    }
+}
+
+impl From<Sender> for PanelSender {
+    ghost from_gives = { λ sender bytes. bytes ≡ sender_bytes sender };
+
+    fn from(sender: Sender) -> PanelSender {
+        let (state, left, next) = match sender {
+            Sender::Idle => (0, 0, 0),
+            Sender::Waiting(k) => (1, 0, k),
+            Sender::Running(k, left) => (2, left, k),
+        };
+        PanelSender { state, left, next }
+    }
+}
+
+impl From<Receiver> for PanelReceiver {
+    ghost from_gives = { λ receiver bytes. bytes ≡ receiver_bytes receiver };
+
+    fn from(receiver: Receiver) -> PanelReceiver {
+        let (state, left, next, size) = match receiver {
+            Receiver::Idle => (0, 0, 0, 0),
+            Receiver::Collecting(size, k, left) => (1, left, k, size),
+        };
+        PanelReceiver {
+            state,
+            left,
+            next,
+            size,
+        }
+    }
 }
 
 // ---- what is handed back
 
-fn frame_bytes(frame: CanFrame) -> PanelCanFrame
-    ensures { result ≡ frame_bytes frame }
-{
-    let bytes = transport::bytes_of(frame);
-    PanelCanFrame { bytes }
-}
+// Where there is no frame.
+const NO_FRAME: PanelCanFrame = PanelCanFrame { bytes: [0; 8] };
 
-fn no_frame() -> PanelCanFrame
-    ensures { result ≡ no_frame }
-{
-    let bytes = [0, 0, 0, 0, 0, 0, 0, 0];
-    PanelCanFrame { bytes }
-}
+// "All these are new number 13"
+const THIRTEEN: u8 = 13;
 
-fn sender_bytes(sender: Sender) -> PanelSender
-    ensures { result ≡ sender_bytes sender }
-{
-    match sender {
-        Sender::Idle => PanelSender {
-            state: 0,
-            left: 0,
-            next: 0,
-        },
-        Sender::Waiting(k) => PanelSender {
-            state: 1,
-            left: 0,
-            next: k,
-        },
-        Sender::Running(k, left) => PanelSender {
-            state: 2,
-            left,
-            next: k,
-        },
-    }
-}
-
-fn receiver_bytes(receiver: Receiver) -> PanelReceiver
-    ensures { result ≡ receiver_bytes receiver }
-{
-    match receiver {
-        Receiver::Idle => PanelReceiver {
-            state: 0,
-            left: 0,
-            next: 0,
-            size: 0,
-        },
-        Receiver::Collecting(size, k, left) => PanelReceiver {
-            state: 1,
-            left,
-            next: k,
-            size,
-        },
-    }
-}
-
-fn started_bytes(started: Started) -> PanelStarted
+fn started_bytes(started: Result<(CanFrame, Sender), Refused>) -> PanelStarted
     ensures { result ≡ started_bytes started }
 {
-    match started {
-        Started::Send(frame, sender) => PanelStarted {
-            number: 0,
-            frame: frame_bytes(frame),
-            sender: sender_bytes(sender),
-        },
-        Started::Refused => PanelStarted {
-            number: 13,
-            frame: no_frame(),
-            sender: sender_bytes(Sender::Idle),
-        },
+    let Ok((frame, sender)) = started else {
+        return PanelStarted {
+            number: THIRTEEN,
+            frame: NO_FRAME,
+            sender: PanelSender::from(Sender::Idle),
+        };
+    };
+    PanelStarted {
+        number: 0,
+        frame: PanelCanFrame::from(frame),
+        sender: PanelSender::from(sender),
     }
 }
 
-fn flowed_bytes(given: PanelSender, answer: FlowAnswer, after: Sender) -> PanelFlowed
+// A refusal hands back the sender that was given.
+fn flowed_bytes(
+    given: PanelSender,
+    answer: Result<FlowAnswer, Refused>,
+    after: Sender,
+) -> PanelFlowed
     ensures { result ≡ flowed_bytes given answer after }
 {
-    match answer {
-        FlowAnswer::Go(separation) => PanelFlowed {
-            number: 0,
-            says: 1,
-            separation,
-            sender: sender_bytes(after),
-        },
-        FlowAnswer::Wait => PanelFlowed {
-            number: 0,
-            says: 2,
-            separation: 0,
-            sender: sender_bytes(after),
-        },
-        FlowAnswer::Aborted => PanelFlowed {
-            number: 0,
-            says: 3,
-            separation: 0,
-            sender: sender_bytes(after),
-        },
-        FlowAnswer::Refused => PanelFlowed {
-            number: 13,
-            says: 0,
-            separation: 0,
-            sender: given,
-        },
+    let (number, says, separation, sender) = match answer {
+        Ok(FlowAnswer::Go(time)) => (0, 1, time, PanelSender::from(after)),
+        Ok(FlowAnswer::Wait) => (0, 2, 0, PanelSender::from(after)),
+        Ok(FlowAnswer::Aborted) => (0, 3, 0, PanelSender::from(after)),
+        Err(_) => (THIRTEEN, 0, 0, given),
+    };
+    PanelFlowed {
+        number,
+        says,
+        separation,
+        sender,
     }
 }
 
-fn next_bytes(given: PanelSender, next: Next) -> PanelNext
-    ensures { result ≡ next_bytes given next }
+// Where nothing is due, the sender that was given.
+fn next_bytes(given: PanelSender, due: Option<CanFrame>, after: Sender) -> PanelNext
+    ensures { result ≡ next_bytes given due after }
 {
-    match next {
-        Next::Send(frame, sender) => PanelNext {
-            due: 1,
-            frame: frame_bytes(frame),
-            sender: sender_bytes(sender),
-        },
-        Next::Nothing => PanelNext {
+    let Some(frame) = due else {
+        return PanelNext {
             due: 0,
-            frame: no_frame(),
+            frame: NO_FRAME,
             sender: given,
-        },
+        };
+    };
+    PanelNext {
+        due: 1,
+        frame: PanelCanFrame::from(frame),
+        sender: PanelSender::from(after),
     }
 }
 
-// What is taken, in these numbers.
-fn said(number: u8, says: u8, frame: PanelCanFrame, length: usize, receiver: Receiver) -> PanelTaken
-    ensures { result ≡ said number says frame length receiver }
+fn taken_bytes(answer: Result<TakeAnswer, Refused>, after: Receiver) -> PanelTaken
+    ensures { result ≡ taken_bytes answer after }
 {
+    let (number, says, frame, length) = match answer {
+        Ok(TakeAnswer::Going) => (0, 1, NO_FRAME, 0),
+        Ok(TakeAnswer::Control(frame)) => (0, 2, PanelCanFrame::from(frame), 0),
+        Ok(TakeAnswer::Complete(size)) => (0, 3, NO_FRAME, size),
+        Err(_) => (THIRTEEN, 0, NO_FRAME, 0),
+    };
+    let receiver = PanelReceiver::from(after);
     PanelTaken {
         number,
         says,
         frame,
         length,
-        receiver: receiver_bytes(receiver),
-    }
-}
-
-fn taken_bytes(answer: TakeAnswer, receiver: Receiver) -> PanelTaken
-    ensures { result ≡ taken_bytes answer receiver }
-{
-    match answer {
-        TakeAnswer::Going => said(0, 1, no_frame(), 0, receiver),
-        TakeAnswer::Control(frame) => said(0, 2, frame_bytes(frame), 0, receiver),
-        TakeAnswer::Complete(size) => said(0, 3, no_frame(), size, receiver),
-        TakeAnswer::Refused => said(13, 0, no_frame(), 0, receiver),
+        receiver,
     }
 }
 
@@ -261,24 +242,23 @@ fn taken_bytes(answer: TakeAnswer, receiver: Receiver) -> PanelTaken
 pub fn start(message: &[u8]) -> PanelStarted
     ensures { result ≡ start_crosses message.now }
 {
-    let started = sending::start(message);
-    started_bytes(started)
+    started_bytes(sending::start(message))
 }
 
 pub fn flow(sender: PanelSender, frame: PanelCanFrame) -> PanelFlowed
     ensures { result ≡ flow_crosses sender frame }
 {
-    let flowed = sending::flow(sender_of(sender), frame_of(frame));
-    let answer = flowed.answer;
-    let after = flowed.sender;
+    let mut after = Sender::from(sender);
+    let answer = sending::flow(&mut after, CanFrame::from(frame));
     flowed_bytes(sender, answer, after)
 }
 
 pub fn next(sender: PanelSender, message: &[u8]) -> PanelNext
     ensures { result ≡ next_crosses sender message.now }
 {
-    let next = sending::next(sender_of(sender), message);
-    next_bytes(sender, next)
+    let mut after = Sender::from(sender);
+    let due = sending::next(&mut after, message);
+    next_bytes(sender, due, after)
 }
 
 pub fn take(
@@ -290,9 +270,8 @@ pub fn take(
 ) -> PanelTaken
     ensures { with_room result room.new ≡ take_crosses receiver room.old block separation frame }
 {
-    let given = receiver_of(receiver);
-    let taken = receiving::take(given, room, block, separation, frame_of(frame));
-    let answer = taken.answer;
-    let after = taken.receiver;
+    let mut after = Receiver::from(receiver);
+    let flow = FlowControl { block, separation };
+    let answer = receiving::take(&mut after, room, flow, CanFrame::from(frame));
     taken_bytes(answer, after)
 }

@@ -1,6 +1,6 @@
 -- Laws of what a clear adds to the counts: the entries that are gone after it, and whether that carries a count past
 -- its limit.
-use mathlib.Core.Path.{◌≡◌, refl, sym, ap, ◌∙◌}
+use mathlib.Core.Path.{◌≡◌, refl, sym, ap, subst, ◌∙◌}
 use mathlib.Core.Bool.{Bool, true, false}
 use mathlib.Core.List.{List, [], ◌∷◌}
 use Prim.Native.Nat.{ℕ, ◌-◌, ◌≤◌}
@@ -10,7 +10,7 @@ use borrow.Author.Tests.{not-false}
 use Rattle.manual.specs.declared.Refusal.{Refusal}
 use Rattle.manual.specs.Configuration.{Configuration, events, entry_frames, config_ok, most_places}
 use Rattle.manual.specs.State.{State}
-use Rattle.manual.specs.Memory.{entry_count}
+use Rattle.manual.specs.Memory.{entry_count, memory_of}
 use Rattle.manual.specs.WellFormed.{entries, well_formed}
 use Rattle.manual.specs.Answers.{lent_counts, done, Rule, ◌if◌, first_that_applies, number_of}
 use Rattle.manual.specs.Counts.{count_of, rise_of, raised, past, carries_past, with_rise, counts_fit}
@@ -18,27 +18,32 @@ use Rattle.manual.specs.Calls.{begins, unknown_code, cleared, clear_log, clear_r
 use Rattle.manual.proofs.AnswersLaws.{none_applies, three_passed}
 use Rattle.manual.proofs.ConfigurationLaws.{config_tells}
 use Rattle.manual.proofs.WellFormedLaws.{state_tells}
+use Rattle.manual.proofs.SoundStates.{sound}
+use Rattle.manual.proofs.StaysWellFormed.{those_going, clears_keep}
 use Rattle.manual.proofs.AccountsLaws.{clear_accounts}
 use Rattle.manual.proofs.CountsLaws.{all_accounts, clear_most}
 use Rattle.manual.proofs.RiseIsTheEntriesGone.{clear_rise}
 use Rattle.memory.proofs.PlacesLaws.{entries_are_count}
 use Rattle.counts.specs.Near.{AreFive, some_near}
 use Rattle.counts.proofs.NearLaws.{are_five, far_from_past}
-use Rattle.judgement.specs.declared.Check.{Check}
-use Rattle.judgement.specs.declared.Check.TheVariants.{Go, Stop}
+use Rattle.std.specs.Prelude.{Result, Ok, Err, ⊤}
 use Rattle.judgement.specs.Checks.{check_number}
 use Rattle.judgement.proofs.JudgedLaws.{passed_by}
+use Rattle.clearing.specs.Covered.{MayClear}
 use Rattle.rehearsal.proofs.LastLaws.{last_judged, stopped_before}
-
--- what a clear may count on
-abbrev pub MayClear : Configuration → State → Type 0
-MayClear cfg s = (config_ok cfg ≡ true) × (well_formed cfg s ≡ true)
 
 module _ (cfg : Configuration) (s : State) (code : ℕ) (m : MayClear cfg s) where
   -- ---- the entries that are gone
 
   pub few : entry_count s.memory ≤ most_places
   few = omega (arith, (state_tells cfg s m.1).few, (config_tells cfg m.0).M_most)
+
+  -- there still is a byte for the number of entries
+  pub still_counted : {t : State} → t ≡ cleared cfg code s → 1 ≤ length t.memory
+  unfolding cleared memory_of
+  still_counted p =
+      let left = (those_going cfg (clears_keep cfg (config_tells cfg m.0) code s) (sound cfg s m.1)).sound.memory.block in
+      subst (λ (l : List ℕ). 1 ≤ length l) (sym (ap (λ (u : State). u.memory) p ∙ left)) (omega arith)
 
   -- none is stored
   no_more : length (entries cfg (cleared cfg code s)) ≤ length (entries cfg s)
@@ -92,22 +97,22 @@ module _ (cfg : Configuration) (s : State) (code : ℕ) (counts : List ℕ) wher
         → number ≡ first_that_applies before
     as_found e = e ∙ (λ i. first_that_applies (begins cfg s (f i) ((4 if unknown_code cfg code) ∷ [])))
 
-    module _ {check : Check}
+    module _ {check : Result ⊤ Refusal}
         (e : check_number check ≡ first_that_applies (begins cfg s fits ((4 if unknown_code cfg code) ∷ []))) where
-      pub may_be_limited : check ≡ Go → MayClear cfg s × AreFive counts
+      pub may_be_limited : check ≡ Ok tt → MayClear cfg s × AreFive counts
       may_be_limited g =
           let z = passed_by before (as_found e) g in
           let three = three_passed (counts_fit counts) (well_formed cfg s) (none_applies before z refl 1) in
           ((not-false (config_ok cfg) (none_applies before z refl 0), three.1), are_five counts three.0)
 
-      pub then_limit : check ≡ Go → {past : Bool} → past ≡ carries_past (clear_log cfg code s) counts → {number : ℕ}
+      pub then_limit : check ≡ Ok tt → {past : Bool} → past ≡ carries_past (clear_log cfg code s) counts → {number : ℕ}
           → number ≡ first_that_applies ((12 if past) ∷ [])
           → number ≡ first_that_applies (clear_rules cfg code (lent_counts counts) s)
       unfolding clear_rules
       then_limit g q n =
           last_judged before last refl (as_found e) g (n ∙ ap (λ (p : Bool). first_that_applies ((12 if p) ∷ [])) q)
 
-      pub not_so_far : (r : Refusal) → check ≡ Stop r
+      pub not_so_far : (r : Refusal) → check ≡ Err r
           → number_of r ≡ first_that_applies (clear_rules cfg code (lent_counts counts) s)
       unfolding clear_rules
       not_so_far r g = stopped_before before last refl (as_found e) r g

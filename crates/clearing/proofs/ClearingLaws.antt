@@ -26,7 +26,7 @@ module _ (cfg : Configuration) (code : ℕ) where
     after_all_lem e p q = q ∙ ap (overflow_cleared cfg code) (last_turn (covers cfg code) (clears cfg) cfg _ s e p)
 
     pub fits_at : config_ok cfg ≡ true → well_formed cfg s ≡ true → (i : ℕ) → i < events cfg → {t : State} → t ≡ up_to i s
-        → EventFits cfg t.records t.debounce t.memory i
+        → EventFits cfg t i
     fits_at ok formed i h p =
         (ready_at_turn (covers cfg code) (clears cfg) cfg s (clears_keep cfg (config_tells cfg ok) code s) ok formed i h
         p).event

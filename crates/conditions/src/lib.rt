@@ -31,7 +31,7 @@ pub fn still_missing(cfg: &[i32], event: EventNumber, present: u32) -> StillMiss
 {
     let absent = without(config::needed_of(cfg, event), present);
     StillMissing {
-        count: u32::count_ones(absent),
-        lowest: u32::trailing_zeros(absent),
+        count: absent.count_ones(),
+        lowest: absent.trailing_zeros(),
     }
 }

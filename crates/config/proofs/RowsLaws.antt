@@ -1,15 +1,36 @@
 -- Laws of specs/Rows.antt.
 use mathlib.Core.Path.{◌≡◌, refl}
 use mathlib.Core.Bool.{◌&&◌, and_comm}
-use Prim.Native.Nat.{ℕ, zero, suc, ◌-◌}
+use Prim.Native.Nat.{ℕ, zero, suc, ◌+◌, ◌-◌}
 use native.Mathlib.Numerals.{unary_clauses}
+use denote.Enum.Declared.{tag_of}
 use lib.IntN.{ℤ, pos, negsuc}
 use lib.Signed.{lt_z}
 use Rattle.history.specs.Words.{holds}
 use Rattle.manual.specs.Words.{all_below, between, nat_of}
 use Rattle.manual.specs.Configuration.{Configuration, column, row_ok, rises}
-use Rattle.config.specs.Rows.{of_kind, rises_here, row_fits}
+use Rattle.config.specs.contracts.Column.{the_type}
+use Rattle.config.specs.declared.Column.{Column}
+use Rattle.config.specs.declared.Column.TheVariants.{TroubleCode, Priority, Cycle, Kind, P, Q, Up, Down, Jumps, Confirm, Heal, Age, Indicator, Needed}
+use Rattle.config.specs.Rows.{number_of, of_kind, rises_here, row_fits}
 use Rattle.config.proofs.Tests.{all_both}
+
+-- a column's number in the code is the table's
+pub numbered : (k : Column) → tag_of the_type k + 1 ≡ number_of k
+numbered TroubleCode = refl
+numbered Priority = refl
+numbered Cycle = refl
+numbered Kind = refl
+numbered P = refl
+numbered Q = refl
+numbered Up = refl
+numbered Down = refl
+numbered Jumps = refl
+numbered Confirm = refl
+numbered Heal = refl
+numbered Age = refl
+numbered Indicator = refl
+numbered Needed = refl
 
 module _ (cfg : Configuration) where
   -- an event but the first, and the event before

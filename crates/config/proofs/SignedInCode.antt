@@ -24,14 +24,6 @@ pub count_fits : (z : ℤ) → mag z < 2 ^ 31 → lt_z z (pos 0) ≡ false → T
 count_fits (pos n) h t = (tt, record { fits = lt_of_lt_of_le h (lit≤ tt) })
 count_fits (negsuc n) h t = clash true refl t
 
-pub set_fits : (z : ℤ) → mag z < 2 ^ 31 → lt_z z (pos 0) ≡ false → T (non_neg z) × Fits w32 (nat_abs z)
-set_fits (pos n) h t = (tt, record { fits = lt_of_lt_of_le h (lit≤ tt) })
-set_fits (negsuc n) h t = clash true refl t
-
-pub count_below_lem : (z : ℤ) → mag z < 2 ^ 31 → nat_of z < 2 ^ 31
-count_below_lem (pos n) h = h
-count_below_lem (negsuc n) h = omega arith
-
 pub count_is : (z : ℤ) → lt_z z (pos 0) ≡ false → nat_abs z ≡ nat_of z
 count_is (pos n) t = refl
 count_is (negsuc n) t = clash true refl t

@@ -3,17 +3,29 @@ use Rattle.std.specs.Prelude.{Bool, true, ◌&&◌, cond, List, [], ◌∷◌, �
 use Rattle.history.specs.StatusByte as status
 use Rattle.manual.specs.Words.{between, eq_z}
 use Rattle.manual.specs.Configuration.{Configuration, in_front, most_events, row_width, column, row_ok, rises}
+use Rattle.config.specs.declared.Column.{Column}
+use Rattle.config.specs.declared.Column.TheVariants.{TroubleCode, Priority, Cycle, Kind, P, Q, Up, Down, Jumps, Confirm, Heal, Age, Indicator, Needed}
 use Rattle.config.specs.declared.Limits.{Limits}
 
--- "n events (1 to 512)", "Then 13 per event", with W5 14: an event that a configuration can have, and a number of its
--- row
-pub record InRow (e k : ℕ) : Type 0 where
-  pub event_inside : e < most_events
-  pub least : 1 ≤ k
-  pub most : k ≤ row_width
+-- the numbers of a row, "1 | trouble code" to W5's "14th"
+abbrev pub number_of : Column → ℕ
+number_of TroubleCode = 1
+number_of Priority = 2
+number_of Cycle = 3
+number_of Kind = 4
+number_of P = 5
+number_of Q = 6
+number_of Up = 7
+number_of Down = 8
+number_of Jumps = 9
+number_of Confirm = 10
+number_of Heal = 11
+number_of Age = 12
+number_of Indicator = 13
+number_of Needed = 14
 
 -- "the length is exactly 3 + 13n", with W5 3 + 14n: the rows of n events lie within the configuration, so does the row
--- of each event, and each number of that row
+-- of each event
 pub record RowsWithin (cfg : Configuration) (n : ℕ) : Type 0 where
   pub most : n ≤ most_events
   pub within : in_front + row_width * n ≤ length cfg
@@ -21,11 +33,6 @@ pub record RowsWithin (cfg : Configuration) (n : ℕ) : Type 0 where
 pub record RowWithin (cfg : Configuration) (e : ℕ) : Type 0 where
   pub event_inside : e < most_events
   pub within : in_front + row_width * e + row_width ≤ length cfg
-
-pub record Within (cfg : Configuration) (e k : ℕ) : Type 0 where
-  pub row : RowWithin cfg e
-  pub least : 1 ≤ k
-  pub most : k ≤ row_width
 
 -- an event's row with the three numbers before it: read as a configuration, it is the row of event 0
 abbrev pub part_of : Configuration → ℕ → Configuration

@@ -9,7 +9,7 @@ ghost use Rattle.manual.specs.Configuration.{most_events, number_at, events, pla
 ghost use Rattle.manual.specs.Configuration.{column, code_of, priority_of, cycle_of, kind_of, low_of, high_of, up_of};
 ghost use Rattle.manual.specs.Configuration.{down_of, jumps_of, limits_of, needed_of, row_ok, config_ok, has_trouble_code};
 ghost use Rattle.manual.specs.Configuration.{first_with_code};
-ghost use Rattle.config.specs.Rows.{InRow, Within, RowWithin, RowsWithin, limits_is, part_of, of_kind};
+ghost use Rattle.config.specs.Rows.{number_of, RowWithin, RowsWithin, limits_is, part_of, of_kind};
 ghost use Rattle.config.specs.Rows.{rises_here, row_fits};
 ghost use Rattle.config.specs.Search.{search_is};
 ghost use Rattle.config.specs.Halving.{NarrowedTo, Halved};
@@ -29,33 +29,23 @@ const F_AT: usize = 2;
 const ROW_WIDTH: usize = manual::ROW_WIDTH;
 
 // The numbers of a row, counted from 1 as the table does.
-const TROUBLE_CODE: usize = 1;
-
-const PRIORITY: usize = 2;
-
-const CYCLE: usize = 3;
-
-const KIND: usize = 4;
-
-const P: usize = 5;
-
-const Q: usize = 6;
-
-const UP: usize = 7;
-
-const DOWN: usize = 8;
-
-const JUMPS: usize = 9;
-
-const CONFIRM: usize = 10;
-
-const HEAL: usize = 11;
-
-const AGE: usize = 12;
-
-const INDICATOR: usize = 13;
-
-const NEEDED: usize = 14;
+#[derive(Clone, Copy)]
+enum Column {
+    TroubleCode = 1,
+    Priority = 2,
+    Cycle = 3,
+    Kind = 4,
+    P = 5,
+    Q = 6,
+    Up = 7,
+    Down = 8,
+    Jumps = 9,
+    Confirm = 10,
+    Heal = 11,
+    Age = 12,
+    Indicator = 13,
+    Needed = 14,
+}
 
 // "0 internal, 1 counter, 2 time"
 pub const INTERNAL: usize = 0;
@@ -79,13 +69,13 @@ const LAST_CYCLE: i32 = manual::CYCLES as i32 - 1;
 fn number_at(cfg: &[i32], index: usize) -> i32
     ensures { result ≡ number_at cfg.now index }
 {
-    if index < cfg.len() { cfg[index] } else { 0 }
+    cfg.get(index).copied().unwrap_or(0)
 }
 
 fn count_of(number: i32) -> usize
     ensures { result ≡ nat_of number }
 {
-    if number < 0 { 0 } else { number as usize }
+    number.max(0) as usize
 }
 
 fn count_at(cfg: &[i32], index: usize) -> usize
@@ -115,31 +105,24 @@ pub fn frame_bytes(cfg: &[i32]) -> usize
     count_at(cfg, F_AT)
 }
 
-// In one function with the cast, where it is known that twice the number fits.
-fn twice(number: i32) -> usize
-    ensures { result ≡ 2 * nat_of number }
-{
-    if number < 0 { 0 } else { 2 * (number as usize) }
-}
-
 // Document 02, W6: of "M(3 + 2F)" the bytes of an entry's two frames.
 pub fn entry_frames(cfg: &[i32]) -> usize
     ensures { result ≡ entry_frames cfg.now }
 {
-    twice(number_at(cfg, F_AT))
+    2 * (number_at(cfg, F_AT).max(0) as usize)
 }
 
 // Number k of the event's row.
-fn number_in_row(cfg: &[i32], event: EventNumber, k: usize) -> i32
-    requires { InRow event.0 k }
-    ensures { result ≡ column k cfg.now event.0 }
+fn number_in_row(cfg: &[i32], event: EventNumber, k: Column) -> i32
+    requires { event.0 < most_events }
+    ensures { result ≡ column (number_of k) cfg.now event.0 }
 {
-    number_at(cfg, IN_FRONT + ROW_WIDTH * event.0 + (k - 1))
+    number_at(cfg, IN_FRONT + ROW_WIDTH * event.0 + (k as usize - 1))
 }
 
-fn count_in_row(cfg: &[i32], event: EventNumber, k: usize) -> usize
-    requires { InRow event.0 k }
-    ensures { result ≡ nat_of (column k cfg.now event.0) }
+fn count_in_row(cfg: &[i32], event: EventNumber, k: Column) -> usize
+    requires { event.0 < most_events }
+    ensures { result ≡ nat_of (column (number_of k) cfg.now event.0) }
 {
     count_of(number_in_row(cfg, event, k))
 }
@@ -149,7 +132,7 @@ pub fn code_of(cfg: &[i32], event: EventNumber) -> usize
     requires { event.0 < most_events }
     ensures { result ≡ code_of cfg.now event.0 }
 {
-    count_in_row(cfg, event, TROUBLE_CODE)
+    count_in_row(cfg, event, Column::TroubleCode)
 }
 
 // "2 | priority | … 1 the most important"
@@ -157,7 +140,7 @@ pub fn priority_of(cfg: &[i32], event: EventNumber) -> usize
     requires { event.0 < most_events }
     ensures { result ≡ priority_of cfg.now event.0 }
 {
-    count_in_row(cfg, event, PRIORITY)
+    count_in_row(cfg, event, Column::Priority)
 }
 
 // "3 | cycle"
@@ -165,7 +148,7 @@ pub fn cycle_of(cfg: &[i32], event: EventNumber) -> usize
     requires { event.0 < most_events }
     ensures { result ≡ cycle_of cfg.now event.0 }
 {
-    count_in_row(cfg, event, CYCLE)
+    count_in_row(cfg, event, Column::Cycle)
 }
 
 // "4 | debounce kind": INTERNAL, COUNTER or TIME
@@ -173,7 +156,7 @@ pub fn kind_of(cfg: &[i32], event: EventNumber) -> usize
     requires { event.0 < most_events }
     ensures { result ≡ kind_of cfg.now event.0 }
 {
-    count_in_row(cfg, event, KIND)
+    count_in_row(cfg, event, Column::Kind)
 }
 
 // "5, 6 | P, Q": P
@@ -181,7 +164,7 @@ pub fn low_of(cfg: &[i32], event: EventNumber) -> i32
     requires { event.0 < most_events }
     ensures { result ≡ low_of cfg.now event.0 }
 {
-    number_in_row(cfg, event, P)
+    number_in_row(cfg, event, Column::P)
 }
 
 // "5, 6 | P, Q": Q
@@ -189,7 +172,7 @@ pub fn high_of(cfg: &[i32], event: EventNumber) -> i32
     requires { event.0 < most_events }
     ensures { result ≡ high_of cfg.now event.0 }
 {
-    number_in_row(cfg, event, Q)
+    number_in_row(cfg, event, Column::Q)
 }
 
 // "7, 8 | up, down": up
@@ -197,7 +180,7 @@ pub fn up_of(cfg: &[i32], event: EventNumber) -> i32
     requires { event.0 < most_events }
     ensures { result ≡ up_of cfg.now event.0 }
 {
-    number_in_row(cfg, event, UP)
+    number_in_row(cfg, event, Column::Up)
 }
 
 // "7, 8 | up, down": down
@@ -205,7 +188,7 @@ pub fn down_of(cfg: &[i32], event: EventNumber) -> i32
     requires { event.0 < most_events }
     ensures { result ≡ down_of cfg.now event.0 }
 {
-    number_in_row(cfg, event, DOWN)
+    number_in_row(cfg, event, Column::Down)
 }
 
 // "9 | jumps | … 1 = jump up, 2 = jump down, 3 = both"
@@ -213,7 +196,7 @@ pub fn jumps_of(cfg: &[i32], event: EventNumber) -> usize
     requires { event.0 < most_events }
     ensures { result ≡ jumps_of cfg.now event.0 }
 {
-    count_in_row(cfg, event, JUMPS)
+    count_in_row(cfg, event, Column::Jumps)
 }
 
 // What a row limits an event's record by.
@@ -231,10 +214,10 @@ pub fn limits_of(cfg: &[i32], event: EventNumber) -> Limits
     ensures { limits_is result ≡ limits_of cfg.now event.0 }
 {
     Limits {
-        confirm: count_in_row(cfg, event, CONFIRM),
-        heal: count_in_row(cfg, event, HEAL),
-        age: count_in_row(cfg, event, AGE),
-        indicator: count_in_row(cfg, event, INDICATOR) == 1,
+        confirm: count_in_row(cfg, event, Column::Confirm),
+        heal: count_in_row(cfg, event, Column::Heal),
+        age: count_in_row(cfg, event, Column::Age),
+        indicator: count_in_row(cfg, event, Column::Indicator) == 1,
     }
 }
 
@@ -242,7 +225,7 @@ pub fn limits_of(cfg: &[i32], event: EventNumber) -> Limits
 fn set_of(number: i32) -> u32
     ensures { (result ≡ nat_of number) × (result < 2 ^ 31) }
 {
-    if number < 0 { 0 } else { number as u32 }
+    number.max(0) as u32
 }
 
 // "14th, for the set it needs"
@@ -250,54 +233,10 @@ pub fn needed_of(cfg: &[i32], event: EventNumber) -> u32
     requires { event.0 < most_events }
     ensures { (result ≡ needed_of cfg.now event.0) × (result < 2 ^ 31) }
 {
-    set_of(number_in_row(cfg, event, NEEDED))
+    set_of(number_in_row(cfg, event, Column::Needed))
 }
 
 // ---- reading a row that lies within the configuration: nothing is tested
-
-// Number k of the event's row.
-fn number_within(cfg: &[i32], event: EventNumber, k: usize) -> i32
-    requires { Within cfg.now event.0 k }
-    ensures { result ≡ column k cfg.now event.0 }
-{
-    cfg[IN_FRONT + ROW_WIDTH * event.0 + (k - 1)]
-}
-
-fn count_within(cfg: &[i32], event: EventNumber, k: usize) -> usize
-    requires { Within cfg.now event.0 k }
-    ensures { result ≡ nat_of (column k cfg.now event.0) }
-{
-    count_of(number_within(cfg, event, k))
-}
-
-// "1 | trouble code"
-pub fn code_within(cfg: &[i32], event: EventNumber) -> usize
-    requires { RowWithin cfg.now event.0 }
-    ensures { result ≡ code_of cfg.now event.0 }
-{
-    count_within(cfg, event, TROUBLE_CODE)
-}
-
-// "3 | cycle"
-pub fn cycle_within(cfg: &[i32], event: EventNumber) -> usize
-    requires { RowWithin cfg.now event.0 }
-    ensures { result ≡ cycle_of cfg.now event.0 }
-{
-    count_within(cfg, event, CYCLE)
-}
-
-// "10, 11, 12 | C confirm, H heal, A age", and whether "13 | indicator" is 1
-pub fn limits_within(cfg: &[i32], event: EventNumber) -> Limits
-    requires { RowWithin cfg.now event.0 }
-    ensures { limits_is result ≡ limits_of cfg.now event.0 }
-{
-    Limits {
-        confirm: count_within(cfg, event, CONFIRM),
-        heal: count_within(cfg, event, HEAL),
-        age: count_within(cfg, event, AGE),
-        indicator: count_within(cfg, event, INDICATOR) == 1,
-    }
-}
 
 const PART_WIDTH: usize = IN_FRONT + ROW_WIDTH;
 
@@ -309,6 +248,30 @@ pub fn part_of<'a>(cfg: &'a [i32], event: EventNumber) -> &'a [i32]
 {
     let at = ROW_WIDTH * event.0;
     &cfg[at..at + PART_WIDTH]
+}
+
+// "1 | trouble code"
+pub fn code_within(cfg: &[i32], event: EventNumber) -> usize
+    requires { RowWithin cfg.now event.0 }
+    ensures { result ≡ code_of cfg.now event.0 }
+{
+    code_of(part_of(cfg, event), EventNumber(0))
+}
+
+// "3 | cycle"
+pub fn cycle_within(cfg: &[i32], event: EventNumber) -> usize
+    requires { RowWithin cfg.now event.0 }
+    ensures { result ≡ cycle_of cfg.now event.0 }
+{
+    cycle_of(part_of(cfg, event), EventNumber(0))
+}
+
+// "10, 11, 12 | C confirm, H heal, A age", and whether "13 | indicator" is 1
+pub fn limits_within(cfg: &[i32], event: EventNumber) -> Limits
+    requires { RowWithin cfg.now event.0 }
+    ensures { limits_is result ≡ limits_of cfg.now event.0 }
+{
+    limits_of(part_of(cfg, event), EventNumber(0))
 }
 
 // ---- judging
@@ -326,117 +289,128 @@ fn front_in_range(cfg: &[i32], index: usize, lo: i32, hi: i32) -> bool
     between(number_at(cfg, index), lo, hi)
 }
 
-fn in_range(cfg: &[i32], event: EventNumber, k: usize, lo: i32, hi: i32) -> bool
-    requires { Within cfg.now event.0 k }
-    ensures { result ≡ between lo hi (column k cfg.now event.0) }
-{
-    between(number_within(cfg, event, k), lo, hi)
+// An event whose row lies within the configuration: no read of it is tested.
+#[derive(Clone, Copy)]
+struct RowAt<'a> {
+    cfg: &'a [i32],
+    event: EventNumber,
+    ghost inside: { RowWithin cfg.now event.0 },
 }
 
-fn is_zero(cfg: &[i32], event: EventNumber, k: usize) -> bool
-    requires { Within cfg.now event.0 k }
-    ensures { result ≡ eq_z (column k cfg.now event.0) (pos 0) }
-{
-    number_within(cfg, event, k) == 0
-}
-
-// The numbers 5 and 6 of a row of kind 0.
-fn unbounded(cfg: &[i32], event: EventNumber) -> bool
-    requires { RowWithin cfg.now event.0 }
-    ensures { result
-        ≡ holds
-        (eq_z (column 5 cfg.now event.0) (pos 0) ∷ eq_z (column 6 cfg.now event.0) (pos 0)
-        ∷ []) }
-{
-    is_zero(cfg, event, P) & is_zero(cfg, event, Q)
-}
-
-// The same of kind 2.
-fn bounded(cfg: &[i32], event: EventNumber) -> bool
-    requires { RowWithin cfg.now event.0 }
-    ensures { result
-        ≡ holds
-        (between (negsuc 29999) (negsuc 0) (column 5 cfg.now event.0)
-        ∷ between (pos 1) (pos 30000) (column 6 cfg.now event.0) ∷ []) }
-{
-    in_range(cfg, event, P, -30_000, -1) & in_range(cfg, event, Q, 1, 30_000)
-}
-
-// The numbers 7 to 9 of a row of kind 0 or 2.
-fn stepless(cfg: &[i32], event: EventNumber) -> bool
-    requires { RowWithin cfg.now event.0 }
-    ensures { result
-        ≡ holds
-        (eq_z (column 7 cfg.now event.0) (pos 0) ∷ eq_z (column 8 cfg.now event.0) (pos 0)
-        ∷ eq_z (column 9 cfg.now event.0) (pos 0) ∷ []) }
-{
-    is_zero(cfg, event, UP) & is_zero(cfg, event, DOWN) & is_zero(cfg, event, JUMPS)
-}
-
-// The numbers 5 to 9 of a row of kind 1.
-fn counter_ok(cfg: &[i32], event: EventNumber) -> bool
-    requires { RowWithin cfg.now event.0 }
-    ensures { result ≡ holds (of_kind (pos 1) cfg.now event.0) }
-{
-    in_range(cfg, event, P, -30_000, -1)
-        & in_range(cfg, event, Q, 1, 30_000)
-        & in_range(cfg, event, UP, 1, 30_000)
-        & in_range(cfg, event, DOWN, 1, 30_000)
-        & in_range(cfg, event, JUMPS, 0, 3)
-}
-
-// The numbers 5 to 9 of a row; one of a kind that the table does not have is judged as kind 2, and fails by its kind.
-// So the kind is compared as it is, a negative one too.
-fn of_kind_ok(cfg: &[i32], event: EventNumber) -> bool
-    requires { RowWithin cfg.now event.0 }
-    ensures { result
-        ≡ holds (of_kind (column 4 cfg.now event.0) cfg.now event.0) }
-{
-    let kind = number_within(cfg, event, KIND);
-    if kind == KIND_COUNTER {
-        return counter_ok(cfg, event);
+impl<'a> RowAt<'a> {
+    // Number k of the row.
+    fn number(self, k: Column) -> i32
+        ensures { result ≡ column (number_of k) self.entry.cfg.now self.entry.event.0 }
+    {
+        let event = self.event;
+        self.cfg[IN_FRONT + ROW_WIDTH * event.0 + (k as usize - 1)]
     }
-    let no_steps = stepless(cfg, event);
-    if kind == KIND_INTERNAL {
-        return unbounded(cfg, event) & no_steps;
+
+    fn in_range(self, k: Column, lo: i32, hi: i32) -> bool
+        ensures { result ≡ between lo hi (column (number_of k) self.entry.cfg.now self.entry.event.0) }
+    {
+        between(self.number(k), lo, hi)
     }
-    bounded(cfg, event) & no_steps
-}
 
-// The table's column "allowed", a line for each number of the row, but one for those that go by the kind.
-fn row_ok(cfg: &[i32], event: EventNumber) -> bool
-    requires { RowWithin cfg.now event.0 }
-    ensures { result ≡ row_ok cfg.now event.0 }
-{
-    in_range(cfg, event, TROUBLE_CODE, 1, 16_777_214)
-        & in_range(cfg, event, PRIORITY, 1, 255)
-        & in_range(cfg, event, CYCLE, 0, LAST_CYCLE)
-        & in_range(cfg, event, KIND, 0, LAST_KIND)
-        & of_kind_ok(cfg, event)
-        & in_range(cfg, event, CONFIRM, 1, 255)
-        & in_range(cfg, event, HEAL, 1, 255)
-        & in_range(cfg, event, AGE, 1, 255)
-        & in_range(cfg, event, INDICATOR, 0, 1)
-        & in_range(cfg, event, NEEDED, 0, 2_147_483_647)
-}
-
-// "strictly rising from event to event": the event's trouble code is above that of the event before.
-fn code_rises(cfg: &[i32], event: EventNumber) -> bool
-    requires { RowWithin cfg.now event.0 }
-    ensures { result ≡ rises_here cfg.now event.0 }
-{
-    if event.0 == 0 {
-        return true;
+    fn is_zero(self, k: Column) -> bool
+        ensures { result ≡ eq_z (column (number_of k) self.entry.cfg.now self.entry.event.0) (pos 0) }
+    {
+        self.number(k) == 0
     }
-    let before = number_within(cfg, EventNumber(event.0 - 1), TROUBLE_CODE);
-    before < number_within(cfg, event, TROUBLE_CODE)
-}
 
-fn row_fits(cfg: &[i32], event: EventNumber) -> bool
-    requires { RowWithin cfg.now event.0 }
-    ensures { result ≡ row_fits cfg.now event.0 }
-{
-    code_rises(cfg, event) & row_ok(cfg, event)
+    // The numbers 5 and 6 of a row of kind 0.
+    fn unbounded(self) -> bool
+        ensures { result
+            ≡ holds
+            (eq_z (column 5 self.entry.cfg.now self.entry.event.0) (pos 0) ∷ eq_z (column 6 self.entry.cfg.now self.entry.event.0) (pos 0)
+            ∷ []) }
+    {
+        self.is_zero(Column::P) & self.is_zero(Column::Q)
+    }
+
+    // The same of kind 2.
+    fn bounded(self) -> bool
+        ensures { result
+            ≡ holds
+            (between (negsuc 29999) (negsuc 0) (column 5 self.entry.cfg.now self.entry.event.0)
+            ∷ between (pos 1) (pos 30000) (column 6 self.entry.cfg.now self.entry.event.0) ∷ []) }
+    {
+        self.in_range(Column::P, -30_000, -1) & self.in_range(Column::Q, 1, 30_000)
+    }
+
+    // The numbers 7 to 9 of a row of kind 0 or 2.
+    fn stepless(self) -> bool
+        ensures { result
+            ≡ holds
+            (eq_z (column 7 self.entry.cfg.now self.entry.event.0) (pos 0) ∷ eq_z (column 8 self.entry.cfg.now self.entry.event.0) (pos 0)
+            ∷ eq_z (column 9 self.entry.cfg.now self.entry.event.0) (pos 0) ∷ []) }
+    {
+        self.is_zero(Column::Up) & self.is_zero(Column::Down) & self.is_zero(Column::Jumps)
+    }
+
+    // The numbers 5 to 9 of a row of kind 1.
+    fn counter_ok(self) -> bool
+        ensures { result ≡ holds (of_kind (pos 1) self.entry.cfg.now self.entry.event.0) }
+    {
+        self.in_range(Column::P, -30_000, -1)
+            & self.in_range(Column::Q, 1, 30_000)
+            & self.in_range(Column::Up, 1, 30_000)
+            & self.in_range(Column::Down, 1, 30_000)
+            & self.in_range(Column::Jumps, 0, 3)
+    }
+
+    // The numbers 5 to 9 of a row; one of a kind that the table does not have is judged as kind 2, and fails by its
+    // kind. So the kind is compared as it is, a negative one too.
+    fn of_kind_ok(self) -> bool
+        ensures { result
+            ≡ holds (of_kind (column 4 self.entry.cfg.now self.entry.event.0) self.entry.cfg.now self.entry.event.0) }
+    {
+        let kind = self.number(Column::Kind);
+        if kind == KIND_COUNTER {
+            return self.counter_ok();
+        }
+        let no_steps = self.stepless();
+        if kind == KIND_INTERNAL {
+            return self.unbounded() & no_steps;
+        }
+        self.bounded() & no_steps
+    }
+
+    // The table's column "allowed", a line for each number of the row, but one for those that go by the kind.
+    fn row_ok(self) -> bool
+        ensures { result ≡ row_ok self.entry.cfg.now self.entry.event.0 }
+    {
+        self.in_range(Column::TroubleCode, 1, 16_777_214)
+            & self.in_range(Column::Priority, 1, 255)
+            & self.in_range(Column::Cycle, 0, LAST_CYCLE)
+            & self.in_range(Column::Kind, 0, LAST_KIND)
+            & self.of_kind_ok()
+            & self.in_range(Column::Confirm, 1, 255)
+            & self.in_range(Column::Heal, 1, 255)
+            & self.in_range(Column::Age, 1, 255)
+            & self.in_range(Column::Indicator, 0, 1)
+            & self.in_range(Column::Needed, 0, 2_147_483_647)
+    }
+
+    // "strictly rising from event to event": the event's trouble code is above that of the event before.
+    fn code_rises(self) -> bool
+        ensures { result ≡ rises_here self.entry.cfg.now self.entry.event.0 }
+    {
+        if self.event.0 == 0 {
+            return true;
+        }
+        let before = RowAt {
+            cfg: self.cfg,
+            event: EventNumber(self.event.0 - 1),
+        };
+        before.number(Column::TroubleCode) < self.number(Column::TroubleCode)
+    }
+
+    fn fits(self) -> bool
+        ensures { result ≡ row_fits self.entry.cfg.now self.entry.event.0 }
+    {
+        self.code_rises() & self.row_ok()
+    }
 }
 
 fn rows_fit(cfg: &[i32], n: usize) -> bool
@@ -445,7 +419,11 @@ fn rows_fit(cfg: &[i32], n: usize) -> bool
 {
     let mut fit = true;
     for event in 0..n {
-        fit = fit & row_fits(cfg, EventNumber(event));
+        let row = RowAt {
+            cfg,
+            event: EventNumber(event),
+        };
+        fit = fit & row.fits();
     }
     fit
 }
@@ -468,13 +446,6 @@ pub fn config_ok(cfg: &[i32]) -> bool
 }
 
 // ---- the search of a trouble code
-
-// The event that was found, or nothing.
-#[derive(Clone, Copy)]
-pub enum CodeSearch {
-    At(EventNumber),
-    Nothing,
-}
 
 // The rows where the search goes on, from low to high, both among them.
 #[derive(Clone, Copy)]
@@ -518,7 +489,7 @@ fn has_code(cfg: &[i32], event: EventNumber, code: u32) -> bool
 
 // The first event with this trouble code. Trouble codes are "1 to 16,777,214": 0, FFFFFFh and anything above find
 // nothing.
-pub fn find_code(cfg: &[i32], code: u32) -> CodeSearch
+pub fn find_code(cfg: &[i32], code: u32) -> Option<EventNumber>
     requires { config_ok cfg.now ≡ true }
     ensures { search_is result ≡ first_with_code cfg.now code }
 {
@@ -528,8 +499,8 @@ pub fn find_code(cfg: &[i32], code: u32) -> CodeSearch
         range = halved(cfg, range, code);
     }
     if has_code(cfg, EventNumber(range.low), code) {
-        CodeSearch::At(EventNumber(range.low))
+        Some(EventNumber(range.low))
     } else {
-        CodeSearch::Nothing
+        None
     }
 }

@@ -11,15 +11,11 @@ ghost use Rattle.manual.specs.Counter.{share, debounced_counter, internal_counte
 use manual::EventNumber;
 use status::Status;
 
-// How far a number lies from 0. The least of 32 bits has no counterpart above 0 there, but in 64.
+// How far a number lies from 0, in 64 bits.
 fn magnitude(z: i32) -> u64
     ensures { result ≡ nat_abs z }
 {
-    let wide = z as i64;
-    if wide < 0 {
-        return (-wide) as u64;
-    }
-    wide as u64
+    u64::from(z.unsigned_abs())
 }
 
 // "Time kind: the same with |D| − 1 in place of |D|, and 0 when D is 0."
@@ -30,7 +26,7 @@ fn distance(kind: usize, d: i32) -> u64
     if kind != config::TIME {
         return size;
     }
-    if size == 0 { 0 } else { size - 1 }
+    size.saturating_sub(1)
 }
 
 // The part of a whole that a distance has of its end, "rounded down". No accepted row of kinds 1 and 2 has an end of 0.
@@ -38,11 +34,7 @@ fn share(whole: u64, distance: u64, end: i32) -> u64
     requires { (whole ≤ 128) × (distance ≤ 2147483648) }
     ensures { result ≡ share whole distance end }
 {
-    let size = magnitude(end);
-    if size == 0 {
-        return 0;
-    }
-    whole * distance / size
+    (whole * distance).checked_div(magnitude(end)).unwrap_or(0)
 }
 
 // "Counter kind: 127·D/Q rounded down for D ≥ 0, and minus (128·|D|/|P| rounded down) below 0."
@@ -75,10 +67,7 @@ fn internal(status: Status) -> i64
 fn number_of(debounce: &[i32], event: EventNumber) -> i32
     ensures { result ≡ get_or debounce.now event.0 (pos 0) }
 {
-    if event.0 < debounce.len() {
-        return status::read_number(debounce, event);
-    }
-    0
+    debounce.get(event.0).copied().unwrap_or(0)
 }
 
 // The event's fault detection counter, from its row, D and status. Any row, number and record will do: in 64 bits

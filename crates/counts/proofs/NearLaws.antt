@@ -1,5 +1,5 @@
 -- Laws of specs/Near.antt, in its order.
-use mathlib.Core.Path.{◌≡◌}
+use mathlib.Core.Path.{◌≡◌, sym, ◌∙◌}
 use mathlib.Core.Bool.{true, false}
 use mathlib.Core.List.{List}
 use Prim.Native.Nat.{ℕ, suc, ◌+◌, ◌-◌, ◌≤◌, ◌<◌}
@@ -12,6 +12,7 @@ use Rattle.manual.specs.Configuration.{most_events}
 use Rattle.manual.specs.Counts.{of_store, rise_of, numbers, raised, most_count, past, counts_fit}
 use Rattle.manual.proofs.WordsLaws.{all_map, none_pass}
 use Rattle.manual.proofs.CountsLaws.{AtMost, store_once, not_past}
+use Rattle.counts.proofs.FiveLaws.{list_any_is}
 use Rattle.counts.specs.Near.{AreFive, some_near, MayRise}
 
 pub are_five : (counts : List ℕ) → counts_fit counts ≡ true → AreFive counts
@@ -24,7 +25,8 @@ far_from_past n rise counts q p h =
     not_past n rise counts p
     (all_map (λ k. ltb (most_count - most_events) k ≡ false) (λ k. k + n ≤ most_count)
     (λ k f. omega (arith, q, ltb-false (most_count - most_events) k f)) counts
-    (none_pass (λ k. ltb (most_count - most_events) k) counts h))
+    (none_pass (λ k. ltb (most_count - most_events) k) counts
+    (sym (list_any_is (λ k. ltb (most_count - most_events) k) counts) ∙ h)))
 
 -- ---- a rise, and one store more
 

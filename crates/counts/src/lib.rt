@@ -2,6 +2,7 @@
 #![tactic(auto)]
 
 ghost use Rattle.std.specs.Prelude.{◌≡◌, false, List, [], ◌∷◌, ℕ, ◌+◌, length, ltb};
+ghost use Rattle.std.specs.List.{list_any, zip};
 ghost use Rattle.manual.specs.Memory.{Entry};
 ghost use Rattle.manual.specs.Counts.{of_store, rise_of, numbers, raised, most_count, past};
 ghost use Rattle.manual.specs.Counts.{counts_fit, no_counts, present_counts};
@@ -9,23 +10,22 @@ ghost use Rattle.counts.specs.Near.{AreFive, some_near, MayRise};
 
 use manual::{Rise, StoreAnswer};
 
-// "each 32 bits": "4,294,967,295"
-const MOST_COUNT: u32 = 4_294_967_295;
-
-// The greatest count that is not near its limit: each of the five rises at most once an event.
-const FAR: u32 = MOST_COUNT - manual::MOST_EVENTS as u32;
+// The greatest count that is not near its limit, "4,294,967,295": each of the five rises at most once an event.
+const FAR: u32 = u32::MAX - manual::MOST_EVENTS as u32;
 
 // No happening.
+const NOTHING: Rise = Rise {
+    admitted: 0,
+    pushed_out: 0,
+    aged: 0,
+    cleared: 0,
+    not_stored: 0,
+};
+
 pub fn no_rise() -> Rise
     ensures { numbers result ≡ no_counts }
 {
-    Rise {
-        admitted: 0,
-        pushed_out: 0,
-        aged: 0,
-        cleared: 0,
-        not_stored: 0,
-    }
+    NOTHING
 }
 
 // So many entries aged, at a stop.
@@ -33,11 +33,8 @@ pub fn aged_rise(gone: u32) -> Rise
     ensures { numbers result ≡ 0 ∷ 0 ∷ gone ∷ 0 ∷ 0 ∷ [] }
 {
     Rise {
-        admitted: 0,
-        pushed_out: 0,
         aged: gone,
-        cleared: 0,
-        not_stored: 0,
+        ..NOTHING
     }
 }
 
@@ -46,24 +43,8 @@ pub fn cleared_rise(gone: u32) -> Rise
     ensures { numbers result ≡ 0 ∷ 0 ∷ 0 ∷ gone ∷ 0 ∷ [] }
 {
     Rise {
-        admitted: 0,
-        pushed_out: 0,
-        aged: 0,
         cleared: gone,
-        not_stored: 0,
-    }
-}
-
-// So many entries admitted and pushed out, and failures not stored, where memory is told.
-fn store_rise(admitted: u32, pushed_out: u32, not_stored: u32) -> Rise
-    ensures { numbers result ≡ admitted ∷ pushed_out ∷ 0 ∷ 0 ∷ not_stored ∷ [] }
-{
-    Rise {
-        admitted,
-        pushed_out,
-        aged: 0,
-        cleared: 0,
-        not_stored,
+        ..NOTHING
     }
 }
 
@@ -72,11 +53,21 @@ pub fn rise_of(did: StoreAnswer) -> Rise
     ensures { (e : ℕ) → numbers result ≡ rise_of (of_store e did) }
 {
     match did {
-        StoreAnswer::Untold => store_rise(0, 0, 0),
-        StoreAnswer::Renewed => store_rise(0, 0, 0),
-        StoreAnswer::Added => store_rise(1, 0, 0),
-        StoreAnswer::Displaced(_) => store_rise(1, 1, 0),
-        StoreAnswer::NotStored => store_rise(0, 0, 1),
+        StoreAnswer::Untold => NOTHING,
+        StoreAnswer::Renewed => NOTHING,
+        StoreAnswer::Added => Rise {
+            admitted: 1,
+            ..NOTHING
+        },
+        StoreAnswer::Displaced(_) => Rise {
+            admitted: 1,
+            pushed_out: 1,
+            ..NOTHING
+        },
+        StoreAnswer::NotStored => Rise {
+            not_stored: 1,
+            ..NOTHING
+        },
     }
 }
 
@@ -123,16 +114,25 @@ fn five_of(counts: &[u32]) -> Rise
     }
 }
 
+// The five numbers in their order.
+fn in_order(five: Rise) -> [u32; manual::COUNTS]
+    ensures { result ≡ numbers five }
+{
+    [
+        five.admitted,
+        five.pushed_out,
+        five.aged,
+        five.cleared,
+        five.not_stored,
+    ]
+}
+
 // Five numbers in place of the counts.
 fn set_all(counts: &mut [u32], five: Rise)
     requires { AreFive counts.old }
     ensures { counts.new ≡ numbers five }
 {
-    counts[0] = five.admitted;
-    counts[1] = five.pushed_out;
-    counts[2] = five.aged;
-    counts[3] = five.cleared;
-    counts[4] = five.not_stored;
+    counts.copy_from_slice(&in_order(five));
 }
 
 // Whether some count lies less than 512 below its limit. Where none does, no call is refused for a count.
@@ -140,19 +140,16 @@ pub fn some_near(counts: &[u32]) -> bool
     requires { AreFive counts.now }
     ensures { result ≡ some_near counts.now }
 {
-    let five = five_of(counts);
-    (FAR < five.admitted)
-        | (FAR < five.pushed_out)
-        | (FAR < five.aged)
-        | (FAR < five.cleared)
-        | (FAR < five.not_stored)
+    counts.iter().any(|count| FAR < *count)
 }
 
-// Whether the rise of one count would carry it past its limit.
-fn is_past(rise: u32, count: u32) -> bool
-    ensures { result ≡ ltb most_count (rise + count) }
+// Whether some count and its rise are more than 32 bits hold.
+fn carries_past(rise: &[u32], counts: &[u32]) -> bool
+    ensures { result ≡ list_any (λ pair. ltb most_count (pair.0 + pair.1)) (zip rise.now counts.now) }
 {
-    (MOST_COUNT as u64) < rise as u64 + count as u64
+    rise.iter()
+        .zip(counts)
+        .any(|(more, count)| more.checked_add(*count).is_none())
 }
 
 // "whose whole rise would carry any count past 4,294,967,295"
@@ -160,12 +157,7 @@ pub fn some_past(counts: &[u32], rise: Rise) -> bool
     requires { AreFive counts.now }
     ensures { result ≡ past (raised (numbers rise) counts.now) }
 {
-    let five = five_of(counts);
-    is_past(rise.admitted, five.admitted)
-        | is_past(rise.pushed_out, five.pushed_out)
-        | is_past(rise.aged, five.aged)
-        | is_past(rise.cleared, five.cleared)
-        | is_past(rise.not_stored, five.not_stored)
+    carries_past(&in_order(rise), counts)
 }
 
 // The counts rise.
@@ -190,5 +182,11 @@ pub fn set_present(counts: &mut [u32], entries: u32)
     requires { AreFive counts.old }
     ensures { (xs : List Entry) → length xs ≡ entries → counts.new ≡ present_counts xs }
 {
-    set_all(counts, store_rise(entries, 0, 0));
+    set_all(
+        counts,
+        Rise {
+            admitted: entries,
+            ..NOTHING
+        },
+    );
 }

@@ -1,25 +1,23 @@
 -- Laws of the start and the stop of a cycle: what a passed judgement gives.
-use mathlib.Core.Path.{◌≡◌, refl}
+use mathlib.Core.Path.{◌≡◌, refl, sym, ap, ◌∙◌}
 use mathlib.Core.Bool.{Bool, true}
-use mathlib.Core.List.{List}
-use Prim.Native.Nat.{ℕ, ◌+◌, ◌*◌, ◌≤◌, ◌<◌}
+use Prim.Native.Nat.{ℕ, ◌<◌}
 use native.Mathlib.Omega.{arith}
 use lib.Dec.{ltb}
-use lib.ListN.{length}
 use borrow.Author.Tests.{ltb-false, not-false}
+use Rattle.history.specs.History.{start}
+use Rattle.manual.specs.declared.Refusal.{Refusal}
 use Rattle.manual.specs.Words.{for_below}
 use Rattle.manual.specs.Configuration.{Configuration, events, config_ok}
-use Rattle.manual.specs.State.{State, record_width}
+use Rattle.manual.specs.State.{State, runs, with_cycle}
 use Rattle.manual.specs.WellFormed.{well_formed}
-use Rattle.manual.specs.OneEvent.{stops}
-use Rattle.manual.specs.Answers.{first_that_applies}
-use Rattle.manual.specs.Calls.{begins, of_cycle}
-use Rattle.manual.proofs.AnswersLaws.{none_applies, three_passed}
+use Rattle.manual.specs.OneEvent.{happens, stops, for_those}
+use Rattle.manual.specs.Answers.{alone, refused, done, first_that_applies, number_of}
+use Rattle.manual.specs.Calls.{begins, of_cycle, start_rules, start_cycle}
+use Rattle.manual.proofs.AnswersLaws.{none_applies, three_passed, goes_through, stops_with}
 use Rattle.manual.proofs.ConfigurationLaws.{config_tells}
 use Rattle.manual.proofs.WellFormedLaws.{state_tells}
 use Rattle.manual.proofs.StaysWellFormed.{stops_keep}
-use Rattle.config.specs.Rows.{RowWithin}
-use Rattle.config.proofs.PartLaws.{row_within}
 use Rattle.judgement.specs.Fits.{RecordsFor}
 use Rattle.one_event.specs.Ready.{EventFits}
 use Rattle.cycles.specs.Cycles.{four_five, MayStop}
@@ -40,21 +38,38 @@ module _ (cfg : Configuration) (s : State) (c : ℕ) (fits wrong : Bool)
   pub is_fit : fits ≡ true
   is_fit = (three_passed fits (well_formed cfg s) (none_applies _ z refl 1)).0
 
-  pub may_start : RecordsFor cfg s.records × (c < 4)
-  may_start = (
-    record { accepted = may_stop.configured; as_long = (state_tells cfg s may_stop.formed).lengths.records },
-    may_stop.is_cycle,
-  )
+-- ---- the call that starts a cycle
 
-pub record_within : (cfg : Configuration) (records records' : List ℕ) (e : ℕ) → RecordsFor cfg records
-    → length records' ≡ length records → e < events cfg
-    → RowWithin cfg e × (record_width * e + record_width ≤ length records')
-record_within cfg records records' e r l h =
-    let long = r.as_long in (row_within cfg e r.accepted h, omega arith)
+module _ (cfg : Configuration) (s : State) (c : ℕ) where
+  -- the judge reads the state as it is lent
+  pub start_read : {found : State} → found ≡ s → {wrong : Bool} → wrong ≡ runs s.board c → {number : ℕ}
+      → number ≡ first_that_applies (begins cfg found true (four_five (ltb 3 c) wrong))
+      → number ≡ first_that_applies (start_rules cfg c s)
+  unfolding start_rules
+  start_read same w e = e ∙ (λ i. first_that_applies (begins cfg (same i) true (four_five (ltb 3 c) (w i))))
+
+  pub start_refused : (r : Refusal) → number_of r ≡ first_that_applies (start_rules cfg c s)
+      → refused (number_of r) alone s ≡ start_cycle cfg c alone s
+  unfolding start_cycle
+  start_refused r e = stops_with _ _ _ _ r e
+
+  module _ (go : 0 ≡ first_that_applies (start_rules cfg c s)) where
+    pub may_start : RecordsFor cfg s.records × (c < 4)
+    unfolding start_rules
+    may_start =
+        let m = may_stop cfg s c true (runs s.board c) (sym go) in
+        (record { accepted = m.configured; as_long = (state_tells cfg s m.formed).lengths.records }, m.is_cycle)
+
+    pub start_done : {t : State} → t ≡ with_cycle c true (for_those cfg (of_cycle cfg c) (happens cfg start) s)
+        → done alone t ≡ start_cycle cfg c alone s
+    unfolding start_cycle
+    start_done p = ap (done alone) p ∙ sym (goes_through _ _ _ _ (sym go))
+
+-- ---- the events
 
 pub stop_fits : (cfg : Configuration) (s : State) (c : ℕ) → MayStop cfg s c → (i : ℕ) {t : State} → i < events cfg
     → t ≡ for_below i (turn (of_cycle cfg c) (stops cfg)) s
-    → EventFits cfg t.records t.debounce t.memory i
+    → EventFits cfg t i
 stop_fits cfg s c m i h q =
     (ready_at_turn (of_cycle cfg c) (stops cfg) cfg s (stops_keep cfg (config_tells cfg m.configured) c s)
     m.configured m.formed i h q).event

@@ -11,24 +11,23 @@ use borrow.Author.Tests.{not-false, ltb-false}
 use Rattle.manual.specs.declared.Refusal.{Refusal}
 use Rattle.manual.specs.Configuration.{Configuration, events, entry_frames, config_ok, most_places}
 use Rattle.manual.specs.State.{State, runs}
-use Rattle.manual.specs.Memory.{entry_count}
+use Rattle.manual.specs.Memory.{entry_count, memory_of}
 use Rattle.manual.specs.WellFormed.{entries, well_formed}
-use Rattle.manual.specs.Answers.{lent_counts, done, Rule, ◌if◌, first_that_applies, number_of}
-use Rattle.manual.specs.Counts.{count_of, rise_of, raised, past, carries_past, with_rise, counts_fit}
-use Rattle.manual.specs.Calls.{begins, stop_log, stop_rules}
-use Rattle.manual.proofs.AnswersLaws.{none_applies, three_passed}
+use Rattle.manual.specs.Answers.{lent_counts, refused, done, Rule, ◌if◌, first_that_applies, number_of}
+use Rattle.manual.specs.Counts.{count_of, rise_of, raised, past, carries_past, counts_fit}
+use Rattle.manual.specs.Calls.{begins, stop_log, stop_rules, stop_cycle}
+use Rattle.manual.proofs.AnswersLaws.{none_applies, three_passed, goes_through, stops_with}
 use Rattle.manual.proofs.ConfigurationLaws.{config_tells}
 use Rattle.manual.proofs.WellFormedLaws.{state_tells}
+use Rattle.manual.proofs.SoundStates.{sound}
+use Rattle.manual.proofs.StaysWellFormed.{those_going, stops_keep}
 use Rattle.manual.proofs.AccountsLaws.{stop_accounts}
 use Rattle.manual.proofs.CountsLaws.{all_accounts, stop_most}
 use Rattle.manual.proofs.RiseIsTheEntriesGone.{stop_rise}
 use Rattle.memory.proofs.PlacesLaws.{entries_are_count}
 use Rattle.counts.specs.Near.{AreFive, some_near}
 use Rattle.counts.proofs.NearLaws.{are_five, far_from_past}
-use Rattle.judgement.specs.declared.Check.{Check}
-use Rattle.judgement.specs.declared.Check.TheVariants.{Go, Stop}
-use Rattle.judgement.specs.Checks.{check_number}
-use Rattle.judgement.proofs.JudgedLaws.{passed_by}
+use Rattle.std.specs.Prelude.{Ok, Err}
 use Rattle.rehearsal.proofs.LastLaws.{last_judged, stopped_before}
 use Rattle.cycles.specs.Cycles.{four_five, MayStop, stopped}
 use Rattle.cycles.proofs.CyclesLaws.{may_stop, is_fit}
@@ -36,9 +35,18 @@ use Rattle.cycles.proofs.CyclesLaws.{may_stop, is_fit}
 module _ (cfg : Configuration) (s : State) (c : ℕ) (m : MayStop cfg s c) where
   -- ---- the entries that are gone
 
-  -- there is a byte for their number, and they are few
-  pub counted : 0 < length s.memory
-  counted = omega (arith, (state_tells cfg s m.formed).lengths.memory)
+  -- there is a byte for their number, before and after, and they are few
+  pub counted : {found : State} → found ≡ s → 0 < length found.memory
+  counted same =
+      let long = ap (λ (u : State). length u.memory) same in
+      omega (arith, long, (state_tells cfg s m.formed).lengths.memory)
+
+  pub still_counted : {found : State} → found ≡ stopped cfg c s → 0 < length found.memory
+  unfolding memory_of
+  still_counted same =
+      let long = ap (λ (u : State). length u.memory) same in
+      let going = those_going cfg (stops_keep cfg (config_tells cfg m.configured) c s) (sound cfg s m.formed) in
+      omega (arith, long, ap length going.sound.memory.block)
 
   pub few : entry_count s.memory ≤ most_places
   few = omega (arith, (state_tells cfg s m.formed).few, (config_tells cfg m.configured).M_most)
@@ -91,50 +99,64 @@ module _ (cfg : Configuration) (s : State) (c : ℕ) (counts : List ℕ) where
   last = (12 if carries_past (stop_log cfg c s) counts) ∷ []
 
   module _ {fits wrong : Bool} (f : fits ≡ counts_fit counts) (w : wrong ≡ not (runs s.board c)) where
-    as_found : {number : ℕ} → number ≡ first_that_applies (begins cfg s fits (four_five (ltb 3 c) wrong))
+    as_judged : {number : ℕ} → number ≡ first_that_applies (begins cfg s fits (four_five (ltb 3 c) wrong))
         → number ≡ first_that_applies before
-    as_found e = e ∙ (λ i. first_that_applies (begins cfg s (f i) (four_five (ltb 3 c) (w i))))
+    as_judged e = e ∙ (λ i. first_that_applies (begins cfg s (f i) (four_five (ltb 3 c) (w i))))
 
-    module _ {check : Check}
-        (e : check_number check ≡ first_that_applies (begins cfg s fits (four_five (ltb 3 c) wrong))) where
-      pub may_be_limited : check ≡ Go → MayStop cfg s c × AreFive counts
-      may_be_limited g =
-          let z = passed_by before (as_found e) g in
+    module _ (go : 0 ≡ first_that_applies (begins cfg s fits (four_five (ltb 3 c) wrong))) where
+      pub may_be_limited : MayStop cfg s c × AreFive counts
+      may_be_limited =
+          let z = sym (as_judged go) in
           (may_stop cfg s c (counts_fit counts) _ z, are_five counts (is_fit cfg s c (counts_fit counts) _ z))
 
-      pub then_limit : check ≡ Go → {past : Bool} → past ≡ carries_past (stop_log cfg c s) counts → {number : ℕ}
+      pub then_limit : {past : Bool} → past ≡ carries_past (stop_log cfg c s) counts → {number : ℕ}
           → number ≡ first_that_applies ((12 if past) ∷ [])
           → number ≡ first_that_applies (stop_rules cfg c (lent_counts counts) s)
       unfolding stop_rules
-      then_limit g q n =
-          last_judged before last refl (as_found e) g (n ∙ ap (λ (p : Bool). first_that_applies ((12 if p) ∷ [])) q)
+      then_limit q n =
+          last_judged before last refl {check = Ok tt} (as_judged go) refl
+          (n ∙ ap (λ (p : Bool). first_that_applies ((12 if p) ∷ [])) q)
 
-      pub not_so_far : (r : Refusal) → check ≡ Stop r
-          → number_of r ≡ first_that_applies (stop_rules cfg c (lent_counts counts) s)
-      unfolding stop_rules
-      not_so_far r g = stopped_before before last refl (as_found e) r g
+    pub not_so_far : (r : Refusal)
+        → number_of r ≡ first_that_applies (begins cfg s fits (four_five (ltb 3 c) wrong))
+        → number_of r ≡ first_that_applies (stop_rules cfg c (lent_counts counts) s)
+    unfolding stop_rules
+    not_so_far r e = stopped_before before last refl {check = Err r} (as_judged e) r refl
+
+  -- the judge reads the state as it is lent
+  pub stop_read : {found : State} → found ≡ s → {number : ℕ}
+      → number ≡ first_that_applies (stop_rules cfg c (lent_counts counts) found)
+      → number ≡ first_that_applies (stop_rules cfg c (lent_counts counts) s)
+  stop_read same e = e ∙ ap (λ (u : State). first_that_applies (stop_rules cfg c (lent_counts counts) u)) same
+
+  pub stop_refused : (r : Refusal) → number_of r ≡ first_that_applies (stop_rules cfg c (lent_counts counts) s)
+      → refused (number_of r) (lent_counts counts) s ≡ stop_cycle cfg c (lent_counts counts) s
+  unfolding stop_cycle
+  stop_refused r e = stops_with _ _ _ _ r e
 
 -- ---- what a stop that nothing refuses may count on, and what it leaves
 
 module _ (cfg : Configuration) (s : State) (c : ℕ) (counts : List ℕ)
-    (z : first_that_applies (stop_rules cfg c (lent_counts counts) s) ≡ 0) where
+    (go : 0 ≡ first_that_applies (stop_rules cfg c (lent_counts counts) s)) where
   pub accepted : MayStop cfg s c
   unfolding stop_rules
   accepted = record {
-    configured = not-false (config_ok cfg) (none_applies _ z refl 0);
-    formed = (three_passed (counts_fit counts) (well_formed cfg s) (none_applies _ z refl 1)).1;
-    is_cycle = let h = ltb-false 3 c (none_applies _ z refl 2) in omega arith;
+    configured = not-false (config_ok cfg) (none_applies _ (sym go) refl 0);
+    formed = (three_passed (counts_fit counts) (well_formed cfg s) (none_applies _ (sym go) refl 1)).1;
+    is_cycle = let h = ltb-false 3 c (none_applies _ (sym go) refl 2) in omega arith;
   }
 
   module _ {rise : List ℕ} (p : rise ≡ rise_of (stop_log cfg c s)) where
     pub may_raise : AreFive counts × (past (raised rise counts) ≡ false)
     unfolding stop_rules
     may_raise = (
-      are_five counts (three_passed (counts_fit counts) (well_formed cfg s) (none_applies _ z refl 1)).0,
-      ap (λ (l : List ℕ). past (raised l counts)) p ∙ none_applies _ z refl 4,
+      are_five counts (three_passed (counts_fit counts) (well_formed cfg s) (none_applies _ (sym go) refl 1)).0,
+      ap (λ (l : List ℕ). past (raised l counts)) p ∙ none_applies _ (sym go) refl 4,
     )
 
-    pub leaves_done : {t : State} → t ≡ stopped cfg c s → {after : List ℕ} → after ≡ raised rise counts
-        → done (lent_counts after) t ≡ done (with_rise (stop_log cfg c s) (lent_counts counts)) (stopped cfg c s)
-    leaves_done q r =
-        λ i. done (lent_counts ((r ∙ ap (λ (l : List ℕ). raised l counts) p) i)) (q i)
+    pub stop_done : {t : State} → t ≡ stopped cfg c s → {after : List ℕ} → after ≡ raised rise counts
+        → done (lent_counts after) t ≡ stop_cycle cfg c (lent_counts counts) s
+    unfolding stop_cycle
+    stop_done q r =
+        (λ i. done (lent_counts ((r ∙ ap (λ (l : List ℕ). raised l counts) p) i)) (q i))
+        ∙ sym (goes_through _ _ _ _ (sym go))

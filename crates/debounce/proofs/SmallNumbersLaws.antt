@@ -1,6 +1,7 @@
 -- Laws of signed numbers: how far from 0 they lie, what lies on the other side of 0, and that 32 bits hold a small one
 -- unchanged.
 use mathlib.Core.Path.{◌≡◌, refl, sym, ap, ◌∙◌}
+use mathlib.Core.Logic.{◌≢◌}
 use mathlib.Core.Bool.{Bool, true, false, cond}
 use Prim.Native.Nat.{ℕ, ◌+◌, ◌^◌, ◌≤◌, ◌<◌}
 use native.Mathlib.Omega.{arith}
@@ -10,7 +11,9 @@ use lib.Signed.{mag, le_z}
 use mir.Syntax.{w32}
 use mir.Val.{SFits, to_z, of_z}
 use mir.Facts.{to_z-of_z}
-use borrow.Author.Tests.{eq-eqb, eqb-true}
+use borrow.Author.Tests.{eq-eqb, ne_eqb, eqb-true}
+use Rattle.std.specs.Prelude.{int_lt}
+use Rattle.std.specs.Int.{int_min, int_max}
 use Rattle.manual.specs.Words.{eq_z, between, smaller, larger}
 use Rattle.manual.proofs.WordsLaws.{by, eq_z_true, between_from, between_to}
 use Rattle.manual.proofs.SignedLaws.{over, under, signed, add_is, neg_is, minus_is}
@@ -39,6 +42,21 @@ abs_sub a b = omega (arith, abs_add a (neg_ℤ b), abs_neg b)
 pub abs_smaller : (a b : ℤ) → nat_abs (smaller a b) ≤ nat_abs a + nat_abs b
 unfolding smaller
 abs_smaller a b = by (le_z a b) (λ z. nat_abs z ≤ nat_abs a + nat_abs b) (λ t. omega arith) (λ t. omega arith)
+
+-- the library's min and max are the manual's
+pub smaller_is : (a b : ℤ) → int_min a b ≡ smaller a b
+unfolding smaller
+smaller_is a b =
+    by (le_z a b) (λ z. int_min a b ≡ z)
+    (λ t. by (int_lt b a) (λ z. z ≡ a) (λ u. omega signed) (λ u. refl))
+    (λ t. by (int_lt b a) (λ z. z ≡ b) (λ u. refl) (λ u. omega signed))
+
+pub larger_is : (a b : ℤ) → int_max a b ≡ larger a b
+unfolding larger
+larger_is a b =
+    by (le_z a b) (λ z. int_max a b ≡ z)
+    (λ t. by (int_lt b a) (λ z. z ≡ b) (λ u. omega signed) (λ u. refl))
+    (λ t. by (int_lt b a) (λ z. z ≡ a) (λ u. refl) (λ u. omega signed))
 
 -- "start from D, or from 0 if …"
 pub abs_start : (b : Bool) (d : ℤ) → nat_abs (cond b (pos 0) d) ≤ nat_abs d
@@ -113,3 +131,10 @@ bits_same {a} {b} f g =
     (λ t. let e : a ≡ b = sym (to_z-of_z f) ∙ ap (to_z w32) (eqb-true (of_z w32 a) (of_z w32 b) t)
     ∙ to_z-of_z g in rw e (same_self b))
     (λ t. eq-eqb (of_z w32 a) (of_z w32 b) (ap (of_z w32) (eq_z_true a b t)))
+
+-- so a test of a number against a call's result says whether it is what the call ensures
+pub same_is : {a b w : ℤ} → SFits w32 a → b ≡ w → mag b < 2 ^ 31 → of_z w32 a ≡ of_z w32 b → eq_z a w ≡ true
+same_is {a} {b} f e h t = ap (eq_z a) (sym e) ∙ sym (bits_same f (record { sfits = h })) ∙ eq-eqb _ _ t
+
+pub other_is : {a b w : ℤ} → SFits w32 a → b ≡ w → mag b < 2 ^ 31 → of_z w32 a ≢ of_z w32 b → eq_z a w ≡ false
+other_is {a} {b} f e h n = ap (eq_z a) (sym e) ∙ sym (bits_same f (record { sfits = h })) ∙ ne_eqb _ _ n

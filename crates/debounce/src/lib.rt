@@ -11,8 +11,6 @@ ghost use Rattle.debounce.specs.Rows.{SmallRow, SmallReport, SmallTick};
 
 use manual::{EventNumber, Verdict};
 
-mod signed;
-
 // What debouncing reads of an event's row, the numbers 4 to 9: kind, P, Q, up, down and jumps.
 #[derive(Clone, Copy)]
 pub struct Row {
@@ -59,8 +57,8 @@ pub fn top(row: Row) -> i32
     requires { SmallRow row }
     ensures { result ≡ top (alone row) 0 }
 {
-    if row.kind == 2 {
-        return signed::plus(row.high, 1);
+    if row.kind == config::TIME {
+        return row.high + 1;
     }
     row.high
 }
@@ -70,8 +68,8 @@ pub fn bottom(row: Row) -> i32
     requires { SmallRow row }
     ensures { result ≡ bottom (alone row) 0 }
 {
-    if row.kind == 2 {
-        return signed::minus(row.low, 1);
+    if row.kind == config::TIME {
+        return row.low - 1;
     }
     row.low
 }
@@ -82,10 +80,10 @@ fn verdict_at(row: Row, d: i32) -> Verdict
     requires { SmallRow row }
     ensures { result ≡ verdict_at (alone row) 0 d }
 {
-    if signed::same(d, top(row)) {
+    if d == top(row) {
         return Verdict::Failed;
     }
-    if signed::same(d, bottom(row)) {
+    if d == bottom(row) {
         return Verdict::Passed;
     }
     Verdict::None
@@ -127,7 +125,7 @@ fn raised(jump: bool, d: i32, up: i32) -> i32
     requires { nat_abs d + nat_abs up ≤ 200000 }
     ensures { result ≡ cond jump (pos 0) d +ℤ up }
 {
-    signed::plus(start(jump, d), up)
+    start(jump, d) + up
 }
 
 // "start from D, or from 0 if …; subtract down"
@@ -135,7 +133,7 @@ fn lowered(jump: bool, d: i32, down: i32) -> i32
     requires { nat_abs d + nat_abs down ≤ 200000 }
     ensures { result ≡ cond jump (pos 0) d -ℤ down }
 {
-    signed::minus(start(jump, d), down)
+    start(jump, d) - down
 }
 
 // "Pre-failed: start from D, or from 0 if jump up is on and D < 0; add up; cap at Q." Jumps "1 = jump up, … 3 = both".
@@ -145,7 +143,7 @@ fn counter_up(row: Row, d: i32) -> i32
 {
     let jump_up = (row.jumps == 1) | (row.jumps == 3);
     let sum = raised(jump_up & (d < 0), d, row.up);
-    signed::smaller(sum, row.high)
+    sum.min(row.high)
 }
 
 // "Pre-passed: start from D, or from 0 if jump down is on and D > 0; subtract down; hold at P." Jumps "2 = jump down, 3
@@ -156,7 +154,7 @@ fn counter_down(row: Row, d: i32) -> i32
 {
     let jump_down = (row.jumps == 2) | (row.jumps == 3);
     let rest = lowered(jump_down & (0 < d), d, row.down);
-    signed::larger(rest, row.low)
+    rest.max(row.low)
 }
 
 // "Kind 1: failed sets D = Q, passed sets D = P."
@@ -179,8 +177,8 @@ fn time_report(row: Row, code: u32, d: i32) -> i32
     ensures { result ≡ time_report (alone row) 0 code d }
 {
     match code {
-        FAILED => signed::plus(row.high, 1),
-        PASSED => signed::minus(row.low, 1),
+        FAILED => row.high + 1,
+        PASSED => row.low - 1,
         PRE_FAILED => if d <= 0 { 1 } else { d },
         _ => if 0 <= d { -1 } else { d },
     }
@@ -191,8 +189,7 @@ pub fn report_step(row: Row, code: u32, d: i32) -> Debounced
     requires { SmallReport row d }
     ensures { answered result ≡ reported_by row code d }
 {
-    let kind = row.kind;
-    match kind {
+    match row.kind {
         config::INTERNAL => internal_report(code, d),
         config::COUNTER => leaves_at(row, counter_report(row, code, d)),
         _ => leaves_at(row, time_report(row, code, d)),
@@ -204,7 +201,7 @@ fn goes_on(waited: i32, ms: u32, end: i32) -> i32
     requires { (nat_abs waited ≤ 30001) × (ms ≤ 60000) }
     ensures { result ≡ smaller (waited +ℤ pos ms) end }
 {
-    signed::smaller(signed::plus(waited, ms as i32), end)
+    (waited + ms as i32).min(end)
 }
 
 // "0 < D < Q+1 becomes the smaller of D+d and Q+1": D is the waited time.
@@ -221,9 +218,9 @@ fn tick_down(row: Row, ms: u32, d: i32) -> i32
     requires { SmallTick row ms d }
     ensures { result ≡ larger (d -ℤ pos ms) (bottom (alone row) 0) }
 {
-    let waited = signed::negated(d);
-    let end = signed::negated(bottom(row));
-    signed::negated(goes_on(waited, ms, end))
+    let waited = -d;
+    let end = -bottom(row);
+    -goes_on(waited, ms, end)
 }
 
 // "Tick of d ms": the new D of an event with this row, and the verdict. A D of 0, at its top or at its bottom stays,

@@ -10,13 +10,11 @@ use lib.Dec.{eqb, ltb}
 use lib.ListN.{length, get_or}
 use borrow.Author.Tests.{eq-eqb, ne_eqb, ltb-false, not-false}
 use Rattle.manual.specs.declared.Refusal.{Refusal}
-use Rattle.manual.specs.declared.LengthAnswer.TheVariants.{Written}
 use Rattle.manual.specs.Words.{three_at}
 use Rattle.manual.specs.Configuration.{Configuration, config_ok}
 use Rattle.manual.specs.State.{State}
 use Rattle.manual.specs.WellFormed.{well_formed}
 use Rattle.manual.specs.Answers.{lent_room, lent_both, with_counts, Outcome, Rule, ◌if◌, first_that_applies, number_of}
-use Rattle.manual.specs.Answers.{of_length, leaves}
 use Rattle.manual.specs.Counts.{rise_of, raised, past, carries_past, counts_fit}
 use Rattle.manual.specs.Calls.{begins, unknown_code, cleared, clear_log}
 use Rattle.manual.specs.Diagnostics.{positive, negative, reply_bytes, served, service19}
@@ -26,8 +24,7 @@ use Rattle.writing.specs.Writing.{written, append}
 use Rattle.writing.proofs.WritingLaws.{append_next}
 use Rattle.counts.specs.Near.{AreFive}
 use Rattle.counts.proofs.NearLaws.{are_five}
-use Rattle.judgement.specs.declared.Check.{Check}
-use Rattle.judgement.specs.declared.Check.TheVariants.{Go, Stop}
+use Rattle.std.specs.Prelude.{Result, Ok, Err, ⊤}
 use Rattle.judgement.specs.Checks.{check_number}
 use Rattle.judgement.proofs.JudgedLaws.{passed_by}
 use Rattle.rehearsal.proofs.LastLaws.{last_judged, stopped_before}
@@ -201,13 +198,13 @@ module _ (cfg : Configuration) (request room : List ℕ) (s : State) where
   -- a request that nothing refuses: its reply
   pub replied_is : {after : List ℕ} (size : ℕ) {service : Service} → service ≡ Replied size
       → Serves cfg request room s (service_is cfg service after s)
-      → Serves cfg request room s (leaves (of_length (Written size)) [] (lent_room after) s)
+      → Serves cfg request room s (sent_is size after s)
   replied_is {after} size e p = ap (λ (k : Service). service_is cfg k after s) (sym e) ∙ p
 
   -- and the clear that service 14 asks for
   pub cleared_is : {after : List ℕ} (code : ℕ) {service : Service} {t : State} → service ≡ Clear code
       → t ≡ cleared cfg code s → Serves cfg request room s (service_is cfg service after s)
-      → Serves cfg request room s (leaves (of_length (Written 1)) [] (lent_room after) t)
+      → Serves cfg request room s (sent_is 1 after t)
   cleared_is {after} code e q p = ap (sent_is 1 after) q ∙ ap (λ (k : Service). service_is cfg k after s) (sym e) ∙ p
 
 -- ---- the judge: 2, 3, 7, 1, then 12
@@ -226,19 +223,19 @@ module _ (cfg : Configuration) (request room counts : List ℕ) (s : State) wher
     as_found : {number : ℕ} → number ≡ first_that_applies (begins cfg s fits sizes) → number ≡ first_that_applies before
     as_found e = e ∙ (λ i. first_that_applies (begins cfg s (f i) sizes))
 
-    module _ {check : Check} (e : check_number check ≡ first_that_applies (begins cfg s fits sizes)) where
-      pub may_be_limited : check ≡ Go → ((config_ok cfg ≡ true) × (well_formed cfg s ≡ true)) × AreFive counts
+    module _ {check : Result ⊤ Refusal} (e : check_number check ≡ first_that_applies (begins cfg s fits sizes)) where
+      pub may_be_limited : check ≡ Ok tt → ((config_ok cfg ≡ true) × (well_formed cfg s ≡ true)) × AreFive counts
       may_be_limited g =
           let z = passed_by before (as_found e) g in
           let three = three_passed (counts_fit counts) (well_formed cfg s) (none_applies before z refl 1) in
           ((not-false (config_ok cfg) (none_applies before z refl 0), three.1), are_five counts three.0)
 
-      pub then_limit : check ≡ Go → {number : ℕ} → number ≡ first_that_applies last
+      pub then_limit : check ≡ Ok tt → {number : ℕ} → number ≡ first_that_applies last
           → number ≡ first_that_applies (request_rules cfg request (lent_both room counts) s)
       unfolding request_rules
       then_limit g n = last_judged before last refl (as_found e) g n
 
-      pub not_so_far : (r : Refusal) → check ≡ Stop r
+      pub not_so_far : (r : Refusal) → check ≡ Err r
           → number_of r ≡ first_that_applies (request_rules cfg request (lent_both room counts) s)
       unfolding request_rules
       not_so_far r g = stopped_before before last refl (as_found e) r g

@@ -25,8 +25,8 @@ use Rattle.manual.proofs.ConfigurationLaws.{config_tells, found_tells}
 use Rattle.manual.proofs.WellFormedLaws.{state_tells}
 use Rattle.status.specs.declared.Record.{Record}
 use Rattle.status.specs.Records.{stored_is}
-use Rattle.memory.specs.declared.Find.{Find}
-use Rattle.memory.specs.declared.Find.TheVariants.{At, Nothing}
+use Rattle.std.specs.Prelude.{Some, None}
+use Rattle.memory.specs.Places.{Find}
 use Rattle.memory.specs.Fits.{PlaceFits}
 use Rattle.memory.specs.Places.{at_place, place_of}
 use Rattle.memory.proofs.PlacesLaws.{entries_fit, entry_within, entries_are_count, frame_is_at, found, found_nothing}
@@ -133,30 +133,30 @@ module _ (cfg : Configuration) (records memory : List ℕ) (e : ℕ) {own : Find
   abbrev entries_here : List Entry
   entries_here = entries_of (entry_frames cfg) memory
 
-  pub entry_there : (p : Place) → own ≡ At p → entry_for e entries_here ≡ some (at_place p.0 entries_here)
+  pub entry_there : (p : Place) → own ≡ Some p → entry_for e entries_here ≡ some (at_place p.0 entries_here)
   entry_there p q = (found (is_of e) entries_here p (sym is ∙ q)).first
 
-  place_there : (p : Place) → own ≡ At p → p.0 < length entries_here
+  place_there : (p : Place) → own ≡ Some p → p.0 < length entries_here
   place_there p q = (found (is_of e) entries_here p (sym is ∙ q)).inside
 
-  pub place_fits : Within cfg records memory → (p : Place) → own ≡ At p
+  pub place_fits : Within cfg records memory → (p : Place) → own ≡ Some p
       → PlaceFits (entry_frames cfg) memory p.0
   place_fits within p q = record {
     entries = within.entries_fit;
     below = omega (arith, place_there p q, entries_are_count (entry_frames cfg) memory);
   }
 
-  pub without_entry : own ≡ Nothing → entry_for e entries_here ≡ none
+  pub without_entry : own ≡ None → entry_for e entries_here ≡ none
   without_entry q = found_nothing (is_of e) entries_here (sym is ∙ q)
 
   module _ (told : Entry → List ℕ) (w : Written) where
-    pub behind_entry : (p : Place) → own ≡ At p → {v u : Written} → v ≡ append (0x01 ∷ []) w
+    pub behind_entry : (p : Place) → own ≡ Some p → {v u : Written} → v ≡ append (0x01 ∷ []) w
         → u ≡ append (told (at_place p.0 entries_here)) v
         → u ≡ append (behind_status cfg told (entry_for e entries_here)) w
     unfolding behind_status
     behind_entry p q a b = rw (entry_there p q) (append_then (0x01 ∷ []) (told (at_place p.0 entries_here)) w a b)
 
-    pub behind_none : own ≡ Nothing → w ≡ append (behind_status cfg told (entry_for e entries_here)) w
+    pub behind_none : own ≡ None → w ≡ append (behind_status cfg told (entry_for e entries_here)) w
     unfolding behind_status
     behind_none q = rw (without_entry q) (sym (append_none w))
 
@@ -164,10 +164,10 @@ module _ (cfg : Configuration) (records memory : List ℕ) (e : ℕ) {own : Find
 
 module _ (cfg : Configuration) (told : Told) where
   pub shown_least : (own : Find) → 6 ≤ shown_length cfg told own
-  shown_least (At p) = omega arith
-  shown_least Nothing = omega arith
+  shown_least (Some p) = omega arith
+  shown_least None = omega arith
 
-  pub entry_fits : (p : Place) {own : Find} → own ≡ At p → (room : ℕ) → shown_length cfg told own ≤ room
+  pub entry_fits : (p : Place) {own : Find} → own ≡ Some p → (room : ℕ) → shown_length cfg told own ≤ room
       → 7 + told_length cfg told ≤ room
   entry_fits p q room h = rw q at h
 
@@ -211,11 +211,11 @@ module _ (cfg : Configuration) (told : Told) (e : ℕ) where
       where
         go : (f : Find) → own ≡ f
             → length (shown_bytes cfg (number_of told) (tells cfg told) e here) ≡ shown_length cfg told f
-        go (At p) q =
+        go (Some p) q =
             let fits = place_fits cfg records memory e is within p q in
             rw (entry_there cfg records memory e is p q)
             (omega (arith, told_length_is cfg records memory e p.0 told fits))
-        go Nothing q = rw (without_entry cfg records memory e is q) refl
+        go None q = rw (without_entry cfg records memory e is q) refl
 
   -- in any state, with the entry sought in payloads of w bytes: the length that the code compares
   module _ (s : State) {w : ℕ} (width : w ≡ entry_frames cfg) {own : Find}

@@ -1,8 +1,10 @@
 -- What the functions of this crate ask and answer, in the words of the manual's specs/Diagnostics.antt. Assumes
 -- nothing.
-use Rattle.std.specs.Prelude.{◌≡◌, Bool, true, false, not, ◌&&◌, cond, List, [], ◌∷◌, ◌++◌, ℕ, ◌+◌, ◌<◌, ◌≤◌, ℤ, eqb, ltb, length, get_or}
+use Rattle.std.specs.Prelude.{◌≡◌, Bool, true, false, not, ◌&&◌, cond, List, [], ◌∷◌, ◌++◌, ℕ, ◌+◌, ◌<◌, ◌≤◌, ℤ, eqb, ltb, length, get_or, Result, Ok, Err}
+use Rattle.std.specs.Prelude as library
 use Rattle.std.proofs.Math.Option.{Option, none, some}
 use Rattle.manual.specs.declared.Board.{Board}
+use Rattle.manual.specs.declared.Lent.{Lent}
 use Rattle.manual.specs.declared.Verdict.TheVariants.{None}
 use Rattle.manual.specs.Words.{three_at}
 use Rattle.manual.specs.Configuration.{Configuration, events, config_ok}
@@ -17,20 +19,16 @@ use Rattle.manual.specs.Diagnostics.{served_by, asks_clear, counts_after}
 use Rattle.counts.specs.Near.{AreFive}
 use Rattle.diagnostics.specs.declared.Asked.{Asked}
 use Rattle.diagnostics.specs.declared.Asked.TheVariants.{All, Matching, Near}
-use Rattle.diagnostics.specs.declared.LineByte.{LineByte}
-use Rattle.diagnostics.specs.declared.LineByte.TheVariants.{Shown, Nothing}
 use Rattle.diagnostics.specs.declared.Turn.{Turn}
 use Rattle.diagnostics.specs.declared.Turn.TheVariants.{Write, Suppressed}
-use Rattle.diagnostics.specs.declared.ClearRequest.{ClearRequest}
-use Rattle.diagnostics.specs.declared.ClearRequest.TheVariants.{Clear, Negative}
 use Rattle.diagnostics.specs.declared.Service.{Service}
 use Rattle.diagnostics.specs.declared.Service.TheVariants.{Replied}
 
 -- ---- a reply reads nothing of the state but its records, its debounce numbers and its memory
 
 -- what is promised of it holds in every state with these, whatever its board
-abbrev pub InStatesWith : List ℕ → List ℤ → List ℕ → (State → Type 0) → Type 0
-InStatesWith records debounce memory P = (b : Board) → P (lent records debounce memory b)
+abbrev pub InStatesWith : Lent → (State → Type 0) → Type 0
+InStatesWith s P = (b : Board) → P (lent s.records.now s.debounce.now s.memory.now b)
 
 -- which events it counts or lists, and their lines, are those in this state: they are read without memory and board
 abbrev pub holding : List ℕ → List ℤ → State
@@ -39,6 +37,11 @@ holding records debounce = lent records debounce [] (record { running = all_stop
 -- a reply of this length was sent, and the room and the state are these
 abbrev pub sent_is : ℕ → List ℕ → State → Outcome
 sent_is size room s = record { answer = 0; verdict = None; value = size; part = []; beside = lent_room room; state = s }
+
+-- and the counts are these
+abbrev pub sent_with : ℕ → List ℕ → List ℕ → State → Outcome
+sent_with size room counts s =
+    record { answer = 0; verdict = None; value = size; part = []; beside = lent_both room counts; state = s }
 
 module _ (cfg : Configuration) where
   -- ---- the events that a reply lists or counts
@@ -58,9 +61,9 @@ module _ (cfg : Configuration) where
   line_if_asked asked s e = cond (asks asked s e) (line cfg (shows asked s) e) []
 
   -- the event's line with the byte that it shows, or no line
-  abbrev pub line_with : ℕ → LineByte → List ℕ
-  line_with e (Shown byte) = line cfg (λ x. byte) e
-  line_with e Nothing = []
+  abbrev pub line_with : ℕ → library.Option ℕ → List ℕ
+  line_with e (library.Some byte) = line cfg (λ x. byte) e
+  line_with e library.None = []
 
   abbrev pub lines_asked : Asked → State → List ℕ
   lines_asked asked s = lines cfg (asks asked s) (shows asked s)
@@ -110,9 +113,9 @@ module _ (cfg : Configuration) where
   -- ---- what the answers mean
 
   -- the reply of service 14, and the state once the clear is done
-  abbrev pub clear_request_is : ClearRequest → State → Served
-  clear_request_is (Clear code) s = served (positive (0x54 ∷ [])) (cleared cfg code s)
-  clear_request_is (Negative code) s = served (negative code) s
+  abbrev pub clear_request_is : Result ℕ ℕ → State → Served
+  clear_request_is (Ok code) s = served (positive (0x54 ∷ [])) (cleared cfg code s)
+  clear_request_is (Err code) s = served (negative code) s
 
   -- what the request leaves, once the clear is done
   abbrev pub service_is : Service → List ℕ → State → Outcome
@@ -130,9 +133,9 @@ module _ (cfg : Configuration) where
   code_where asked request = cond asked (some (three_at 1 request)) none
 
   -- the one that service 14 clears, and the one that is left to do
-  abbrev pub code_of14 : ClearRequest → Option ℕ
-  code_of14 (Clear code) = some code
-  code_of14 (Negative code) = none
+  abbrev pub code_of14 : Result ℕ ℕ → Option ℕ
+  code_of14 (Ok code) = some code
+  code_of14 (Err code) = none
 
   abbrev pub left_to_clear : Service → Option ℕ
   left_to_clear (Replied size) = none

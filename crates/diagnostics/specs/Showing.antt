@@ -6,8 +6,8 @@ use Rattle.manual.specs.Memory.{Entry, entries_of}
 use Rattle.manual.specs.Answers.{lent_room, Outcome}
 use Rattle.manual.specs.Diagnostics.{positive, reply_bytes, SubFunction, sub_function, fitted, suppresses, sent}
 use Rattle.manual.specs.Diagnostics.{event_asked, frame_told, details_told, shown_bytes, showing}
-use Rattle.memory.specs.declared.Find.{Find}
-use Rattle.memory.specs.declared.Find.TheVariants.{At, Nothing}
+use Rattle.std.specs.Prelude.{Some, None}
+use Rattle.memory.specs.Places.{Find}
 use Rattle.memory.specs.Fits.{EntriesFit, PlaceFits}
 use Rattle.memory.specs.Places.{place_of}
 use Rattle.diagnostics.specs.declared.Told.{Told}
@@ -35,8 +35,8 @@ module _ (cfg : Configuration) where
 
   -- the length of the reply, by where the event's entry was found
   abbrev pub shown_length : Told → Find → ℕ
-  shown_length told (At p) = 7 + told_length told
-  shown_length told Nothing = 6
+  shown_length told (Some p) = 7 + told_length told
+  shown_length told None = 6
 
   -- the sub-function
   abbrev pub shows_one : Told → SubFunction

@@ -4,8 +4,8 @@
 ghost use Rattle.std.specs.Prelude.{◌≡◌, true, cond, List, [], ◌∷◌, ◌+◌, ◌*◌, ◌%◌, ◌<◌, ◌≤◌, ℤ, pos, length, get_or, eqb, ltb};
 ghost use Rattle.manual.specs.Words.{count_below, three_at, between, twos_complement};
 ghost use Rattle.manual.specs.Configuration.{Configuration, most_events, events, entry_frames, config_ok};
-ghost use Rattle.manual.specs.State.{State, lent, status_byte};
-ghost use Rattle.manual.specs.WellFormed.{well_formed};
+ghost use Rattle.manual.specs.State.{State, status_byte};
+ghost use Rattle.manual.specs.Lent.{as_found, as_lent, keeps_loans};
 ghost use Rattle.manual.specs.Answers.{lent_room, lent_both, ◌if◌, first_that_applies, of_length, leaves};
 ghost use Rattle.manual.specs.Calls.{begins};
 ghost use Rattle.manual.specs.Diagnostics.{negative, reply_bytes, served, sub_function, line, mask_of, suppresses};
@@ -26,12 +26,10 @@ ghost use Rattle.diagnostics.specs.Replies.{TurnBy};
 ghost use Rattle.diagnostics.specs.Showing.{remembering, number_of, tells, told_length, shown_length, shows_one};
 ghost use Rattle.diagnostics.specs.Showing.{MayTell, MayShow, MayRead, shown_reply};
 ghost use Rattle.diagnostics.specs.Replies.{clear_request_is, service_is, clears14, code_where, code_of14};
-ghost use Rattle.diagnostics.specs.Replies.{left_to_clear, clears_past, MayAnswer, answered};
+ghost use Rattle.diagnostics.specs.Replies.{left_to_clear, clears_past, MayAnswer, sent_with, answered};
+ghost use Rattle.clearing.specs.Covered.{MayClear};
 
-use config::CodeSearch;
-use judgement::Check;
-use manual::{Board, EventNumber, LengthAnswer, Place, Refusal};
-use memory::Find;
+use manual::{EventNumber, Lent, LentMut, Place, Refusal};
 
 // Three things are called 14: the service that clears,
 const SERVICE_14: u8 = 0x14;
@@ -51,13 +49,6 @@ enum Asked {
     Near,
 }
 
-// The byte that a line shows of an event, or nothing of one that is not asked for.
-#[derive(Clone, Copy)]
-enum LineByte {
-    Shown(u8),
-    Nothing,
-}
-
 // What a reply shows of an event's entry: its frames, or its details.
 #[derive(Clone, Copy)]
 enum Told {
@@ -73,26 +64,12 @@ enum Turn {
     Negative(u8),
 }
 
-// What service 14 does: clear the events of this trouble code, or reply with this negative code.
-#[derive(Clone, Copy)]
-enum ClearRequest {
-    Clear(u32),
-    Negative(u8),
-}
-
 // What is left to do once the reply stands in the room: nothing, and this is its length; or its length is 1, and the
 // events of this trouble code are still to be cleared.
 #[derive(Clone, Copy)]
 enum Service {
     Replied(usize),
     Clear(u32),
-}
-
-// What the call hands back: how long the reply is, and the board.
-#[derive(Clone, Copy)]
-pub struct RequestReturned {
-    pub answer: LengthAnswer,
-    pub board: Board,
 }
 
 // ---- reading the request
@@ -148,14 +125,14 @@ fn is_record(number: u8) -> bool
 }
 
 // The event that `19 04` or `19 06` asks for; nothing where its code or its record is unknown.
-fn event_asked(cfg: &[i32], request: &[u8]) -> CodeSearch
+fn event_asked(cfg: &[i32], request: &[u8]) -> Option<EventNumber>
     requires { config_ok cfg.now ≡ true }
     ensures { (s : State) → search_is result ≡ event_asked cfg.now request.now s }
 {
     if is_record(byte_of(request, 5)) {
         return config::find_code(cfg, code_in(request, 2));
     }
-    CodeSearch::Nothing
+    None
 }
 
 // ---- the events that a reply lists or counts
@@ -177,24 +154,24 @@ fn tells_near(counter: i64) -> bool
 }
 
 // "each event whose counter is 1 to 126"
-fn is_near(cfg: &[i32], records: &[u8], debounce: &[i32], event: EventNumber) -> bool
+fn is_near(cfg: &[i32], state: &Lent, event: EventNumber) -> bool
     requires { event.0 < most_events }
     ensures { result
-        ≡ is_near cfg.now (holding records.now debounce.now) event.0 }
+        ≡ is_near cfg.now (holding state.now.records.now state.now.debounce.now) event.0 }
 {
-    tells_near(counter::counter_of(cfg, records, debounce, event))
+    tells_near(counter::counter_of(cfg, state.records, state.debounce, event))
 }
 
 // Whether a reply lists or counts the event.
-fn is_asked(cfg: &[i32], records: &[u8], debounce: &[i32], event: EventNumber, asked: Asked) -> bool
+fn is_asked(cfg: &[i32], state: &Lent, event: EventNumber, asked: Asked) -> bool
     requires { event.0 < most_events }
     ensures { result
-        ≡ asks cfg.now asked (holding records.now debounce.now) event.0 }
+        ≡ asks cfg.now asked (holding state.now.records.now state.now.debounce.now) event.0 }
 {
     match asked {
         Asked::All => true,
-        Asked::Matching(mask) => matches(records, event, mask),
-        Asked::Near => is_near(cfg, records, debounce, event),
+        Asked::Matching(mask) => matches(state.records, event, mask),
+        Asked::Near => is_near(cfg, state, event),
     }
 }
 
@@ -207,19 +184,16 @@ fn counter_byte(counter: i64) -> u8
 }
 
 // The number of events that are asked for.
-fn number_asked(cfg: &[i32], records: &[u8], debounce: &[i32], asked: Asked) -> usize
+fn number_asked(cfg: &[i32], state: &Lent, asked: Asked) -> usize
     requires { config_ok cfg.now ≡ true }
     ensures { result
         ≡ count_below (events cfg.now)
-        (asks cfg.now asked (holding records.now debounce.now)) }
+        (asks cfg.now asked (holding state.now.records.now state.now.debounce.now)) }
 {
     let n = config::events(cfg);
     let mut number = 0;
     for event in 0..n {
-        number = writing::one_more_if(
-            is_asked(cfg, records, debounce, EventNumber(event), asked),
-            number,
-        );
+        number = writing::one_more_if(is_asked(cfg, state, EventNumber(event), asked), number);
     }
     number
 }
@@ -252,103 +226,81 @@ fn write_line(cfg: &[i32], event: EventNumber, byte: u8, room: &mut [u8], at: us
 }
 
 // The byte of the event's line, where its status and the mask share a set bit.
-fn byte_where_matching(records: &[u8], event: EventNumber, mask: u8) -> LineByte
+fn byte_where_matching(records: &[u8], event: EventNumber, mask: u8) -> Option<u8>
     ensures { (cfg : Configuration) (d : List ℤ)
         → line_with cfg event.0 result
         ≡ cond (matches cfg mask (holding records.now d) event.0)
         (line cfg (status_byte (holding records.now d)) event.0) [] }
 {
     if matches(records, event, mask) {
-        return LineByte::Shown(status::status_of(records, event).0);
+        return Some(status::status_of(records, event).0);
     }
-    LineByte::Nothing
+    None
 }
 
 // The byte of the event's line, where it is near a fault.
-fn byte_where_near(cfg: &[i32], records: &[u8], debounce: &[i32], event: EventNumber) -> LineByte
+fn byte_where_near(cfg: &[i32], state: &Lent, event: EventNumber) -> Option<u8>
     requires { event.0 < most_events }
     ensures { line_with cfg.now event.0 result
-        ≡ cond (is_near cfg.now (holding records.now debounce.now) event.0)
+        ≡ cond (is_near cfg.now (holding state.now.records.now state.now.debounce.now) event.0)
         (line cfg.now
-        (counter_byte cfg.now (holding records.now debounce.now)) event.0) [] }
+        (counter_byte cfg.now (holding state.now.records.now state.now.debounce.now)) event.0) [] }
 {
-    let counter = counter::counter_of(cfg, records, debounce, event);
+    let counter = counter::counter_of(cfg, state.records, state.debounce, event);
     if tells_near(counter) {
-        return LineByte::Shown(counter_byte(counter));
+        return Some(counter_byte(counter));
     }
-    LineByte::Nothing
+    None
 }
 
 // The byte that the event's line shows, where the event is asked for.
-fn line_byte(
-    cfg: &[i32],
-    records: &[u8],
-    debounce: &[i32],
-    event: EventNumber,
-    asked: Asked,
-) -> LineByte
+fn line_byte(cfg: &[i32], state: &Lent, event: EventNumber, asked: Asked) -> Option<u8>
     requires { event.0 < most_events }
     ensures { line_with cfg.now event.0 result
-        ≡ line_if_asked cfg.now asked (holding records.now debounce.now)
+        ≡ line_if_asked cfg.now asked (holding state.now.records.now state.now.debounce.now)
         event.0 }
 {
     match asked {
-        Asked::All => LineByte::Shown(status::status_of(records, event).0),
-        Asked::Matching(mask) => byte_where_matching(records, event, mask),
-        Asked::Near => byte_where_near(cfg, records, debounce, event),
+        Asked::All => Some(status::status_of(state.records, event).0),
+        Asked::Matching(mask) => byte_where_matching(state.records, event, mask),
+        Asked::Near => byte_where_near(cfg, state, event),
     }
 }
 
 // The line of an event that is asked for, and nothing of another.
 fn write_line_if_asked(
     cfg: &[i32],
-    records: &[u8],
-    debounce: &[i32],
+    state: &Lent,
     event: EventNumber,
     asked: Asked,
     room: &mut [u8],
     at: usize,
 ) -> usize
     requires { EventFits cfg.now event.0 at
-        (line_if_asked cfg.now asked (holding records.now debounce.now) event.0) room.old }
+        (line_if_asked cfg.now asked (holding state.now.records.now state.now.debounce.now) event.0) room.old }
     ensures { written result room.new
         ≡ append
-        (line_if_asked cfg.now asked (holding records.now debounce.now) event.0)
+        (line_if_asked cfg.now asked (holding state.now.records.now state.now.debounce.now) event.0)
         (written at room.old) }
 {
-    match line_byte(cfg, records, debounce, event, asked) {
-        LineByte::Shown(byte) => write_line(cfg, event, byte, room, at),
-        LineByte::Nothing => at,
+    match line_byte(cfg, state, event, asked) {
+        Some(byte) => write_line(cfg, event, byte, room, at),
+        None => at,
     }
 }
 
 // The lines of the events that are asked for, "rising".
-fn write_lines(
-    cfg: &[i32],
-    records: &[u8],
-    debounce: &[i32],
-    asked: Asked,
-    room: &mut [u8],
-    at: usize,
-) -> usize
+fn write_lines(cfg: &[i32], state: &Lent, asked: Asked, room: &mut [u8], at: usize) -> usize
     requires { BytesFit cfg.now at
-        (lines_asked cfg.now asked (holding records.now debounce.now)) room.old }
+        (lines_asked cfg.now asked (holding state.now.records.now state.now.debounce.now)) room.old }
     ensures { written result room.new
-        ≡ append (lines_asked cfg.now asked (holding records.now debounce.now))
+        ≡ append (lines_asked cfg.now asked (holding state.now.records.now state.now.debounce.now))
         (written at room.old) }
 {
     let n = config::events(cfg);
     let mut next = at;
     for event in 0..n {
-        next = write_line_if_asked(
-            cfg,
-            records,
-            debounce,
-            EventNumber(event),
-            asked,
-            room,
-            next,
-        );
+        next = write_line_if_asked(cfg, state, EventNumber(event), asked, room, next);
     }
     next
 }
@@ -373,16 +325,9 @@ fn turn_of(wrong_length: bool, suppressed: bool, too_long: bool) -> Turn
 }
 
 // "01 mask: `59 01 FF 01` and the number of matching events, 2 bytes high first."
-fn number_by_mask(
-    cfg: &[i32],
-    records: &[u8],
-    debounce: &[i32],
-    memory: &[u8],
-    request: &[u8],
-    room: &mut [u8],
-) -> usize
+fn number_by_mask(cfg: &[i32], state: &Lent, request: &[u8], room: &mut [u8]) -> usize
     requires { Accepted cfg.now room.old }
-    ensures { InStatesWith records.now debounce.now memory.now
+    ensures { InStatesWith state.now
         (λ s. sent_is result room.new s
         ≡ sub_function_outcome cfg.now (sub_function 0x01 3 (number_by_mask cfg.now))
         request.now room.old s) }
@@ -391,7 +336,7 @@ fn number_by_mask(
         Turn::Negative(code) => negative(0x19, code, room),
         Turn::Suppressed => 0,
         Turn::Write => {
-            let number = number_asked(cfg, records, debounce, Asked::Matching(mask_of(request)));
+            let number = number_asked(cfg, state, Asked::Matching(mask_of(request)));
             let high = (number / 256) as u8;
             let low = (number % 256) as u8;
             writing::write(room, 0, &[0x59, 0x01, 0xFF, 0x01, high, low])
@@ -401,35 +346,26 @@ fn number_by_mask(
 
 // Whether the lines of the events that are asked for, behind a head of so many bytes, are longer than the room. The
 // events are counted only where the room does not hold a line of each.
-fn is_too_long(
-    cfg: &[i32],
-    records: &[u8],
-    debounce: &[i32],
-    asked: Asked,
-    head: usize,
-    room: usize,
-) -> bool
+fn is_too_long(cfg: &[i32], state: &Lent, asked: Asked, head: usize, room: usize) -> bool
     requires { (config_ok cfg.now ≡ true) × (head ≤ 3) }
     ensures { result
         ≡ ltb room
         (head +
         4 *
         count_below (events cfg.now)
-        (asks cfg.now asked (holding records.now debounce.now))) }
+        (asks cfg.now asked (holding state.now.records.now state.now.debounce.now))) }
 {
     if head + LINE_WIDTH * config::events(cfg) <= room {
         return false;
     }
-    room < head + LINE_WIDTH * number_asked(cfg, records, debounce, asked)
+    room < head + LINE_WIDTH * number_asked(cfg, state, asked)
 }
 
 // The head of the reply, "then per matching event trouble code (3 bytes high first) and status, rising", or "all events
 // likewise", or those that are near a fault with their counters.
 fn list_asked(
     cfg: &[i32],
-    records: &[u8],
-    debounce: &[i32],
-    memory: &[u8],
+    state: &Lent,
     request: &[u8],
     head: &[u8],
     size: usize,
@@ -437,71 +373,45 @@ fn list_asked(
     room: &mut [u8],
 ) -> usize
     requires { MayList cfg.now head.now room.old }
-    ensures { InStatesWith records.now debounce.now memory.now
+    ensures { InStatesWith state.now
         (λ s. sent_is result room.new s
         ≡ sub_function_outcome cfg.now (listing cfg.now head.now size asked)
         request.now room.old s) }
 {
-    let too_long = is_too_long(cfg, records, debounce, asked, head.len(), room.len());
+    let too_long = is_too_long(cfg, state, asked, head.len(), room.len());
     match turn_of(request.len() != size, suppresses(request), too_long) {
         Turn::Negative(code) => negative(0x19, code, room),
         Turn::Suppressed => 0,
         Turn::Write => {
             let at = writing::write(room, 0, head);
-            write_lines(cfg, records, debounce, asked, room, at)
+            write_lines(cfg, state, asked, room, at)
         }
     }
 }
 
 // "02 mask: `59 02 FF`, then per matching event trouble code (3 bytes high first) and status, rising."
-fn list_by_mask(
-    cfg: &[i32],
-    records: &[u8],
-    debounce: &[i32],
-    memory: &[u8],
-    request: &[u8],
-    room: &mut [u8],
-) -> usize
+fn list_by_mask(cfg: &[i32], state: &Lent, request: &[u8], room: &mut [u8]) -> usize
     requires { Accepted cfg.now room.old }
-    ensures { InStatesWith records.now debounce.now memory.now
+    ensures { InStatesWith state.now
         (λ s. sent_is result room.new s
         ≡ sub_function_outcome cfg.now (sub_function 0x02 3 (list_by_mask cfg.now))
         request.now room.old s) }
 {
     let asked = Asked::Matching(mask_of(request));
-    list_asked(
-        cfg,
-        records,
-        debounce,
-        memory,
-        request,
-        &[0x59, 0x02, 0xFF],
-        3,
-        asked,
-        room,
-    )
+    list_asked(cfg, state, request, &[0x59, 0x02, 0xFF], 3, asked, room)
 }
 
 // "0A: `59 0A FF`, then all events likewise."
-fn list_all(
-    cfg: &[i32],
-    records: &[u8],
-    debounce: &[i32],
-    memory: &[u8],
-    request: &[u8],
-    room: &mut [u8],
-) -> usize
+fn list_all(cfg: &[i32], state: &Lent, request: &[u8], room: &mut [u8]) -> usize
     requires { Accepted cfg.now room.old }
-    ensures { InStatesWith records.now debounce.now memory.now
+    ensures { InStatesWith state.now
         (λ s. sent_is result room.new s
         ≡ sub_function_outcome cfg.now (sub_function 0x0A 2 (list_events cfg.now)) request.now
         room.old s) }
 {
     list_asked(
         cfg,
-        records,
-        debounce,
-        memory,
+        state,
         request,
         &[0x59, 0x0A, 0xFF],
         2,
@@ -512,25 +422,16 @@ fn list_all(
 
 // Document 02, W1: "`59 14`, then trouble code and counter byte (two's complement) for each event whose counter is 1 to
 // 126, rising".
-fn list_near(
-    cfg: &[i32],
-    records: &[u8],
-    debounce: &[i32],
-    memory: &[u8],
-    request: &[u8],
-    room: &mut [u8],
-) -> usize
+fn list_near(cfg: &[i32], state: &Lent, request: &[u8], room: &mut [u8]) -> usize
     requires { Accepted cfg.now room.old }
-    ensures { InStatesWith records.now debounce.now memory.now
+    ensures { InStatesWith state.now
         (λ s. sent_is result room.new s
         ≡ sub_function_outcome cfg.now (sub_function 0x14 2 (list_near cfg.now))
         request.now room.old s) }
 {
     list_asked(
         cfg,
-        records,
-        debounce,
-        memory,
+        state,
         request,
         &[0x59, SUB_FUNCTION_14],
         2,
@@ -562,139 +463,133 @@ fn told_length(cfg: &[i32], told: Told) -> usize
 }
 
 // The length of a reply that shows an event with the entry at this place, or without one.
-fn shown_length(cfg: &[i32], own: Find, told: Told) -> usize
+fn shown_length(cfg: &[i32], own: Option<Place>, told: Told) -> usize
     requires { config_ok cfg.now ≡ true }
     ensures { result ≡ shown_length cfg.now told own }
 {
     match own {
-        Find::At(_) => 7 + told_length(cfg, told),
-        Find::Nothing => 6,
+        Some(_) => 7 + told_length(cfg, told),
+        None => 6,
     }
 }
 
 // "occurrence count, K, h, g"
 fn write_details(
     cfg: &[i32],
-    records: &[u8],
-    memory: &[u8],
+    state: &Lent,
     event: EventNumber,
     place: Place,
     room: &mut [u8],
     at: usize,
 ) -> usize
-    requires { MayTell cfg.now records.now memory.now event.0 place.0 at 4 room.old }
+    requires { MayTell cfg.now state.now.records.now state.now.memory.now event.0 place.0 at 4 room.old }
     ensures { written result room.new
         ≡ append
-        (details_told cfg.now (remembering records.now memory.now) event.0
-        (at_place place.0 (entries_of (entry_frames cfg.now) memory.now)))
+        (details_told cfg.now (remembering state.now.records.now state.now.memory.now) event.0
+        (at_place place.0 (entries_of (entry_frames cfg.now) state.now.memory.now)))
         (written at room.old) }
 {
-    let count = memory::count_at(memory, memory::entry_frames(cfg), place);
-    let r = status::read_record(records, event);
+    let count = memory::count_at(state.memory, memory::entry_frames(cfg), place);
+    let r = status::read_record(state.records, event);
     writing::write(room, at, &[count, r.k, r.h, r.g])
 }
 
 // What a reply shows of the entry at a place.
 fn write_told(
     cfg: &[i32],
-    records: &[u8],
-    memory: &[u8],
+    state: &Lent,
     event: EventNumber,
     place: Place,
     told: Told,
     room: &mut [u8],
     at: usize,
 ) -> usize
-    requires { MayTell cfg.now records.now memory.now event.0 place.0 at
+    requires { MayTell cfg.now state.now.records.now state.now.memory.now event.0 place.0 at
         (told_length cfg.now told) room.old }
     ensures { written result room.new
         ≡ append
-        (tells cfg.now told (remembering records.now memory.now) event.0
-        (at_place place.0 (entries_of (entry_frames cfg.now) memory.now)))
+        (tells cfg.now told (remembering state.now.records.now state.now.memory.now) event.0
+        (at_place place.0 (entries_of (entry_frames cfg.now) state.now.memory.now)))
         (written at room.old) }
 {
     match told {
         Told::Frame => {
-            let payload = memory::payload_at(memory, memory::entry_frames(cfg), place);
+            let payload = memory::payload_at(state.memory, memory::entry_frames(cfg), place);
             writing::write(room, at, payload)
         }
-        Told::Details => write_details(cfg, records, memory, event, place, room, at),
+        Told::Details => write_details(cfg, state, event, place, room, at),
     }
 }
 
 // "then if the event has an entry `01` and" what is shown of it. "Without an entry the reply ends after the status."
 fn write_behind_status(
     cfg: &[i32],
-    records: &[u8],
-    memory: &[u8],
+    state: &Lent,
     event: EventNumber,
-    own: Find,
+    own: Option<Place>,
     told: Told,
     room: &mut [u8],
     at: usize,
 ) -> usize
-    requires { MayShow cfg.now records.now memory.now event.0 told own room.old × (at ≡ 6) }
+    requires { MayShow cfg.now state.now.records.now state.now.memory.now event.0 told own room.old × (at ≡ 6) }
     ensures { written result room.new
         ≡ append
         (behind_status cfg.now
-        (tells cfg.now told (remembering records.now memory.now) event.0)
-        (entry_for event.0 (entries_of (entry_frames cfg.now) memory.now)))
+        (tells cfg.now told (remembering state.now.records.now state.now.memory.now) event.0)
+        (entry_for event.0 (entries_of (entry_frames cfg.now) state.now.memory.now)))
         (written at room.old) }
 {
     match own {
-        Find::At(place) => {
+        Some(place) => {
             let next = writing::write(room, at, &[0x01]);
-            write_told(cfg, records, memory, event, place, told, room, next)
+            write_told(cfg, state, event, place, told, room, next)
         }
-        Find::Nothing => at,
+        None => at,
     }
 }
 
 // "`59 04`, code, status, then …", "`59 06`, code, status, then …"
 fn write_shown(
     cfg: &[i32],
-    records: &[u8],
-    memory: &[u8],
+    state: &Lent,
     event: EventNumber,
-    own: Find,
+    own: Option<Place>,
     told: Told,
     room: &mut [u8],
 ) -> usize
-    requires { MayShow cfg.now records.now memory.now event.0 told own room.old }
+    requires { MayShow cfg.now state.now.records.now state.now.memory.now event.0 told own room.old }
     ensures { written result room.new
         ≡ append
         (shown_bytes cfg.now (number_of told) (tells cfg.now told) event.0
-        (remembering records.now memory.now))
+        (remembering state.now.records.now state.now.memory.now))
         (written 0 room.old) }
 {
     let at = writing::write(room, 0, &[0x59, number_of(told)]);
-    let status = status::status_of(records, event).0;
+    let status = status::status_of(state.records, event).0;
     let next = write_line(cfg, event, status, room, at);
-    write_behind_status(cfg, records, memory, event, own, told, room, next)
+    write_behind_status(cfg, state, event, own, told, room, next)
 }
 
 // The reply that shows an event, as the request and the room let it go. Its length and its code were judged before.
 fn show_event(
     cfg: &[i32],
-    records: &[u8],
-    debounce: &[i32],
-    memory: &[u8],
+    state: &Lent,
     request: &[u8],
     event: EventNumber,
     told: Told,
     room: &mut [u8],
 ) -> usize
-    requires { MayRead cfg.now records.now memory.now room.old × (event.0 < events cfg.now) }
-    ensures { InStatesWith records.now debounce.now memory.now
+    requires { MayRead cfg.now state.now.records.now state.now.memory.now room.old × (event.0 < events cfg.now) }
+    ensures { InStatesWith state.now
         (λ s. sent_is result room.new s
         ≡ shown_reply cfg.now told request.now event.0 room.old s) }
 {
-    let own = memory::place_of(memory, memory::entry_frames(cfg), event);
+    let own = memory::place_of(state.memory, memory::entry_frames(cfg), event);
     let too_long = room.len() < shown_length(cfg, own, told);
     match turn_of(false, suppresses(request), too_long) {
         Turn::Negative(code) => negative(0x19, code, room),
         Turn::Suppressed => 0,
-        Turn::Write => write_shown(cfg, records, memory, event, own, told, room),
+        Turn::Write => write_shown(cfg, state, event, own, told, room),
     }
 }
 
@@ -702,17 +597,9 @@ fn show_event(
 const SHOW_LENGTH: usize = 6;
 
 // `19 04` and `19 06`. "Check order after length: unknown code or record 31, then 14."
-fn show(
-    cfg: &[i32],
-    records: &[u8],
-    debounce: &[i32],
-    memory: &[u8],
-    request: &[u8],
-    told: Told,
-    room: &mut [u8],
-) -> usize
-    requires { MayRead cfg.now records.now memory.now room.old }
-    ensures { InStatesWith records.now debounce.now memory.now
+fn show(cfg: &[i32], state: &Lent, request: &[u8], told: Told, room: &mut [u8]) -> usize
+    requires { MayRead cfg.now state.now.records.now state.now.memory.now room.old }
+    ensures { InStatesWith state.now
         (λ s. sent_is result room.new s
         ≡ sub_function_outcome cfg.now (shows_one cfg.now told) request.now
         room.old s) }
@@ -721,25 +608,16 @@ fn show(
         return negative(0x19, 0x13, room);
     }
     match event_asked(cfg, request) {
-        CodeSearch::At(event) => show_event(
-            cfg, records, debounce, memory, request, event, told, room,
-        ),
-        CodeSearch::Nothing => negative(0x19, 0x31, room),
+        Some(event) => show_event(cfg, state, request, event, told, room),
+        None => negative(0x19, 0x31, room),
     }
 }
 
 // Writes the reply of service 19, and answers its length. "19: length 1: code 13. … not 01, 02, 0A: code 12.", and not
 // 14, 04, 06.
-fn reply_19(
-    cfg: &[i32],
-    records: &[u8],
-    debounce: &[i32],
-    memory: &[u8],
-    request: &[u8],
-    room: &mut [u8],
-) -> usize
-    requires { MayRead cfg.now records.now memory.now room.old }
-    ensures { InStatesWith records.now debounce.now memory.now
+fn reply_19(cfg: &[i32], state: &Lent, request: &[u8], room: &mut [u8]) -> usize
+    requires { MayRead cfg.now state.now.records.now state.now.memory.now room.old }
+    ensures { InStatesWith state.now
         (λ s. sent_is result room.new s
         ≡ replied cfg.now 0x19 (lent_room room.old)
         (served (service19 cfg.now request.now (length room.old) s) s)) }
@@ -749,12 +627,12 @@ fn reply_19(
     }
     let sub_function = sub_function_of(request);
     match sub_function {
-        0x01 => number_by_mask(cfg, records, debounce, memory, request, room),
-        0x02 => list_by_mask(cfg, records, debounce, memory, request, room),
-        0x0A => list_all(cfg, records, debounce, memory, request, room),
-        SUB_FUNCTION_14 => list_near(cfg, records, debounce, memory, request, room),
-        0x04 => show(cfg, records, debounce, memory, request, Told::Frame, room),
-        0x06 => show(cfg, records, debounce, memory, request, Told::Details, room),
+        0x01 => number_by_mask(cfg, state, request, room),
+        0x02 => list_by_mask(cfg, state, request, room),
+        0x0A => list_all(cfg, state, request, room),
+        SUB_FUNCTION_14 => list_near(cfg, state, request, room),
+        0x04 => show(cfg, state, request, Told::Frame, room),
+        0x06 => show(cfg, state, request, Told::Details, room),
         _ => negative(0x19, 0x12, room),
     }
 }
@@ -762,7 +640,7 @@ fn reply_19(
 // ---- service 14
 
 // "14: length must be 4 (else 13); the three bytes are a trouble code; unknown: code 31; else clear and `54`."
-fn clear_request(cfg: &[i32], request: &[u8]) -> ClearRequest
+fn clear_request(cfg: &[i32], request: &[u8]) -> Result<u32, u8>
     requires { config_ok cfg.now ≡ true }
     ensures { ((s : State)
         → clear_request_is cfg.now result s ≡ service14 cfg.now request.now s) ×
@@ -771,13 +649,13 @@ fn clear_request(cfg: &[i32], request: &[u8]) -> ClearRequest
         request.now) }
 {
     if request.len() != 4 {
-        return ClearRequest::Negative(0x13);
+        return Err(0x13);
     }
     let code = code_in(request, 1);
     if clearing::is_unknown(cfg, code) {
-        return ClearRequest::Negative(0x31);
+        return Err(0x31);
     }
-    ClearRequest::Clear(code)
+    Ok(code)
 }
 
 // Writes the reply of service 14. The clear itself is left to the caller.
@@ -792,27 +670,20 @@ fn reply_14(cfg: &[i32], request: &[u8], room: &mut [u8]) -> Service
         request.now) }
 {
     match clear_request(cfg, request) {
-        ClearRequest::Clear(code) => {
+        Ok(code) => {
             writing::write(room, 0, &[0x54]);
             Service::Clear(code)
         }
-        ClearRequest::Negative(code) => Service::Replied(negative(SERVICE_14, code, room)),
+        Err(code) => Service::Replied(negative(SERVICE_14, code, room)),
     }
 }
 
 // ---- the request
 
 // Writes the reply to an accepted request, and says what is left to do. "First byte other than 19 or 14: code 11."
-fn serve(
-    cfg: &[i32],
-    records: &[u8],
-    debounce: &[i32],
-    memory: &[u8],
-    request: &[u8],
-    room: &mut [u8],
-) -> Service
-    requires { MayRead cfg.now records.now memory.now room.old }
-    ensures { (InStatesWith records.now debounce.now memory.now
+fn serve(cfg: &[i32], state: &Lent, request: &[u8], room: &mut [u8]) -> Service
+    requires { MayRead cfg.now state.now.records.now state.now.memory.now room.old }
+    ensures { (InStatesWith state.now
         (λ s. service_is cfg.now result room.new s
         ≡ replied cfg.now (get_or request.now 0 0) (lent_room room.old)
         (served_by cfg.now request.now (length room.old) s))) ×
@@ -822,164 +693,116 @@ fn serve(
 {
     let service = byte_of(request, 0);
     match service {
-        0x19 => Service::Replied(reply_19(cfg, records, debounce, memory, request, room)),
+        0x19 => Service::Replied(reply_19(cfg, state, request, room)),
         SERVICE_14 => reply_14(cfg, request, room),
         _ => Service::Replied(negative(service, 0x11, room)),
     }
 }
 
 // A request that nothing refuses: its reply, then the clear where it asks for one. The counts rise by the entries that
-// the clear takes out.
+// the clear takes out. Answers the length of the reply.
 fn accept(
     cfg: &[i32],
-    records: &mut [u8],
-    debounce: &mut [i32],
-    memory: &mut [u8],
-    board: Board,
+    state: &mut LentMut,
     request: &[u8],
     room: &mut [u8],
     counts: &mut [u32],
-) -> RequestReturned
-    requires { MayAnswer cfg.now request.now room.old counts.old
-        (lent records.old debounce.old memory.old board) }
-    ensures { leaves (of_length result.answer) [] (lent_both room.new counts.new)
-        (lent records.new debounce.new memory.new result.board)
-        ≡ answered cfg.now request.now room.old counts.old
-        (lent records.old debounce.old memory.old board) }
+) -> usize
+    requires { MayAnswer cfg.now request.now room.old counts.old (as_lent state.old) }
+    ensures loans { keeps_loans state.old state.new }
+    ensures promise { sent_with result room.new counts.new (as_lent state.new)
+        ≡ answered cfg.now request.now room.old counts.old (as_lent state.old) }
 {
-    match serve(cfg, records, debounce, memory, request, room) {
-        Service::Replied(size) => {
-            let answer = LengthAnswer::Written(size);
-            RequestReturned { answer, board }
-        }
+    let service = serve(cfg, &state.as_found(), request, room);
+    match service {
+        Service::Replied(size) => size,
         Service::Clear(code) => {
-            let after = clearing::clear_covered(cfg, records, debounce, memory, board, code);
-            counts::raise(counts, after.rise);
-            let board_after = after.board;
-            RequestReturned {
-                answer: LengthAnswer::Written(1),
-                board: board_after,
-            }
+            let rise = clearing::clear_covered(cfg, state, code);
+            counts::raise(counts, rise);
+            1
         }
     }
 }
 
 // "diagnostic request 7, 1"
-fn judge_sizes(request: &[u8], room: &[u8]) -> Check
+fn judge_sizes(request: &[u8], room: &[u8]) -> Result<(), Refusal>
     ensures { check_number result
         ≡ first_that_applies
         ((7 if ltb (length room.now) 3) ∷ (1 if eqb (length request.now) 0) ∷ []) }
 {
     if room.len() < 3 {
-        return Check::Stop(Refusal::RoomTooSmall);
+        return Err(Refusal::RoomTooSmall);
     }
     if request.len() == 0 {
-        return Check::Stop(Refusal::BadArgument);
+        return Err(Refusal::BadArgument);
     }
-    Check::Go
+    Ok(())
 }
 
 // "Every call begins 2, 3. Then: … diagnostic request 7, 1." `fits` says whether the counts have the right length.
 fn judge_begin(
     cfg: &[i32],
-    records: &[u8],
-    debounce: &[i32],
-    memory: &[u8],
-    board: Board,
+    state: &Lent,
     fits: bool,
     request: &[u8],
     room: &[u8],
-) -> Check
+) -> Result<(), Refusal>
     ensures { check_number result
         ≡ first_that_applies
-        (begins cfg.now (lent records.now debounce.now memory.now board)
+        (begins cfg.now (as_found state.now)
         fits ((7 if ltb (length room.now) 3) ∷ (1 if eqb (length request.now) 0) ∷ [])) }
 {
-    match judgement::begin(cfg, records, debounce, memory, board, fits) {
-        Check::Go => judge_sizes(request, room),
-        Check::Stop(refusal) => Check::Stop(refusal),
-    }
+    judgement::begin(cfg, state, fits)?;
+    judge_sizes(request, room)
 }
 
 // Document 02, W7, of a "clearing diagnostic request": "refused with new number 12, checked last". Any other request
 // adds nothing to the counts.
-fn judge_limit(
-    cfg: &[i32],
-    records: &[u8],
-    debounce: &[i32],
-    memory: &[u8],
-    board: Board,
-    request: &[u8],
-    counts: &[u32],
-) -> Check
-    requires { ((config_ok cfg.now ≡ true) ×
-        (well_formed cfg.now (lent records.now debounce.now memory.now board) ≡ true)) ×
-        (AreFive counts.now) }
+fn judge_limit(cfg: &[i32], state: &Lent, request: &[u8], counts: &[u32]) -> Result<(), Refusal>
+    requires { (MayClear cfg.now (as_found state.now)) × (AreFive counts.now) }
     ensures { check_number result
         ≡ first_that_applies
-        ((12 if clears_past cfg.now request.now counts.now
-        (lent records.now debounce.now memory.now board)) ∷ []) }
+        ((12 if clears_past cfg.now request.now counts.now (as_found state.now)) ∷ []) }
 {
     if byte_of(request, 0) == SERVICE_14 {
         match clear_request(cfg, request) {
-            ClearRequest::Clear(code) => {
-                let past = clearing::carries_past(
-                    cfg, records, debounce, memory, board, code, counts,
-                );
-                rehearsal::limit_test(past)
-            }
-            ClearRequest::Negative(_) => Check::Go,
+            Ok(code) => { rehearsal::limit_test(clearing::carries_past(cfg, state, code, counts)) }
+            Err(_) => Ok(()),
         }
     } else {
-        Check::Go
+        Ok(())
     }
 }
 
 // "The first that applies, in the call's order, is given."
 fn judge(
     cfg: &[i32],
-    records: &[u8],
-    debounce: &[i32],
-    memory: &[u8],
-    board: Board,
+    state: &Lent,
     request: &[u8],
     room: &[u8],
     counts: &[u32],
-) -> Check
+) -> Result<(), Refusal>
     ensures { check_number result
         ≡ first_that_applies
-        (request_rules cfg.now request.now (lent_both room.now counts.now)
-        (lent records.now debounce.now memory.now board)) }
+        (request_rules cfg.now request.now (lent_both room.now counts.now) (as_found state.now)) }
 {
     let fits = counts::fit(counts);
-    match judge_begin(cfg, records, debounce, memory, board, fits, request, room) {
-        Check::Go => judge_limit(cfg, records, debounce, memory, board, request, counts),
-        Check::Stop(refusal) => Check::Stop(refusal),
-    }
+    judge_begin(cfg, state, fits, request, room)?;
+    judge_limit(cfg, state, request, counts)
 }
 
 // The diagnostic request: writes the reply at the front of the room, and answers its length.
 pub fn request(
     cfg: &[i32],
-    records: &mut [u8],
-    debounce: &mut [i32],
-    memory: &mut [u8],
-    board: Board,
+    state: &mut LentMut,
     request: &[u8],
     room: &mut [u8],
     counts: &mut [u32],
-) -> RequestReturned
-    ensures { leaves (of_length result.answer) [] (lent_both room.new counts.new)
-        (lent records.new debounce.new memory.new result.board)
-        ≡ request_reply cfg.now request.now
-        (lent_both room.old counts.old)
-        (lent records.old debounce.old memory.old board) }
+) -> Result<usize, Refusal>
+    ensures loans { keeps_loans state.old state.new }
+    ensures promise { leaves (of_length result) [] (lent_both room.new counts.new) (as_lent state.new)
+        ≡ request_reply cfg.now request.now (lent_both room.old counts.old) (as_lent state.old) }
 {
-    match judge(cfg, records, debounce, memory, board, request, room, counts) {
-        Check::Go => accept(cfg, records, debounce, memory, board, request, room, counts),
-        Check::Stop(refusal) => RequestReturned {
-            answer: LengthAnswer::Refused(refusal),
-            board,
-        },
-    }
+    judge(cfg, &state.as_found(), request, room, counts)?;
+    Ok(accept(cfg, state, request, room, counts))
 }

@@ -17,6 +17,7 @@ use Rattle.manual.specs.WellFormed.{lengths_fit}
 use Rattle.manual.specs.Answers.{lent_counts, done, refused, first_that_applies, number_of}
 use Rattle.manual.specs.Counts.{counts_fit, no_counts}
 use Rattle.manual.specs.Calls.{begins_with_lengths, fresh_records, fresh_state, fresh_rules, fresh}
+use Rattle.manual.proofs.AnswersLaws.{goes_through, stops_with}
 use Rattle.manual.proofs.WellFormedLaws.{LengthsTell, lengths_tell}
 use Rattle.manual.proofs.RecordsFollowHistories.{fresh_follows}
 use Rattle.writing.proofs.PartlyWritten.{mix, mix_more, mix_all}
@@ -24,11 +25,7 @@ use Rattle.writing.specs.Filled.{filled_from}
 use Rattle.writing.proofs.FilledLaws.{filled_whole}
 use Rattle.counts.specs.Near.{AreFive}
 use Rattle.counts.proofs.NearLaws.{are_five}
-use Rattle.judgement.specs.declared.Check.{Check}
-use Rattle.judgement.specs.declared.Check.TheVariants.{Go, Stop}
-use Rattle.judgement.specs.Checks.{check_number}
 use Rattle.judgement.proofs.BeginLaws.{begun_with_lengths}
-use Rattle.judgement.proofs.JudgedLaws.{accepted_by, refused_by}
 
 -- ---- the records
 
@@ -79,12 +76,12 @@ module _ (cfg : Configuration) (m : List ℕ) where
 -- ---- the state
 
 module _ (cfg : Configuration) (records : List ℕ) (debounce : List ℤ) (memory : List ℕ)
-    (fits : (b : Board) → lengths_fit cfg (lent records debounce memory b) ≡ true) where
+    (found : Board) (fits : lengths_fit cfg (lent records debounce memory found) ≡ true) where
   abbrev stopped : Board
   stopped = record { running = all_stopped; overflow = false }
 
-  lengths : LengthsTell cfg (lent records debounce memory stopped)
-  lengths = lengths_tell cfg (lent records debounce memory stopped) (fits stopped)
+  lengths : LengthsTell cfg (lent records debounce memory found)
+  lengths = lengths_tell cfg (lent records debounce memory found) fits
 
   pub records_as_long : length records ≡ record_width * events cfg
   records_as_long = lengths.records
@@ -101,10 +98,15 @@ module _ (cfg : Configuration) (records : List ℕ) (debounce : List ℤ) (memor
 -- ---- the call: the check that it begins with, and what it then leaves
 
 module _ (cfg : Configuration) (s : State) (fits : Bool) where
-  module _ {check : Check} (go : check ≡ Go)
-      (e : check_number check ≡ first_that_applies (begins_with_lengths cfg s fits [])) where
+  -- the check reads the state as it is lent
+  pub as_read : {found : State} → found ≡ s → {number : ℕ}
+      → number ≡ first_that_applies (begins_with_lengths cfg found fits [])
+      → number ≡ first_that_applies (begins_with_lengths cfg s fits [])
+  as_read same e = e ∙ ap (λ (x : State). first_that_applies (begins_with_lengths cfg x fits [])) same
+
+  module _ (go : 0 ≡ first_that_applies (begins_with_lengths cfg s fits [])) where
     all_fit : fits && lengths_fit cfg s ≡ true
-    all_fit = (begun_with_lengths cfg s fits (sym e ∙ ap check_number go)).1
+    all_fit = (begun_with_lengths cfg s fits (sym go)).1
 
     pub blocks_fit : lengths_fit cfg s ≡ true
     blocks_fit = and_right fits (lengths_fit cfg s) all_fit
@@ -119,15 +121,13 @@ module _ (cfg : Configuration) (s : State) (fits : Bool) where
     unfolding fresh_rules
     rules_are = ap (λ (b : Bool). first_that_applies (begins_with_lengths cfg s b [])) f
 
-    module _ {check : Check} where
-      pub made_fresh : check ≡ Go → check_number check ≡ first_that_applies (begins_with_lengths cfg s fits [])
-          → {s' : State} {counts' : List ℕ} → s' ≡ fresh_state cfg → counts' ≡ no_counts
-          → done (lent_counts counts') s' ≡ fresh cfg (lent_counts counts) s
-      unfolding fresh
-      made_fresh go e p q = accepted_by _ (e ∙ rules_are) _ _ _ go (λ i. done (lent_counts (q i)) (p i))
+    pub made_fresh : 0 ≡ first_that_applies (begins_with_lengths cfg s fits [])
+        → {s' : State} {counts' : List ℕ} → s' ≡ fresh_state cfg → counts' ≡ no_counts
+        → done (lent_counts counts') s' ≡ fresh cfg (lent_counts counts) s
+    unfolding fresh
+    made_fresh go p q = (λ i. done (lent_counts (q i)) (p i)) ∙ sym (goes_through _ _ _ _ (sym (go ∙ rules_are)))
 
-      pub left_as_found : (r : Refusal) → check ≡ Stop r
-          → check_number check ≡ first_that_applies (begins_with_lengths cfg s fits [])
-          → refused (number_of r) (lent_counts counts) s ≡ fresh cfg (lent_counts counts) s
-      unfolding fresh
-      left_as_found r g e = refused_by _ (e ∙ rules_are) _ _ _ r g refl
+    pub left_as_found : (r : Refusal) → number_of r ≡ first_that_applies (begins_with_lengths cfg s fits [])
+        → refused (number_of r) (lent_counts counts) s ≡ fresh cfg (lent_counts counts) s
+    unfolding fresh
+    left_as_found r e = stops_with _ _ _ _ r (e ∙ rules_are)

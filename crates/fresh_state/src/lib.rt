@@ -3,15 +3,14 @@
 
 ghost use Rattle.std.specs.Prelude.{◌≡◌, true, [], ◌+◌, ◌*◌, ◌≤◌, pos, length, replicate};
 ghost use Rattle.history.specs.StatusByte.{fresh_record};
-ghost use Rattle.manual.specs.declared.Board.{Board};
 ghost use Rattle.manual.specs.Configuration.{events};
-ghost use Rattle.manual.specs.State.{record_width, stored, with_stored, all_stopped, lent};
+ghost use Rattle.manual.specs.State.{record_width, stored, with_stored, all_stopped};
+ghost use Rattle.manual.specs.Lent.{as_lent, keeps_loans};
 ghost use Rattle.manual.specs.WellFormed.{lengths_fit};
 ghost use Rattle.manual.specs.Answers.{lent_counts, of_answer, leaves};
 ghost use Rattle.manual.specs.Calls.{fresh_records, fresh_state, fresh};
 
-use judgement::Check;
-use manual::{Answer, Board, EventNumber, Returned};
+use manual::{Board, EventNumber, LentMut, Refusal};
 
 // ---- the blocks
 
@@ -37,9 +36,7 @@ fn fresh_records(cfg: &[i32], records: &mut [u8])
 pub fn reset_numbers(debounce: &mut [i32])
     ensures { debounce.new ≡ replicate (length debounce.old) (pos 0) }
 {
-    for event in 0..debounce.len() {
-        status::write_number(debounce, EventNumber(event), 0);
-    }
+    debounce.fill(0);
 }
 
 // ---- the board
@@ -57,45 +54,27 @@ pub fn stopped_board(overflow: bool) -> Board
 // ---- the call
 
 // The fresh state, made of any blocks whose lengths fit.
-fn make_fresh(cfg: &[i32], records: &mut [u8], debounce: &mut [i32], memory: &mut [u8]) -> Board
-    requires { (b : Board) → lengths_fit cfg.now (lent records.old debounce.old memory.old b) ≡ true }
-    ensures { lent records.new debounce.new memory.new result
-        ≡ fresh_state cfg.now }
+fn make_fresh(cfg: &[i32], state: &mut LentMut)
+    requires { lengths_fit cfg.now (as_lent state.old) ≡ true }
+    ensures loans { keeps_loans state.old state.new }
+    ensures promise { as_lent state.new ≡ fresh_state cfg.now }
 {
-    fresh_records(cfg, records);
-    reset_numbers(debounce);
-    writing::zero_from(memory, 0);
-    stopped_board(false)
+    fresh_records(cfg, state.records);
+    reset_numbers(state.debounce);
+    writing::zero_from(state.memory, 0);
+    state.board = stopped_board(false);
 }
 
 // "Every call begins 2, 3. … For restore and for making a fresh state, 3 judges lengths only." Document 02, W7: "A
 // slice of another length is 3. A fresh state zeroes all five."
-pub fn fresh(
-    cfg: &[i32],
-    records: &mut [u8],
-    debounce: &mut [i32],
-    memory: &mut [u8],
-    board: Board,
-    counts: &mut [u32],
-) -> Returned
-    ensures { leaves (of_answer result.answer) [] (lent_counts counts.new)
-        (lent records.new debounce.new memory.new result.board)
-        ≡ fresh cfg.now (lent_counts counts.old)
-        (lent records.old debounce.old memory.old board) }
+pub fn fresh(cfg: &[i32], state: &mut LentMut, counts: &mut [u32]) -> Result<(), Refusal>
+    ensures loans { keeps_loans state.old state.new }
+    ensures leaves { leaves (of_answer result) [] (lent_counts counts.new) (as_lent state.new)
+        ≡ fresh cfg.now (lent_counts counts.old) (as_lent state.old) }
 {
     let fits = counts::fit(counts);
-    match judgement::begin_with_lengths(cfg, records, debounce, memory, fits) {
-        Check::Go => {
-            let after = make_fresh(cfg, records, debounce, memory);
-            counts::reset(counts);
-            Returned {
-                answer: Answer::Done,
-                board: after,
-            }
-        }
-        Check::Stop(refusal) => Returned {
-            answer: Answer::Refused(refusal),
-            board,
-        },
-    }
+    judgement::begin_with_lengths(cfg, &state.as_found(), fits)?;
+    make_fresh(cfg, state);
+    counts::reset(counts);
+    Ok(())
 }

@@ -12,19 +12,19 @@ ghost use Rattle.manual.specs.Missing.{missing_read};
 ghost use Rattle.manual.specs.Untested.{table_read, paint_read, list_grey};
 ghost use Rattle.manual.specs.Image.{save, restore};
 ghost use Rattle.manual.specs.Diagnostics.{request_reply};
-ghost use Rattle.queries.specs.Reading.{tells, tells_missing, start_in, length_in, says, frame_read};
+ghost use Rattle.queries.specs.Reading.{tells, tells_missing, says, frame_read};
 ghost use Rattle.untested.specs.Page.{table_told, paint_told};
+ghost use Rattle.grelpicado.specs.declared.PanelBoard.{PanelBoard};
 ghost use Rattle.grelpicado.specs.Panel.{yes, flag_byte, which_of, board_of, bytes_of, verdict_number, crosses};
 ghost use Rattle.grelpicado.specs.Panel.{crosses_without_board, crosses_with_counter, crosses_with_frame, with_answer};
 ghost use Rattle.grelpicado.specs.Panel.{crosses_with_missing, with_missing};
 ghost use Rattle.grelpicado.specs.Panel.{paint_number, crosses_with_table, crosses_with_paint, with_table, with_paint};
 ghost use Rattle.grelpicado.specs.Panel.{with_report, with_status, with_counter, with_frame, with_length, with_request};
 
-use diagnostics::RequestReturned;
 use manual::{
-    Board, CounterAnswer, EventNumber, FrameAnswer, LengthAnswer, MissingAnswer, Paint,
-    PaintAnswer, ReportReturned, Returned, StatusAnswer, TableReturned, Verdict, Which,
+    Board, EventNumber, FramePart, Lent, LentMut, Paint, Refusal, StillMissing, Verdict, Which,
 };
+use reporting::{Report, Tick};
 
 mod can;
 
@@ -135,7 +135,31 @@ fn flag(byte: u8) -> bool
 fn byte_of(flag: bool) -> u8
     ensures { result ≡ flag_byte flag }
 {
-    if flag { 1 } else { 0 }
+    u8::from(flag)
+}
+
+// The board that these bytes stand for.
+impl From<PanelBoard> for Board {
+    ghost from_gives = { λ bytes board. board ≡ board_of bytes };
+
+    fn from(bytes: PanelBoard) -> Board {
+        Board {
+            running: bytes.running.map(flag),
+            overflow: flag(bytes.overflow),
+        }
+    }
+}
+
+// The bytes of a board.
+impl From<Board> for PanelBoard {
+    ghost from_gives = { λ board bytes. bytes ≡ bytes_of board };
+
+    fn from(board: Board) -> PanelBoard {
+        PanelBoard {
+            running: board.running.map(byte_of),
+            overflow: byte_of(board.overflow),
+        }
+    }
 }
 
 // Document 02, W6: "Reading a frame takes a choice of which": 0 the first, anything else the latest.
@@ -149,45 +173,11 @@ fn which_of(choice: u32) -> Which
     }
 }
 
-// The board that these bytes stand for.
-fn board_of(bytes: PanelBoard) -> Board
-    ensures { result ≡ board_of bytes }
-{
-    let given = bytes.running;
-    let running = [
-        flag(given[0]),
-        flag(given[1]),
-        flag(given[2]),
-        flag(given[3]),
-    ];
-    Board {
-        running,
-        overflow: flag(bytes.overflow),
-    }
-}
-
-// The bytes of a board.
-fn bytes_of(board: Board) -> PanelBoard
-    ensures { result ≡ bytes_of board }
-{
-    let runs = board.running;
-    let running = [
-        byte_of(runs[0]),
-        byte_of(runs[1]),
-        byte_of(runs[2]),
-        byte_of(runs[3]),
-    ];
-    PanelBoard {
-        running,
-        overflow: byte_of(board.overflow),
-    }
-}
-
 // "A refusal … hands back the board it was given": byte for byte.
 fn handed_back(number: u8, after: Board, found: PanelBoard) -> PanelBoard
     ensures { result ≡ cond (eqb number 0) (bytes_of after) found }
 {
-    let new = bytes_of(after);
+    let new = PanelBoard::from(after);
     if number == 0 { new } else { found }
 }
 
@@ -215,38 +205,15 @@ fn paint_number(paint: Paint) -> u8
     }
 }
 
-// Where the frame part starts; on a refusal 0: "a frame part empty".
-fn frame_start(answer: FrameAnswer) -> usize
-    ensures { result ≡ start_in answer }
-{
-    match answer {
-        FrameAnswer::At(part) => part.start,
-        FrameAnswer::Refused(_) => 0,
-    }
-}
-
-// How many bytes the frame part has; none on a refusal.
-fn frame_length(answer: FrameAnswer) -> usize
-    ensures { result ≡ length_in answer }
-{
-    match answer {
-        FrameAnswer::At(part) => part.length,
-        FrameAnswer::Refused(_) => 0,
-    }
-}
-
 // ---- what a call answers, as it crosses
 
 // Fresh, tick, start, stop, clear and restore.
-pub(crate) fn answer_of(returned: Returned, found: PanelBoard) -> PanelAnswer
+fn answer_of(answer: Result<(), Refusal>, after: Board, found: PanelBoard) -> PanelAnswer
     ensures { (records : List ℕ) (debounce : List ℤ) (memory : List ℕ) (b : Beside)
         → with_answer records debounce memory b result
-        ≡ crosses (leaves (of_answer returned.answer) [] b (lent records debounce memory returned.board))
-        found }
+        ≡ crosses (leaves (of_answer answer) [] b (lent records debounce memory after)) found }
 {
-    let answer = returned.answer;
-    let after = returned.board;
-    let number = answers::answer_number(answer);
+    let number = answers::number(answer);
     PanelAnswer {
         number,
         board: handed_back(number, after, found),
@@ -254,121 +221,135 @@ pub(crate) fn answer_of(returned: Returned, found: PanelBoard) -> PanelAnswer
 }
 
 // A report.
-pub(crate) fn report_of(returned: ReportReturned, found: PanelBoard) -> PanelReport
+fn report_of(answer: Result<Verdict, Refusal>, after: Board, found: PanelBoard) -> PanelReport
     ensures { (records : List ℕ) (debounce : List ℤ) (memory : List ℕ) (b : Beside)
         → with_report records debounce memory b result
-        ≡ crosses (leaves (of_report returned.answer) [] b (lent records debounce memory returned.board))
-        found }
+        ≡ crosses (leaves (of_report answer) [] b (lent records debounce memory after)) found }
 {
-    let answer = returned.answer;
-    let after = returned.board;
-    let number = answers::report_number(answer);
+    let number = answers::number(answer);
     PanelReport {
         number,
-        verdict: verdict_number(answers::report_verdict(answer)),
+        verdict: verdict_number(answer.unwrap_or(Verdict::None)),
         board: handed_back(number, after, found),
     }
 }
 
 // A diagnostic request.
-pub(crate) fn request_of(returned: RequestReturned, found: PanelBoard) -> PanelRequest
+fn request_of(answer: Result<usize, Refusal>, after: Board, found: PanelBoard) -> PanelRequest
     ensures { (records : List ℕ) (debounce : List ℤ) (memory : List ℕ) (b : Beside)
         → with_request records debounce memory b result
-        ≡ crosses
-        (leaves (of_length returned.answer) [] b (lent records debounce memory returned.board))
-        found }
+        ≡ crosses (leaves (of_length answer) [] b (lent records debounce memory after)) found }
 {
-    let answer = returned.answer;
-    let after = returned.board;
-    let number = answers::length_number(answer);
+    let number = answers::number(answer);
     PanelRequest {
         number,
-        length: answers::written_length(answer),
+        length: answer.unwrap_or(0),
         board: handed_back(number, after, found),
     }
 }
 
 // Read status hands back no board.
-pub(crate) fn status_of(answer: StatusAnswer) -> PanelStatus
-    ensures { (s : State) (found : PanelBoard)
-        → with_status s.records s.debounce s.memory found result
-        ≡ crosses_without_board (leaves (of_status answer) [] alone s) found }
-{
-    PanelStatus {
-        number: answers::status_number(answer),
-        status: answers::status_byte(answer),
+impl From<Result<u8, Refusal>> for PanelStatus {
+    ghost from_gives = { λ answer panel. (s : State) (found : PanelBoard)
+        → with_status s.records s.debounce s.memory found panel
+        ≡ crosses_without_board (leaves (of_status answer) [] alone s) found };
+
+    fn from(answer: Result<u8, Refusal>) -> PanelStatus {
+        PanelStatus {
+            number: answers::number(answer),
+            status: answer.unwrap_or(0),
+        }
     }
 }
 
 // Read counter hands back no board.
-pub(crate) fn counter_of(answer: CounterAnswer) -> PanelCounter
-    ensures { (s : State) (found : PanelBoard)
-        → with_counter s.records s.debounce s.memory found result ≡ crosses_with_counter (tells answer s) found }
-{
-    PanelCounter {
-        number: answers::counter_number(answer),
-        counter: answers::counter(answer),
+impl From<Result<i8, Refusal>> for PanelCounter {
+    ghost from_gives = { λ answer panel. (s : State) (found : PanelBoard)
+        → with_counter s.records s.debounce s.memory found panel ≡ crosses_with_counter (tells answer s) found };
+
+    fn from(answer: Result<i8, Refusal>) -> PanelCounter {
+        PanelCounter {
+            number: answers::number(answer),
+            counter: answer.unwrap_or(0),
+        }
     }
 }
 
 // Read missing hands back no board.
-pub(crate) fn missing_of(answer: MissingAnswer) -> PanelMissing
-    ensures { (s : State) (found : PanelBoard)
-        → with_missing s.records s.debounce s.memory found result
-        ≡ crosses_with_missing (tells_missing answer s) found }
-{
-    PanelMissing {
-        number: answers::missing_number(answer),
-        count: answers::missing_count(answer),
-        lowest: answers::lowest_missing(answer),
+impl From<Result<StillMissing, Refusal>> for PanelMissing {
+    ghost from_gives = { λ answer panel. (s : State) (found : PanelBoard)
+        → with_missing s.records s.debounce s.memory found panel
+        ≡ crosses_with_missing (tells_missing answer s) found };
+
+    fn from(answer: Result<StillMissing, Refusal>) -> PanelMissing {
+        let still = answer.unwrap_or(StillMissing {
+            count: 0,
+            lowest: 0,
+        });
+        PanelMissing {
+            number: answers::number(answer),
+            count: still.count,
+            lowest: still.lowest,
+        }
     }
 }
 
 // Read table hands back no board.
-pub(crate) fn table_of(returned: TableReturned) -> PanelTable
-    ensures { (s : State) (found : PanelBoard)
-        → with_table s.records s.debounce s.memory found result ≡ crosses_with_table (table_told returned s) found }
-{
-    let answer = returned.answer;
-    let counts = returned.counts;
-    PanelTable {
-        number: answers::answer_number(answer),
-        counts,
+impl From<Result<[u16; manual::CYCLES * manual::BITS], Refusal>> for PanelTable {
+    ghost from_gives = { λ answer panel. (s : State) (found : PanelBoard)
+        → with_table s.records s.debounce s.memory found panel ≡ crosses_with_table (table_told answer s) found };
+
+    fn from(answer: Result<[u16; manual::CYCLES * manual::BITS], Refusal>) -> PanelTable {
+        PanelTable {
+            number: answers::number(answer),
+            counts: answer.unwrap_or([0; manual::CYCLES * manual::BITS]),
+        }
     }
 }
 
 // Read paint hands back no board.
-pub(crate) fn paint_of(answer: PaintAnswer) -> PanelPaint
-    ensures { (s : State) (found : PanelBoard)
-        → with_paint s.records s.debounce s.memory found result ≡ crosses_with_paint (paint_told answer s) found }
-{
-    PanelPaint {
-        number: answers::paint_number(answer),
-        paint: paint_number(answers::paint(answer)),
+impl From<Result<Paint, Refusal>> for PanelPaint {
+    ghost from_gives = { λ answer panel. (s : State) (found : PanelBoard)
+        → with_paint s.records s.debounce s.memory found panel ≡ crosses_with_paint (paint_told answer s) found };
+
+    fn from(answer: Result<Paint, Refusal>) -> PanelPaint {
+        PanelPaint {
+            number: answers::number(answer),
+            paint: paint_number(answer.unwrap_or(Paint::Grey)),
+        }
     }
 }
 
-// Read frame hands back no board.
-pub(crate) fn frame_of(answer: FrameAnswer) -> PanelFrame
-    ensures { (s : State) (found : PanelBoard)
-        → with_frame s.records s.debounce s.memory found result ≡ crosses_with_frame (says answer s) found }
-{
-    PanelFrame {
-        number: answers::frame_number(answer),
-        start: frame_start(answer),
-        length: frame_length(answer),
+// Read frame hands back no board. On a refusal it starts at 0 and has no bytes: "a frame part empty".
+impl From<Result<FramePart, Refusal>> for PanelFrame {
+    ghost from_gives = { λ answer panel. (s : State) (found : PanelBoard)
+        → with_frame s.records s.debounce s.memory found panel ≡ crosses_with_frame (says answer s) found };
+
+    fn from(answer: Result<FramePart, Refusal>) -> PanelFrame {
+        let part = answer.unwrap_or(FramePart {
+            start: 0,
+            length: 0,
+        });
+        PanelFrame {
+            number: answers::number(answer),
+            start: part.start,
+            length: part.length,
+        }
     }
 }
 
 // Save and list grey hand back no board.
-pub(crate) fn length_of(answer: LengthAnswer) -> PanelLength
-    ensures { (s : State) (room : List ℕ) (found : PanelBoard)
-        → with_length s.records s.debounce s.memory room found result
-        ≡ crosses_without_board (leaves (of_length answer) [] (lent_room room) s) found }
-{
-    PanelLength {
-        number: answers::length_number(answer),
-        length: answers::written_length(answer),
+impl From<Result<usize, Refusal>> for PanelLength {
+    ghost from_gives = { λ answer panel. (s : State) (room : List ℕ) (found : PanelBoard)
+        → with_length s.records s.debounce s.memory room found panel
+        ≡ crosses_without_board (leaves (of_length answer) [] (lent_room room) s) found };
+
+    fn from(answer: Result<usize, Refusal>) -> PanelLength {
+        let length = answer.unwrap_or(0);
+        PanelLength {
+            number: answers::number(answer),
+            length,
+        }
     }
 }
 
@@ -391,9 +372,14 @@ pub extern "C" fn grelpicado_fresh(
         (lent records.old debounce.old memory.old (board_of board)))
         board }
 {
-    let given = board_of(board);
-    let returned = fresh_state::fresh(cfg, records, debounce, memory, given, counts);
-    answer_of(returned, board)
+    let mut state = LentMut {
+        records,
+        debounce,
+        memory,
+        board: Board::from(board),
+    };
+    let answer = fresh_state::fresh(cfg, &mut state, counts);
+    answer_of(answer, state.board, board)
 }
 
 // "Each accepted report gives a verdict: none, passed or failed."
@@ -417,20 +403,20 @@ pub extern "C" fn grelpicado_report(
         (lent records.old debounce.old memory.old (board_of board)))
         board }
 {
-    let given = board_of(board);
-    let returned = reporting::report(
-        cfg,
+    let mut state = LentMut {
         records,
         debounce,
         memory,
-        given,
-        EventNumber(event),
+        board: Board::from(board),
+    };
+    let given = Report {
+        event: EventNumber(event),
         code,
         frame,
         present,
-        counts,
-    );
-    report_of(returned, board)
+    };
+    let answer = reporting::report(cfg, &mut state, &given, counts);
+    report_of(answer, state.board, board)
 }
 
 // "Every event so qualified takes the lent frame."
@@ -453,11 +439,15 @@ pub extern "C" fn grelpicado_tick(
         (lent records.old debounce.old memory.old (board_of board)))
         board }
 {
-    let given = board_of(board);
-    let returned = reporting::tick(
-        cfg, records, debounce, memory, given, ms, frame, present, counts,
-    );
-    answer_of(returned, board)
+    let mut state = LentMut {
+        records,
+        debounce,
+        memory,
+        board: Board::from(board),
+    };
+    let given = Tick { ms, frame, present };
+    let answer = reporting::tick(cfg, &mut state, &given, counts);
+    answer_of(answer, state.board, board)
 }
 
 // "Start of a stopped cycle: for its events clears 1, sets 6."
@@ -476,9 +466,9 @@ pub extern "C" fn grelpicado_start(
         (lent records.old debounce.now memory.now (board_of board)))
         board }
 {
-    let given = board_of(board);
-    let returned = cycles::start(cfg, records, debounce, memory, given, cycle);
-    answer_of(returned, board)
+    let mut after = Board::from(board);
+    let answer = cycles::start(cfg, records, debounce, memory, &mut after, cycle);
+    answer_of(answer, after, board)
 }
 
 // The call that stops a cycle.
@@ -499,9 +489,14 @@ pub extern "C" fn grelpicado_stop(
         (lent records.old debounce.old memory.old (board_of board)))
         board }
 {
-    let given = board_of(board);
-    let returned = cycles::stop(cfg, records, debounce, memory, given, cycle, counts);
-    answer_of(returned, board)
+    let mut state = LentMut {
+        records,
+        debounce,
+        memory,
+        board: Board::from(board),
+    };
+    let answer = cycles::stop(cfg, &mut state, cycle, counts);
+    answer_of(answer, state.board, board)
 }
 
 // "Clear, by one trouble code or FFFFFFh for all, in any cycle state"
@@ -522,9 +517,14 @@ pub extern "C" fn grelpicado_clear(
         (lent records.old debounce.old memory.old (board_of board)))
         board }
 {
-    let given = board_of(board);
-    let returned = clearing::clear(cfg, records, debounce, memory, given, code, counts);
-    answer_of(returned, board)
+    let mut state = LentMut {
+        records,
+        debounce,
+        memory,
+        board: Board::from(board),
+    };
+    let answer = clearing::clear(cfg, &mut state, code, counts);
+    answer_of(answer, state.board, board)
 }
 
 // The event's status byte.
@@ -543,9 +543,13 @@ pub extern "C" fn grelpicado_read_status(
         (lent records.now debounce.now memory.now (board_of board)))
         board }
 {
-    let given = board_of(board);
-    let answer = queries::read_status(cfg, records, debounce, memory, given, EventNumber(event));
-    status_of(answer)
+    let state = Lent {
+        records,
+        debounce,
+        memory,
+        board: Board::from(board),
+    };
+    PanelStatus::from(queries::read_status(cfg, &state, EventNumber(event)))
 }
 
 // Document 02, W1: the event's fault detection counter.
@@ -564,9 +568,13 @@ pub extern "C" fn grelpicado_read_counter(
         (lent records.now debounce.now memory.now (board_of board)))
         board }
 {
-    let given = board_of(board);
-    let answer = queries::read_counter(cfg, records, debounce, memory, given, EventNumber(event));
-    counter_of(answer)
+    let state = Lent {
+        records,
+        debounce,
+        memory,
+        board: Board::from(board),
+    };
+    PanelCounter::from(queries::read_counter(cfg, &state, EventNumber(event)))
 }
 
 // Document 02, W5: "how many of the conditions it needs are still missing, and the lowest missing number".
@@ -586,10 +594,13 @@ pub extern "C" fn grelpicado_read_missing(
         (lent records.now debounce.now memory.now (board_of board)))
         board }
 {
-    let given = board_of(board);
-    let event = EventNumber(event);
-    let answer = queries::read_missing(cfg, records, debounce, memory, given, event, present);
-    missing_of(answer)
+    let state = Lent {
+        records,
+        debounce,
+        memory,
+        board: Board::from(board),
+    };
+    PanelMissing::from(queries::read_missing(cfg, &state, EventNumber(event), present))
 }
 
 // Document 02, W10: "for each of the four cycles and each of the eight bits, the events of that cycle with the bit
@@ -608,9 +619,13 @@ pub extern "C" fn grelpicado_read_table(
         (lent records.now debounce.now memory.now (board_of board)))
         board }
 {
-    let given = board_of(board);
-    let returned = untested::read_table(cfg, records, debounce, memory, given);
-    table_of(returned)
+    let state = Lent {
+        records,
+        debounce,
+        memory,
+        board: Board::from(board),
+    };
+    PanelTable::from(untested::read_table(cfg, &state))
 }
 
 // Document 02, W10: "grey if bit 6 is set or its cycle is stopped, else red if bit 0 is set, else live".
@@ -629,9 +644,13 @@ pub extern "C" fn grelpicado_read_paint(
         (lent records.now debounce.now memory.now (board_of board)))
         board }
 {
-    let given = board_of(board);
-    let answer = untested::read_paint(cfg, records, debounce, memory, given, EventNumber(event));
-    paint_of(answer)
+    let state = Lent {
+        records,
+        debounce,
+        memory,
+        board: Board::from(board),
+    };
+    PanelPaint::from(untested::read_paint(cfg, &state, EventNumber(event)))
 }
 
 // Document 02, W10: "List the grey events in rising order, complete, into a lent slice of 16-bit numbers".
@@ -650,9 +669,13 @@ pub extern "C" fn grelpicado_list_grey(
         (lent records.now debounce.now memory.now (board_of board)))
         board }
 {
-    let given = board_of(board);
-    let answer = untested::list_grey(cfg, records, debounce, memory, given, list);
-    length_of(answer)
+    let state = Lent {
+        records,
+        debounce,
+        memory,
+        board: Board::from(board),
+    };
+    PanelLength::from(untested::list_grey(cfg, &state, list))
 }
 
 // "The stored frame is read as a part of the caller's own memory block, no copy.": the first or the latest.
@@ -672,18 +695,14 @@ pub extern "C" fn grelpicado_read_frame(
         (lent records.now debounce.now memory.now (board_of board)))
         board }
 {
-    let given = board_of(board);
-    let chosen = which_of(which);
-    let answer = queries::read_frame(
-        cfg,
+    let state = Lent {
         records,
         debounce,
         memory,
-        given,
-        EventNumber(event),
-        chosen,
-    );
-    frame_of(answer)
+        board: Board::from(board),
+    };
+    let chosen = which_of(which);
+    PanelFrame::from(queries::read_frame(cfg, &state, EventNumber(event), chosen))
 }
 
 // "Save writes the image, no more, and answers its length."
@@ -702,9 +721,13 @@ pub extern "C" fn grelpicado_save(
         (lent records.now debounce.now memory.now (board_of board)))
         board }
 {
-    let given = board_of(board);
-    let answer = image::save(cfg, records, debounce, memory, given, room);
-    length_of(answer)
+    let state = Lent {
+        records,
+        debounce,
+        memory,
+        board: Board::from(board),
+    };
+    PanelLength::from(image::save(cfg, &state, room))
 }
 
 // "Restore accepts exactly the images of well-formed states with all cycles stopped, and makes that state."
@@ -725,9 +748,14 @@ pub extern "C" fn grelpicado_restore(
         (lent records.old debounce.old memory.old (board_of board)))
         board }
 {
-    let given = board_of(board);
-    let returned = image::restore(cfg, records, debounce, memory, given, image, counts);
-    answer_of(returned, board)
+    let mut state = LentMut {
+        records,
+        debounce,
+        memory,
+        board: Board::from(board),
+    };
+    let answer = image::restore(cfg, &mut state, image, counts);
+    answer_of(answer, state.board, board)
 }
 
 // The diagnostic request: writes the reply at the front of the room, and answers its length.
@@ -749,9 +777,12 @@ pub extern "C" fn grelpicado_request(
         (lent records.old debounce.old memory.old (board_of board)))
         board }
 {
-    let given = board_of(board);
-    let returned = diagnostics::request(
-        cfg, records, debounce, memory, given, request, room, counts,
-    );
-    request_of(returned, board)
+    let mut state = LentMut {
+        records,
+        debounce,
+        memory,
+        board: Board::from(board),
+    };
+    let answer = diagnostics::request(cfg, &mut state, request, room, counts);
+    request_of(answer, state.board, board)
 }

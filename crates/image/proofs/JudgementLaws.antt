@@ -2,26 +2,33 @@
 use mathlib.Core.Path.{◌≡◌, refl, sym, ap, subst, ◌∙◌}
 use mathlib.Core.Bool.{Bool, true, false, ◌&&◌, ◌||◌, cond}
 use mathlib.Core.List.{List, [], ◌∷◌, ◌++◌, append-nil}
-use Prim.Native.Nat.{ℕ, zero, suc, ◌+◌, ◌-◌, ◌*◌, ◌≤◌, ◌<◌}
+use Prim.Native.Nat.{ℕ, zero, suc, ◌-◌, ◌*◌, ◌≤◌, ◌<◌}
 use native.Mathlib.Nat.{mul_comm, mul-sub, mul-le-mul_left}
-use native.Mathlib.Numerals.{add-one}
 use native.Mathlib.Omega.{arith}
 use lib.Dec.{eqb, leb}
 use lib.IntN.{pos}
 use lib.ListN.{length, get_or, take, drop, replicate, length-append, length-replicate}
-use lib.ListN.{length-drop, get_or-replicate, drop_of_length-le, get_or-eq_default}
-use lib.Seq.{take_at, drop_at, drop-cons, length-take-le, get_or-take}
-use borrow.Author.Tests.{eq-eqb, ne_eqb, lt-leb}
+use lib.ListN.{length-drop, get_or-replicate, get_or-eq_default}
+use lib.Seq.{take_at, drop_at, length-take-le, get_or-take}
+use borrow.Author.Tests.{eqb-true, eq-eqb, ne_eqb, lt-leb}
+use Rattle.std.specs.Prelude.{bytes_eq, Result, Ok, Err}
+use Rattle.manual.specs.declared.Refusal.{Refusal}
+use Rattle.manual.specs.declared.Refusal.TheVariants.{BadArgument, BadImage}
+use Rattle.manual.proofs.ConfigurationLaws.{config_tells}
+use Rattle.image.specs.declared.Edition.{Edition}
+use Rattle.image.specs.declared.Edition.TheVariants.{One, Two}
+use Rattle.image.specs.Editions.{edition_number, edition_of, edition_told}
 use Rattle.history.proofs.WordsLaws.{and_true, and_assoc}
 use Rattle.manual.specs.Words.{equal}
-use Rattle.manual.specs.Configuration.{Configuration, events, places, frame_bytes, entry_frames, cycle_of}
+use Rattle.manual.specs.Configuration.{Configuration, most_payload, events, places, cycle_of, config_ok}
 use Rattle.manual.specs.State.{State, lent, all_stopped, record_width}
 use Rattle.manual.specs.WellFormed.{d_fits, d_ok, lengths_fit_with}
 use Rattle.manual.specs.WellFormed.{well_formed_with}
 use Rattle.manual.specs.Memory.{entry_width, entry_count, bytes_in_use, memory_length}
-use Rattle.manual.specs.Image.{header_length, header, image_from, Edition, edition, edition1, edition2, memory_body}
+use Rattle.manual.specs.Image.{header_length, header, image_from, edition, edition1, edition2, memory_body}
+use Rattle.manual.specs.Image as manual
 use Rattle.manual.specs.Image.{image_in, records_of, state_in, acceptable_in, acceptable, used_in, after_records}
-use Rattle.manual.proofs.WordsLaws.{clash, all_below_lem, zeros_pass, equal_is, equal_refl}
+use Rattle.manual.proofs.WordsLaws.{clash, all_below_lem, zeros_pass, equal_refl}
 use Rattle.manual.proofs.ImageLaws.{none_runs, accepted_image, accepted_state, accepted_byte_1}
 use Rattle.manual.proofs.WellFormedLaws.{lengths_told, state_tells, used_length}
 use Rattle.memory.specs.Judgement.{used_ok, block_ok}
@@ -42,30 +49,13 @@ equal_append (x ∷ a) b [] d e = absurd (omega arith)
 equal_append (x ∷ a) b (y ∷ c) d e =
     ap (λ (t : Bool). eqb x y && t) (equal_append a b c d (omega arith)) ∙ and_assoc (eqb x y) (equal a c) (equal b d)
 
--- a turn of the loop that compares, and its end
-module _ (a b : List ℕ) (i : ℕ) where
-  turn : i < length a → i < length b
-      → equal (drop i a) (drop i b) ≡ eqb (get_or a i 0) (get_or b i 0) && equal (drop (i + 1) a) (drop (i + 1) b)
-  unfolding equal
-  turn h k = rw (drop-cons a i 0 h, drop-cons b i 0 k, add-one)
-
-  pub equal_goes_on : i < length a → i < length b → get_or a i 0 ≡ get_or b i 0
-      → equal (drop i a) (drop i b) ≡ equal (drop (i + 1) a) (drop (i + 1) b)
-  equal_goes_on h k e = turn h k ∙ rw (eq-eqb _ _ e)
-
-  pub equal_ends : i < length a → i < length b → (get_or a i 0 ≡ get_or b i 0 → ⊥) → equal (drop i a) (drop i b) ≡ false
-  equal_ends h k e = turn h k ∙ rw (ne_eqb _ _ e)
-
-  pub equal_through : length a ≡ length b → length a ≤ i → equal (drop i a) (drop i b) ≡ true
-  unfolding equal
-  equal_through e h = rw (drop_of_length-le a {i = i} h, drop_of_length-le b {i = i} (omega arith))
-
-pub equal_lengths : (a b : List ℕ) → (length a ≡ length b → ⊥) → equal a b ≡ false
-equal_lengths a b n = go (equal a b) refl
-  where
-    go : (t : Bool) → equal a b ≡ t → t ≡ false
-    go true e = absurd (n (ap length (equal_is a b e)))
-    go false e = refl
+-- `==` of two slices
+pub slices_equal : (a b : List ℕ) → bytes_eq a b ≡ equal a b
+unfolding equal
+slices_equal [] [] = refl
+slices_equal [] (y ∷ b) = refl
+slices_equal (x ∷ a) [] = refl
+slices_equal (x ∷ a) (y ∷ b) = ap (λ (t : Bool). eqb x y && t) (slices_equal a b)
 
 -- "the overflow flag (0 or 1)"
 flag_right : (flag : ℕ) → equal (cond (eqb flag 1) 1 0 ∷ []) (flag ∷ []) ≡ leb flag 1
@@ -79,7 +69,7 @@ flag_right (suc (suc flag)) =
 
 -- ---- an image of the right length
 
-module _ (cfg : Configuration) (ed : Edition) (head records used : List ℕ) (flag : ℕ)
+module _ (cfg : Configuration) (ed : manual.Edition) (head records used : List ℕ) (flag : ℕ)
     (fits : Fitting cfg ed.payload head records used) where
   abbrev n : ℕ
   n = events cfg
@@ -195,7 +185,7 @@ module _ (cfg : Configuration) (ed : Edition) (head records used : List ℕ) (fl
 
 -- ---- the code's tests, in its order
 
-module _ (cfg : Configuration) (ed : Edition) where
+module _ (cfg : Configuration) (ed : manual.Edition) where
   -- the image of a well-formed state has the right length
   own_length : (s : State) → well_formed_with cfg ed.payload s ≡ true
       → length_ok cfg ed.payload (image_in cfg ed s) ≡ true
@@ -281,31 +271,75 @@ module _ (cfg : Configuration) (number W : ℕ) (image : List ℕ) (ok : length_
 
 -- ---- byte 1 tells the edition
 
+module _ (number : ℕ) where
+  abbrev told_as : Result Edition Refusal → ℕ
+  told_as (Ok e) = edition_number e
+  told_as (Err r) = 0
+
+  abbrev refusal_in : Result Edition Refusal → Refusal
+  refusal_in (Ok e) = BadArgument
+  refusal_in (Err r) = r
+
+  some_number : (e : Edition) → edition_number e ≡ 0 → ⊥
+  some_number One h = absurd (omega arith)
+  some_number Two h = absurd (omega arith)
+
+  pub told_number : (e : Edition) → Ok e ≡ edition_told number → number ≡ edition_number e
+  told_number e q = go (eqb number 1) (eqb number 2) refl refl q
+    where
+      go : (a b : Bool) → eqb number 1 ≡ a → eqb number 2 ≡ b
+          → Ok e ≡ cond a (Ok One) (cond b (Ok Two) (Err BadImage))
+          → number ≡ edition_number e
+      go true b x y q = eqb-true number 1 x ∙ sym (ap told_as q)
+      go false true x y q = eqb-true number 2 y ∙ sym (ap told_as q)
+      go false false x y q = absurd (some_number e (ap told_as q))
+
+  pub told_none : (r : Refusal) → Err r ≡ edition_told number
+      → ((number ≡ 1 → ⊥) × (number ≡ 2 → ⊥)) × (r ≡ BadImage)
+  told_none r q = go (eqb number 1) (eqb number 2) refl refl q
+    where
+      go : (a b : Bool) → eqb number 1 ≡ a → eqb number 2 ≡ b
+          → Err r ≡ cond a (Ok One) (cond b (Ok Two) (Err BadImage))
+          → ((number ≡ 1 → ⊥) × (number ≡ 2 → ⊥)) × (r ≡ BadImage)
+      go true b x y q = absurd (some_number One (sym (ap told_as q)))
+      go false true x y q = absurd (some_number Two (sym (ap told_as q)))
+      go false false x y q = (
+        (
+          λ e. clash (eqb number 1) (eq-eqb number 1 e) x,
+          λ e. clash (eqb number 2) (eq-eqb number 2 e) y,
+        ),
+        ap refusal_in q,
+      )
+
+pub payload_fits : (cfg : Configuration) → config_ok cfg ≡ true → (e : Edition) → (edition_of cfg e).payload ≤ most_payload
+payload_fits cfg ok One = omega (arith, (config_tells cfg ok).F_most)
+payload_fits cfg ok Two = omega (arith, (config_tells cfg ok).payload_most)
+
 module _ (cfg : Configuration) (image : List ℕ) where
-  pub judged_as_1 : {payload : ℕ} {ok : Bool} → get_or image 1 0 ≡ 1 → payload ≡ frame_bytes cfg
-      → ok ≡ acceptable_in cfg (edition 1 payload) image → ok ≡ acceptable cfg image
+  pub judged_with : (e : Edition) → get_or image 1 0 ≡ edition_number e → {ok : Bool}
+      → ok ≡ acceptable_in cfg (edition_of cfg e) image → ok ≡ acceptable cfg image
   unfolding acceptable
-  judged_as_1 one p q =
+  judged_with One one q =
       q
-      ∙ ap (λ (k : ℕ). acceptable_in cfg (edition 1 k) image) p
       ∙ sym
       (ap (λ (b : Bool). b || acceptable_in cfg (edition1 cfg) image)
       (refused_by_byte_1 cfg (edition2 cfg) image (λ two. omega (arith, one, two))))
-
-  pub judged_as_2 : {payload : ℕ} {ok : Bool} → (get_or image 1 0 ≡ 1 → ⊥) → payload ≡ entry_frames cfg
-      → ok ≡ acceptable_in cfg (edition 2 payload) image → ok ≡ acceptable cfg image
-  unfolding acceptable
-  judged_as_2 other p q =
+  judged_with Two two q =
       q
-      ∙ ap (λ (k : ℕ). acceptable_in cfg (edition 2 k) image) p
       ∙ sym
       (ap (λ (b : Bool). acceptable_in cfg (edition2 cfg) image || b)
-      (refused_by_byte_1 cfg (edition1 cfg) image other)
+      (refused_by_byte_1 cfg (edition1 cfg) image (λ one. omega (arith, one, two)))
       ∙ or_false (acceptable_in cfg (edition2 cfg) image))
     where
       or_false : (b : Bool) → b || false ≡ b
       or_false true = refl
       or_false false = refl
+
+  -- of neither edition
+  pub refused_other : (get_or image 1 0 ≡ 1 → ⊥) → (get_or image 1 0 ≡ 2 → ⊥) → acceptable cfg image ≡ false
+  unfolding acceptable
+  refused_other one two =
+      λ i. refused_by_byte_1 cfg (edition2 cfg) image two i || refused_by_byte_1 cfg (edition1 cfg) image one i
 
   -- no byte 1
   pub refused_short : length image ≤ 1 → acceptable cfg image ≡ false

@@ -60,11 +60,6 @@ module _ (cfg : Configuration) (W : ℕ) (image : List ℕ) where
 
       module _ {used : ℕ}
           (u : used ≡ bytes_in_use W (entry_count (take (length image - start) (drop start image)))) where
-        pub end_most : config_ok cfg ≡ true → W ≤ most_payload → start + used ≤ 6357
-        end_most ok w =
-            let k = entry_count (take (length image - start) (drop start image)) in
-            omega (arith, e, (config_tells cfg ok).n_most, u, used_most W k w (count_most ok))
-
         pub few_enough : eqb (length image) (start + used + 1) ≡ length_ok cfg W image
         unfolding length_ok
         few_enough =

@@ -1,7 +1,7 @@
 -- Laws of restore: what its judge gives, and that what it writes is the state that the image tells.
 use mathlib.Core.Path.{◌≡◌, refl, sym, ap, subst, ◌∙◌}
 use mathlib.Core.Logic.{◌⊎◌, inl, inr}
-use mathlib.Core.Bool.{Bool, true, false, not}
+use mathlib.Core.Bool.{Bool, true, not}
 use mathlib.Core.List.{List, [], ◌∷◌, ◌++◌, map, append-nil}
 use Prim.Native.Nat.{ℕ, ◌+◌, ◌-◌, ◌*◌, ◌≤◌}
 use native.Mathlib.Nat.{mul_comm, mul-sub, mul-le-mul_left}
@@ -13,18 +13,17 @@ use lib.Seq.{take_at}
 use borrow.Author.Tests.{not-false}
 use Rattle.manual.specs.declared.Board.{Board}
 use Rattle.manual.specs.declared.Refusal.{Refusal}
-use Rattle.manual.specs.declared.Refusal.TheVariants.{BadImage}
 use Rattle.manual.specs.Configuration.{Configuration, most_places, events, places, frame_bytes, entry_frames, config_ok}
 use Rattle.manual.specs.State.{State, lent, all_stopped, record_width, with_memory}
 use Rattle.manual.specs.WellFormed.{lengths_fit, entries}
 use Rattle.manual.specs.Memory.{Entry, entry_width, entry_count, bytes_in_use, entries_of}
 use Rattle.manual.specs.OneEvent.{with_entries}
-use Rattle.manual.specs.Answers.{lent_counts, done, Rule, ◌if◌, first_that_applies, number_of}
+use Rattle.manual.specs.Answers.{lent_counts, done, refused, Rule, ◌if◌, first_that_applies, number_of}
 use Rattle.manual.specs.Counts.{counts_fit, present_counts}
 use Rattle.manual.specs.Calls.{begins_with_lengths}
 use Rattle.manual.specs.Image.{header_length, Edition, edition1, edition2, with_both, records_of, state_in, acceptable_in}
 use Rattle.manual.specs.Image.{Still, widened, state_of, acceptable, restore_rules, restored_to, restore}
-use Rattle.manual.proofs.AnswersLaws.{none_applies, three_passed, goes_through}
+use Rattle.manual.proofs.AnswersLaws.{none_applies, three_passed, goes_through, stops_with}
 use Rattle.manual.proofs.ConfigurationLaws.{config_tells}
 use Rattle.manual.proofs.AcceptedImages.{in_one, state_1, state_2, accepted_state}
 use Rattle.manual.proofs.WellFormedLaws.{lengths_tell, state_tells}
@@ -34,6 +33,9 @@ use Rattle.judgement.proofs.BeginLaws.{begun_with_lengths, after_lengths_go, aft
 use Rattle.writing.specs.Writing as writing
 use Rattle.writing.specs.Writing.{written, append, filled}
 use Rattle.writing.proofs.WritingLaws.{append_filled}
+use Rattle.std.specs.Prelude.{Result, Ok, Err}
+use Rattle.image.specs.declared.Edition as declared
+use Rattle.image.specs.Editions.{Judged, judged_number}
 use Rattle.image.specs.Layout.{memory_at, length_ok}
 use Rattle.image.specs.Widened.{widened_bytes, made_of}
 use Rattle.image.specs.Ready.{Counted, Fillable, Restorable}
@@ -47,10 +49,7 @@ use Rattle.writing.specs.Filled.{filled_from}
 
 -- ---- the judge
 
-module _ (cfg : Configuration) (image counts records : List ℕ) (debounce : List ℤ) (memory : List ℕ) (b : Board) where
-  abbrev s : State
-  s = lent records debounce memory b
-
+module _ (cfg : Configuration) (image counts : List ℕ) (s : State) where
   abbrev rules : List Rule
   rules = restore_rules cfg image (lent_counts counts) s
 
@@ -63,17 +62,15 @@ module _ (cfg : Configuration) (image counts records : List ℕ) (debounce : Lis
     unfolding restore_rules
     rules_are = ap (λ (x : Bool). first_that_applies (begins_with_lengths cfg s x eight)) f
 
-    module _ (go : first_that_applies (begins_with_lengths cfg s fits []) ≡ 0) where
+    module _ (go : 0 ≡ first_that_applies (begins_with_lengths cfg s fits [])) where
       pub begun_accepted : config_ok cfg ≡ true
-      begun_accepted = (begun_with_lengths cfg s fits go).0
+      begun_accepted = (begun_with_lengths cfg s fits (sym go)).0
 
-      pub judged_go : {ok : Bool} → ok ≡ acceptable cfg image → ok ≡ true → 0 ≡ first_that_applies rules
+      pub judged_image : (r : Result declared.Edition Refusal) → Judged cfg image r → judged_number r ≡ first_that_applies rules
       unfolding first_that_applies
-      judged_go p q = sym (after_lengths_go cfg s fits eight go ∙ rw (← p, q)) ∙ rules_are
-
-      pub judged_bad : {ok : Bool} → ok ≡ acceptable cfg image → ok ≡ false → number_of BadImage ≡ first_that_applies rules
-      unfolding first_that_applies
-      judged_bad p q = sym (after_lengths_go cfg s fits eight go ∙ rw (← p, q)) ∙ rules_are
+      judged_image (Ok e) j = sym (after_lengths_go cfg s fits eight (sym go) ∙ rw j.0) ∙ rules_are
+      judged_image (Err r) j =
+          ap number_of j.1 ∙ sym (after_lengths_go cfg s fits eight (sym go) ∙ rw j.0) ∙ rules_are
 
     pub judged_stop : (r : Refusal) → number_of r ≡ first_that_applies (begins_with_lengths cfg s fits [])
         → number_of r ≡ first_that_applies rules
@@ -81,16 +78,16 @@ module _ (cfg : Configuration) (image counts records : List ℕ) (debounce : Lis
 
   -- ---- the call
 
-  module _ (z : first_that_applies rules ≡ 0) where
+  module _ (z : 0 ≡ first_that_applies rules) where
     -- what is lent has its length
     lengths_right : (counts_fit counts ≡ true) × (lengths_fit cfg s ≡ true)
     unfolding restore_rules
-    lengths_right = three_passed (counts_fit counts) (lengths_fit cfg s) (none_applies _ z refl 1)
+    lengths_right = three_passed (counts_fit counts) (lengths_fit cfg s) (none_applies _ (sym z) refl 1)
 
-    pub restore_ready : Restorable cfg records debounce memory image
+    pub restore_ready : Restorable cfg s.records s.debounce s.memory image
     unfolding restore_rules
     restore_ready =
-        let none = none_applies _ z refl in
+        let none = none_applies _ (sym z) refl in
         let t = lengths_tell cfg s lengths_right.1 in
         record {
           accepted = not-false (config_ok cfg) (none 0);
@@ -127,7 +124,19 @@ module _ (cfg : Configuration) (image counts records : List ℕ) (debounce : Lis
       restore_done n q =
           ap (λ (l : List ℕ). done (lent_counts l) s') (q (entries cfg s') (entries_are_count _ s'.memory ∙ sym n))
           ∙ ap (λ (t : State). restored_to cfg t (lent_counts counts)) p
-          ∙ sym (goes_through _ (lent_counts counts) s (restored_to cfg (state_of cfg image) (lent_counts counts)) z)
+          ∙ sym
+          (goes_through _ (lent_counts counts) s (restored_to cfg (state_of cfg image) (lent_counts counts)) (sym z))
+
+  pub restore_left : (r : Refusal) → number_of r ≡ first_that_applies rules
+      → refused (number_of r) (lent_counts counts) s ≡ restore cfg image (lent_counts counts) s
+  unfolding restore
+  restore_left r e = stops_with _ _ _ _ r e
+
+  -- the judge reads the state as it is lent
+  pub as_read : {found : State} → found ≡ s → {number : ℕ}
+      → number ≡ first_that_applies (restore_rules cfg image (lent_counts counts) found)
+      → number ≡ first_that_applies rules
+  as_read same e = e ∙ ap (λ (x : State). first_that_applies (restore_rules cfg image (lent_counts counts) x)) same
 
 -- ---- what is written
 
@@ -318,8 +327,8 @@ module _ (cfg : Configuration) (records : List ℕ) (debounce : List ℤ) (memor
         → ◌≡◌ {A = ℕ × List ℕ} (F, cut) (frame_bytes cfg, used cfg ed image a)
     body_is ed a = λ i. (f i, cut_is ed a i)
 
-    pub fillable : Fillable (get_or image 1 0) F cut memory
-    fillable = go one_of
+    fillable_told : Fillable (get_or image 1 0) F cut memory
+    fillable_told = go one_of
       where
         told_of : (ed : Edition) (a : acceptable_in cfg ed image ≡ true)
             → Fillable (get_or image 1 0) (frame_bytes cfg) (used cfg ed image a) memory
@@ -331,22 +340,31 @@ module _ (cfg : Configuration) (records : List ℕ) (debounce : List ℤ) (memor
         go (inl a) = told_of (edition2 cfg) a (fillable₂ a)
         go (inr a) = told_of (edition1 cfg) a (fillable₁ a)
 
-    pub restored_is : {records' memory' : List ℕ} {debounce' : List ℤ} {board' : Board} {next : ℕ}
-        → written next records' ≡ append (take (start - header_length) (drop header_length image)) (written 0 records)
-        → debounce' ≡ replicate (length debounce) (pos 0)
-        → memory' ≡ block F cut
-        → board' ≡ record { running = all_stopped; overflow = eqb (get_or image (length image - 1) 0) 1 }
-        → lent records' debounce' memory' board' ≡ state_of cfg image
-    restored_is {records'} {memory'} {debounce'} {board'} p d m b = go one_of
-      where
-        state : (ed : Edition) (a : acceptable_in cfg ed image ≡ true)
-            → lent records' debounce' memory' board'
-            ≡ with_memory (block (frame_bytes cfg) (used cfg ed image a)) (state_in cfg ed image)
-        state ed a =
-            made_around cfg ed image a records debounce at r.records_as_long r.debounce_as_long p d b
-            ∙ ap (λ (l : List ℕ). with_memory l (state_in cfg ed image))
-            (m ∙ (λ i. block (body_is ed a i).0 (body_is ed a i).1))
+    -- the edition that byte 1 tells
+    module _ {number : ℕ} (told : get_or image 1 0 ≡ number) where
+      pub fillable : Fillable number F cut memory
+      fillable = subst (λ (n : ℕ). Fillable n F cut memory) told fillable_told
 
-        go : As2 ⊎ As1 → lent records' debounce' memory' board' ≡ state_of cfg image
-        go (inl a) = state (edition2 cfg) a ∙ state₂ a
-        go (inr a) = state (edition1 cfg) a ∙ state₁ a
+      pub restored_is : {records' memory' : List ℕ} {debounce' : List ℤ} {board' : Board} {next : ℕ}
+          → written next records' ≡ append (take (start - header_length) (drop header_length image)) (written 0 records)
+          → debounce' ≡ replicate (length debounce) (pos 0)
+          → memory' ≡ made_of number F cut ++ replicate (length memory - length (made_of number F cut)) 0
+          → board' ≡ record { running = all_stopped; overflow = eqb (get_or image (length image - 1) 0) 1 }
+          → lent records' debounce' memory' board' ≡ state_of cfg image
+      restored_is {records'} {memory'} {debounce'} {board'} p d m b = go one_of
+        where
+          as_told : made_of number F cut ++ replicate (length memory - length (made_of number F cut)) 0 ≡ block F cut
+          as_told =
+              ap (λ (n : ℕ). made_of n F cut ++ replicate (length memory - length (made_of n F cut)) 0) (sym told)
+
+          state : (ed : Edition) (a : acceptable_in cfg ed image ≡ true)
+              → lent records' debounce' memory' board'
+              ≡ with_memory (block (frame_bytes cfg) (used cfg ed image a)) (state_in cfg ed image)
+          state ed a =
+              made_around cfg ed image a records debounce at r.records_as_long r.debounce_as_long p d b
+              ∙ ap (λ (l : List ℕ). with_memory l (state_in cfg ed image))
+              (m ∙ as_told ∙ (λ i. block (body_is ed a i).0 (body_is ed a i).1))
+
+          go : As2 ⊎ As1 → lent records' debounce' memory' board' ≡ state_of cfg image
+          go (inl a) = state (edition2 cfg) a ∙ state₂ a
+          go (inr a) = state (edition1 cfg) a ∙ state₁ a

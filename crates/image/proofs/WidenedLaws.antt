@@ -6,7 +6,7 @@ use Prim.Native.Nat.{ℕ, zero, suc, ◌+◌, ◌-◌, ◌*◌, ◌≤◌, ◌<�
 use native.Mathlib.Nat.{mul-suc, mul_comm, mul-sub}
 use native.Mathlib.Omega.{arith}
 use lib.ListN.{length, take, drop, replicate, length-append, length-drop}
-use lib.Seq.{take_all, length-take-le, drop-drop}
+use lib.Seq.{take_all, take_at, drop_at, length-take-le}
 use borrow.Author.Tests.{eq-eqb, ne_eqb}
 use Rattle.manual.specs.Words.{All}
 use Rattle.manual.specs.Memory.{Entry, payload_of, entry_width, entry_bytes, entry_at, memory_length, entry_count, bytes_in_use}
@@ -69,114 +69,79 @@ module _ (F : ℕ) where
       ap (λ (l : List ℕ). l ++ next k (drop (entry_width F) m))
       (both_bytes F m (omega (arith, mul-suc (entry_width F) k)))
 
-  one_left : (w left : ℕ) → 0 < left → w * left ≡ w * (left - 1) + w
-  one_left w zero h = absurd (omega arith)
-  one_left w (suc k) h = let e : suc k - 1 ≡ k = omega arith in rw e (mul-suc w k)
-
-  -- after some entries: those that are left, written behind what is written, make the whole
-  pub record Going (used : List ℕ) (whole : writing.Written) (before memory : List ℕ) (at from left : ℕ)
-      : Type 0 where
-    pub read : from + entry_width F * left ≡ length used
+  -- with so many entries left: those, written behind what is written, make the whole
+  pub record Going (whole : writing.Written) (before memory rest : List ℕ) (at left : ℕ) : Type 0 where
+    pub read : length rest ≡ entry_width F * left
     pub room : at + entry_width (2 * F) * left ≤ length memory
     pub kept : length memory ≡ length before
-    pub makes : append (next left (drop from used)) (written at memory) ≡ whole
+    pub makes : append (next left rest) (written at memory) ≡ whole
+
+  abbrev pub Turn : writing.Written → List ℕ → List ℕ → List ℕ → ℕ → Type 0
+  Turn whole before memory rest at = (left : ℕ) × Going whole before memory rest at left
 
   -- the entry count is written
-  pub count_long : (used before : List ℕ) → Widenable F used before → length (take 1 used) ≡ 1
-  count_long used before r = length-take-le 1 used (omega (arith, r.as_long))
-
-  module _ (used before : List ℕ) (r : Widenable F used before) {memory : List ℕ} {at left : ℕ}
-      (l : left ≡ entry_count used) (e : written at memory ≡ append (take 1 used) (written 0 before)) where
-    pub begins : length memory ≡ length before
-        → Going used (append (next left (drop 1 used)) (written at memory)) memory memory at 1 left
-    begins k =
-        let w = ap (λ (j : ℕ). entry_width (2 * F) * j) l in
+  pub begins : (used before : List ℕ) → Widenable F used before → {memory rest : List ℕ} {at : ℕ}
+      → written at memory ≡ append (take 1 used) (written 0 before) → length memory ≡ length before
+      → rest ≡ take (length used - 1) (drop 1 used)
+      → Turn (append (widened_bytes F used) (written 0 before)) before memory rest at
+  unfolding widened_bytes entries_of
+  begins [] before r e k q = absurd (omega (arith, r.as_long))
+  begins (count ∷ m) before r {memory} {rest} {at} e k q =
+      let rest-is : rest ≡ m = q ∙ take_all (length (count ∷ m) - 1) m (omega arith) in (
+        count,
         record {
-          read = ap (bytes_in_use F) l ∙ sym r.as_long;
-          room = omega (arith, append_next _ _ e, count_long used before r, k, r.within, w);
-          kept = refl;
-          makes = refl;
-        }
-
-    pub makes_whole : append (next left (drop 1 used)) (written at memory)
-        ≡ append (widened_bytes F used) (written 0 before)
-    unfolding widened_bytes entries_of
-    makes_whole = go used (omega (arith, r.as_long)) l e
-      where
-        go : (used : List ℕ) → 0 < length used → left ≡ entry_count used
-            → written at memory ≡ append (take 1 used) (written 0 before)
-            → append (next left (drop 1 used)) (written at memory) ≡ append (widened_bytes F used) (written 0 before)
-        go [] h l e = absurd (omega arith)
-        go (count ∷ m) h l e =
-            append_then (count ∷ []) (next left m) (written 0 before) e refl
-            ∙ ap (λ (k : ℕ). append (count ∷ next k m) (written 0 before)) l
+          read = ap length rest-is ∙ omega (arith, r.as_long);
+          room = omega (arith, append_next _ _ e, k, r.within);
+          kept = k;
+          makes =
+              ap (λ (l : List ℕ). append (next count l) (written at memory)) rest-is
+              ∙ append_then (count ∷ []) (next count m) (written 0 before) e refl;
+        },
+      )
 
   -- an entry more
-  module _ {used before memory : List ℕ} {whole : writing.Written} {at from left : ℕ}
-      (g : Going used whole before memory at from left) (some : 0 < left) where
-    abbrev entry : List ℕ
-    entry = take (from + entry_width F - from) (drop from used)
+  module _ (rest entry rest' : List ℕ) (s : rest ≡ entry ++ rest') (long : length entry ≡ entry_width F) where
+    next_left : (k : ℕ) → length rest ≡ entry_width F * suc k → next (suc k) rest ≡ both_frames entry ++ next k rest'
+    next_left k read =
+        next_is k rest (omega (arith, read))
+        ∙
+        (λ i. both_frames ((ap (take (entry_width F)) s ∙ take_at entry rest' (entry_width F) long) i)
+        ++ next k ((ap (drop (entry_width F)) s ∙ drop_at entry rest' (entry_width F) long) i))
 
-    pub entry_within : from + entry_width F ≤ length used
-    entry_within = omega (arith, g.read, one_left (entry_width F) left some)
-
-    width_is : from + entry_width F - from ≡ entry_width F
-    width_is = omega arith
-
-    pub entry_long : length entry ≡ entry_width F
-    entry_long =
-        length-take-le (from + entry_width F - from) (drop from used)
-        (omega (arith, length-drop from used, entry_within))
-        ∙ width_is
-
-    pub entry_room : at + 2 * length entry ≤ length memory + 3
-    entry_room = omega (arith, g.room, one_left (entry_width (2 * F)) left some, entry_long)
-
-    next_left : next left (drop from used) ≡ both_frames entry ++ next (left - 1) (drop (from + entry_width F) used)
-    next_left = go left some (omega (arith, g.read, length-drop from used))
-      where
-        go : (left : ℕ) → 0 < left → entry_width F * left ≤ length (drop from used)
-            → next left (drop from used)
-            ≡ both_frames entry ++ next (left - 1) (drop (from + entry_width F) used)
-        go zero s h = absurd (omega arith)
-        go (suc k) s h =
-            let e : k ≡ suc k - 1 = omega arith in
-            next_is k (drop from used) h
-            ∙
-            (λ i. both_frames (take (sym width_is i) (drop from used))
-            ++ next (e i) (drop-drop (entry_width F) from used i))
-
-    pub goes_on : {next-at : ℕ} {after : List ℕ} → length after ≡ length memory
-        → written next-at after ≡ append (both_frames entry) (written at memory)
-        → Going used whole before after next-at (from + entry_width F) (left - 1)
-    goes_on k e = record {
-      read = omega (arith, g.read, one_left (entry_width F) left some);
-      room =
-          omega (
-            arith,
-            g.room,
-            one_left (entry_width (2 * F)) left some,
-            append_next _ _ e,
-            both_long entry (omega (arith, entry_long)),
-            entry_long,
-            k,
-          );
-      kept = k ∙ g.kept;
-      makes =
-          append_then (both_frames entry) (next (left - 1) (drop (from + entry_width F) used)) (written at memory) e refl
-          ∙ ap (λ (l : List ℕ). append l (written at memory)) (sym next_left)
-          ∙ g.makes;
-    }
+    module _ {whole : writing.Written} {before memory : List ℕ} {at : ℕ} where
+      pub goes_on : (left : ℕ) → Going whole before memory rest at left
+          → {next-at : ℕ} {after : List ℕ} → length after ≡ length memory
+          → written next-at after ≡ append (both_frames entry) (written at memory)
+          → Turn whole before after rest' next-at
+      goes_on zero g kept e = absurd (omega (arith, g.read, ap length s, length-append entry rest', long))
+      goes_on (suc k) g kept e = (
+        k,
+        record {
+          read = omega (arith, g.read, ap length s, length-append entry rest', long, mul-suc (entry_width F) k);
+          room =
+              omega (
+                arith,
+                g.room,
+                mul-suc (entry_width (2 * F)) k,
+                append_next _ _ e,
+                both_long entry (omega (arith, long)),
+                long,
+                kept,
+              );
+          kept = kept ∙ g.kept;
+          makes =
+              append_then (both_frames entry) (next k rest') (written at memory) e refl
+              ∙ ap (λ (l : List ℕ). append l (written at memory)) (sym (next_left k g.read))
+              ∙ g.makes;
+        },
+      )
 
   -- none is left
-  pub ends : {used before memory : List ℕ} {whole : writing.Written} {at from left : ℕ}
-      → Going used whole before memory at from left → left ≤ 0 → written at memory ≡ whole
+  pub ends : {whole : writing.Written} {before memory rest : List ℕ} {at : ℕ} (left : ℕ)
+      → Going whole before memory rest at left → length rest < entry_width F → written at memory ≡ whole
   unfolding entries_from entries_bytes
-  ends {used} {memory} {at} {from} {left} g h =
-      let none : 0 ≡ left = omega arith in
-      sym (append_none (written at memory))
-      ∙ ap (λ (k : ℕ). append (next k (drop from used)) (written at memory)) none
-      ∙ g.makes
+  ends {memory} {at} zero g h = sym (append_none (written at memory)) ∙ g.makes
+  ends (suc k) g h = absurd (omega (arith, g.read, mul-suc (entry_width F) k))
 
 -- ---- the whole
 

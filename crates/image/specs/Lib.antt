@@ -1,3 +1,4 @@
+pub mod Editions
 pub mod Layout
 pub mod Widened
 pub mod Ready

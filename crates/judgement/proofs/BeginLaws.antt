@@ -56,7 +56,7 @@ stops false b rules r e = sym e
 -- ---- a call's judge is the beginning, then its own tests
 
 module _ (cfg : Configuration) (s : State) (fits : Bool) where
-  -- what Go gives
+  -- what a check that goes on gives
   pub begun : first_that_applies (begins cfg s fits []) ≡ 0 → (config_ok cfg ≡ true) × (fits && well_formed cfg s ≡ true)
   begun e = both_hold (config_ok cfg) (fits && well_formed cfg s) e
 
@@ -64,7 +64,7 @@ module _ (cfg : Configuration) (s : State) (fits : Bool) where
       → first_that_applies (begins cfg s fits rules) ≡ first_that_applies rules
   after_go rules e = goes_on (config_ok cfg) (fits && well_formed cfg s) rules e
 
-  -- what Stop gives
+  -- what one that stops gives
   pub after_stop : (rules : List Rule) (r : Refusal) → number_of r ≡ first_that_applies (begins cfg s fits [])
       → first_that_applies (begins cfg s fits rules) ≡ number_of r
   after_stop rules r e = stops (config_ok cfg) (fits && well_formed cfg s) rules r e

@@ -2,10 +2,10 @@
 #![tactic(auto)]
 
 ghost use Rattle.std.specs.Prelude.{◌≡◌, true, [], pos, length, get_or, ◌+◌, ◌*◌, ◌≤◌};
-ghost use Rattle.manual.specs.declared.Board.{Board};
 ghost use Rattle.manual.specs.Words.{all_below};
 ghost use Rattle.manual.specs.Configuration.{events, limits_of, config_ok};
-ghost use Rattle.manual.specs.State.{record_width, runs, opened, stored_at, lent};
+ghost use Rattle.manual.specs.State.{record_width, runs, opened, stored_at};
+ghost use Rattle.manual.specs.Lent.{as_found};
 ghost use Rattle.manual.specs.WellFormed.{lengths_fit, record_ok, d_ok, well_formed};
 ghost use Rattle.manual.specs.Answers.{first_that_applies};
 ghost use Rattle.manual.specs.Calls.{begins, begins_with_lengths};
@@ -14,14 +14,7 @@ ghost use Rattle.status.specs.Clauses.{bytes_ok, limits_kept};
 ghost use Rattle.judgement.specs.Checks.{check_number, two_three};
 ghost use Rattle.judgement.specs.Fits.{EventIn, RecordsFor, NumbersFor};
 
-use manual::{Board, EventNumber, Refusal};
-
-// Whether a call goes on, or why it is refused.
-#[derive(Clone, Copy)]
-pub enum Check {
-    Go,
-    Stop(Refusal),
-}
+use manual::{Board, EventNumber, Lent, Refusal};
 
 // Whether the cycle runs; a cycle above 3 does not.
 pub fn runs(board: Board, cycle: usize) -> bool
@@ -36,18 +29,15 @@ pub fn runs(board: Board, cycle: usize) -> bool
 // ---- "A state is well formed when …"
 
 // "all lengths fit"
-pub fn lengths_fit(cfg: &[i32], records: &[u8], debounce: &[i32], memory: &[u8]) -> bool
+pub fn lengths_fit(cfg: &[i32], state: &Lent) -> bool
     requires { config_ok cfg.now ≡ true }
-    ensures { (b : Board)
-        → result
-        ≡ lengths_fit cfg.now
-        (lent records.now debounce.now memory.now b) }
+    ensures { result ≡ lengths_fit cfg.now (as_found state.now) }
 {
     let n = config::events(cfg);
     let memory_length = memory::memory_length(config::places(cfg), memory::entry_frames(cfg));
-    (records.len() == manual::RECORD_WIDTH * n)
-        & (debounce.len() == n)
-        & (memory.len() == memory_length)
+    (state.records.len() == manual::RECORD_WIDTH * n)
+        & (state.debounce.len() == n)
+        & (state.memory.len() == memory_length)
 }
 
 // The clauses on an event's record that ask for no number of its row. They are judged in a pass of their own: on bytes
@@ -152,78 +142,52 @@ pub fn numbers_ok(cfg: &[i32], board: Board, debounce: &[i32]) -> bool
 
 // Whether the state is well formed, whatever its blocks hold and however long they are: "all lengths fit", then "for
 // each event", then "Memory has at most M entries, …".
-pub fn well_formed(
-    cfg: &[i32],
-    records: &[u8],
-    debounce: &[i32],
-    memory: &[u8],
-    board: Board,
-) -> bool
+pub fn well_formed(cfg: &[i32], state: &Lent) -> bool
     requires { config_ok cfg.now ≡ true }
-    ensures { result
-        ≡ well_formed cfg.now
-        (lent records.now debounce.now memory.now board) }
+    ensures { result ≡ well_formed cfg.now (as_found state.now) }
 {
-    if !lengths_fit(cfg, records, debounce, memory) {
+    if !lengths_fit(cfg, state) {
         return false;
     }
     let n = config::events(cfg);
     let m = config::places(cfg);
     let f = memory::entry_frames(cfg);
-    records_ok(cfg, records)
-        & numbers_ok(cfg, board, debounce)
-        & memory::memory_ok(n, m, f, memory, records)
+    records_ok(cfg, state.records)
+        & numbers_ok(cfg, state.board, state.debounce)
+        & memory::memory_ok(n, m, f, state.memory, state.records)
 }
 
 // ---- how a call begins
 
 // 2, then 3: "The first that applies, in the call's order, is given."
-fn first_of(config_ok: bool, state_ok: bool) -> Check
+fn first_of(config_ok: bool, state_ok: bool) -> Result<(), Refusal>
     ensures { check_number result ≡ first_that_applies (two_three config_ok state_ok []) }
 {
     if !config_ok {
-        return Check::Stop(Refusal::BadConfiguration);
+        return Err(Refusal::BadConfiguration);
     }
     if !state_ok {
-        return Check::Stop(Refusal::BadState);
+        return Err(Refusal::BadState);
     }
-    Check::Go
+    Ok(())
 }
 
 // "Every call begins 2, 3." `fits` says whether what is lent beside the state has the right lengths.
-pub fn begin(
-    cfg: &[i32],
-    records: &[u8],
-    debounce: &[i32],
-    memory: &[u8],
-    board: Board,
-    fits: bool,
-) -> Check
+pub fn begin(cfg: &[i32], state: &Lent, fits: bool) -> Result<(), Refusal>
     ensures { check_number result
-        ≡ first_that_applies
-        (begins cfg.now (lent records.now debounce.now memory.now board)
-        fits []) }
+        ≡ first_that_applies (begins cfg.now (as_found state.now) fits []) }
 {
     let config_ok = config::config_ok(cfg);
-    let state_ok = config_ok && well_formed(cfg, records, debounce, memory, board);
+    let state_ok = config_ok && well_formed(cfg, state);
     first_of(config_ok, fits & state_ok)
 }
 
 // "For restore and for making a fresh state, 3 judges lengths only."
-pub fn begin_with_lengths(
-    cfg: &[i32],
-    records: &[u8],
-    debounce: &[i32],
-    memory: &[u8],
-    fits: bool,
-) -> Check
-    ensures { (b : Board)
-        → check_number result
-        ≡ first_that_applies
-        (begins_with_lengths cfg.now
-        (lent records.now debounce.now memory.now b) fits []) }
+pub fn begin_with_lengths(cfg: &[i32], state: &Lent, fits: bool) -> Result<(), Refusal>
+    ensures { check_number result
+        ≡ first_that_applies (begins_with_lengths cfg.now (as_found state.now) fits []) }
 {
     let config_ok = config::config_ok(cfg);
-    let state_ok = config_ok && lengths_fit(cfg, records, debounce, memory);
+    let state_ok = config_ok && lengths_fit(cfg, state);
     first_of(config_ok, fits & state_ok)
 }

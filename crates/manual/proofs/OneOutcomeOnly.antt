@@ -5,22 +5,14 @@ use mathlib.Core.Bool.{false, cond}
 use mathlib.Core.List.{List, []}
 use Prim.Native.Nat.{ℕ}
 use lib.Dec.{eqb}
-use lib.IntN.{ℤ}
 use borrow.Author.Tests.{ne_eqb}
+use Rattle.std.specs.Prelude.{Result, Ok, Err, ⊤}
+use Rattle.manual.specs.declared.Verdict.{Verdict}
 use Rattle.manual.specs.declared.Refusal.{Refusal}
 use Rattle.manual.specs.declared.Refusal.TheVariants.{BadArgument, BadConfiguration, BadState, NoSuch}
 use Rattle.manual.specs.declared.Refusal.TheVariants.{WrongCycleState, NoPreResult, RoomTooSmall, BadImage}
 use Rattle.manual.specs.declared.Refusal.TheVariants.{WrongFrame, NoEntry, MissingCondition, CountsFull}
-use Rattle.manual.specs.declared.Answer.{Answer}
-use Rattle.manual.specs.declared.Answer.TheVariants.{Done}
-use Rattle.manual.specs.declared.Returned.{Returned}
-use Rattle.manual.specs.declared.ReportAnswer.{ReportAnswer}
-use Rattle.manual.specs.declared.ReportAnswer.TheVariants.{Accepted}
-use Rattle.manual.specs.declared.StatusAnswer.{StatusAnswer}
-use Rattle.manual.specs.declared.StatusAnswer.TheVariants.{Status}
-use Rattle.manual.specs.declared.LengthAnswer.{LengthAnswer}
-use Rattle.manual.specs.declared.LengthAnswer.TheVariants.{Written}
-use Rattle.manual.specs.State.{State, lent}
+use Rattle.manual.specs.State.{State}
 use Rattle.manual.specs.Answers.{Beside, Outcome, number_of, Answered, answered}
 use Rattle.manual.specs.Answers.{of_answer, of_report, of_status, of_length, leaves}
 use Rattle.manual.proofs.AnswersLaws.{never_done}
@@ -60,36 +52,36 @@ module _ {A : Type 0} (done : Answered → A) (refuse : Refusal → A) where
   pub refused_back : (r : Refusal) (a : Answered) → a.number ≡ number_of r → answer_at a ≡ refuse r
   refused_back r a e = rw (e, not_done r, refusal_back r)
 
-abbrev answer_of : Answered → Answer
-answer_of a = answer_at (λ a. Done) Answer.Refused a
+abbrev answer_of : Answered → Result ⊤ Refusal
+answer_of a = answer_at (λ a. Ok tt) Err a
 
-answer_back : (a : Answer) → answer_of (of_answer a) ≡ a
-answer_back Done = refl
-answer_back (Answer.Refused r) = refused_back (λ a. Done) Answer.Refused r (of_answer (Answer.Refused r)) refl
+answer_back : (a : Result ⊤ Refusal) → answer_of (of_answer a) ≡ a
+answer_back (Ok t) = refl
+answer_back (Err r) = refused_back (λ a. Ok tt) Err r (of_answer (Err r)) refl
 
-abbrev report_of : Answered → ReportAnswer
-report_of a = answer_at (λ a. Accepted a.verdict) ReportAnswer.Refused a
+abbrev report_of : Answered → Result Verdict Refusal
+report_of a = answer_at (λ a. Ok a.verdict) Err a
 
-report_back : (a : ReportAnswer) → report_of (of_report a) ≡ a
-report_back (Accepted v) = refl
-report_back (ReportAnswer.Refused r) =
-    refused_back (λ a. Accepted a.verdict) ReportAnswer.Refused r (of_report (ReportAnswer.Refused r)) refl
+report_back : (a : Result Verdict Refusal) → report_of (of_report a) ≡ a
+report_back (Ok v) = refl
+report_back (Err r) =
+    refused_back (λ a. Ok a.verdict) Err r (of_report (Err r)) refl
 
-abbrev status_answer_of : Answered → StatusAnswer
-status_answer_of a = answer_at (λ a. Status a.value) StatusAnswer.Refused a
+abbrev status_answer_of : Answered → Result ℕ Refusal
+status_answer_of a = answer_at (λ a. Ok a.value) Err a
 
-status_back : (a : StatusAnswer) → status_answer_of (of_status a) ≡ a
-status_back (Status byte) = refl
-status_back (StatusAnswer.Refused r) =
-    refused_back (λ a. Status a.value) StatusAnswer.Refused r (of_status (StatusAnswer.Refused r)) refl
+status_back : (a : Result ℕ Refusal) → status_answer_of (of_status a) ≡ a
+status_back (Ok byte) = refl
+status_back (Err r) =
+    refused_back (λ a. Ok a.value) Err r (of_status (Err r)) refl
 
-abbrev length_of : Answered → LengthAnswer
-length_of a = answer_at (λ a. Written a.value) LengthAnswer.Refused a
+abbrev length_of : Answered → Result ℕ Refusal
+length_of a = answer_at (λ a. Ok a.value) Err a
 
-length_back : (a : LengthAnswer) → length_of (of_length a) ≡ a
-length_back (Written length) = refl
-length_back (LengthAnswer.Refused r) =
-    refused_back (λ a. Written a.value) LengthAnswer.Refused r (of_length (LengthAnswer.Refused r)) refl
+length_back : (a : Result ℕ Refusal) → length_of (of_length a) ≡ a
+length_back (Ok length) = refl
+length_back (Err r) =
+    refused_back (λ a. Ok a.value) Err r (of_length (Err r)) refl
 
 -- ---- one outcome
 
@@ -130,28 +122,25 @@ module _ {A : Type 0} (of : A → Answered) (from : Answered → A) (back : (a :
       one_outcome (λ (y : Outcome). from (answered y.answer y.verdict y.value)) (back a) (back a') p q
 
 module _ {o : Outcome} {part part' : List ℕ} {b b' : Beside} {s s' : State} where
-  pub same_answer : (a a' : Answer) → leaves (of_answer a) part b s ≡ o → leaves (of_answer a') part' b' s' ≡ o → a ≡ a'
+  pub same_answer : (a a' : Result ⊤ Refusal) → leaves (of_answer a) part b s ≡ o → leaves (of_answer a') part' b' s' ≡ o → a ≡ a'
   same_answer = same_numbers of_answer answer_of answer_back
 
   -- report
-  pub same_report : (a a' : ReportAnswer) → leaves (of_report a) part b s ≡ o → leaves (of_report a') part' b' s' ≡ o
+  pub same_report : (a a' : Result Verdict Refusal) → leaves (of_report a) part b s ≡ o → leaves (of_report a') part' b' s' ≡ o
       → a ≡ a'
   same_report = same_numbers of_report report_of report_back
 
   -- read status
-  pub same_status : (a a' : StatusAnswer) → leaves (of_status a) part b s ≡ o → leaves (of_status a') part' b' s' ≡ o
+  pub same_status : (a a' : Result ℕ Refusal) → leaves (of_status a) part b s ≡ o → leaves (of_status a') part' b' s' ≡ o
       → a ≡ a'
   same_status = same_numbers of_status status_answer_of status_back
 
   -- save and a diagnostic request
-  pub same_length : (a a' : LengthAnswer) → leaves (of_length a) part b s ≡ o → leaves (of_length a') part' b' s' ≡ o
+  pub same_length : (a a' : Result ℕ Refusal) → leaves (of_length a) part b s ≡ o → leaves (of_length a') part' b' s' ≡ o
       → a ≡ a'
   same_length = same_numbers of_length length_of length_back
 
 -- fresh, tick, start, stop, clear and restore: the answer with the board
-pub same_returned : {o : Outcome} {b b' : Beside} {records records' : List ℕ} {debounce debounce' : List ℤ}
-    {memory memory' : List ℕ} (r r' : Returned)
-    → leaves (of_answer r.answer) [] b (lent records debounce memory r.board) ≡ o
-    → leaves (of_answer r'.answer) [] b' (lent records' debounce' memory' r'.board) ≡ o
-    → r ≡ r'
-same_returned r r' p q = λ i. record { answer = same_answer r.answer r'.answer p q i; board = same_board p q i }
+pub same_answer_and_board : {o : Outcome} {b b' : Beside} {s s' : State} (a a' : Result ⊤ Refusal)
+    → leaves (of_answer a) [] b s ≡ o → leaves (of_answer a') [] b' s' ≡ o → (a ≡ a') × (s.board ≡ s'.board)
+same_answer_and_board a a' p q = (same_answer a a' p q, same_board p q)

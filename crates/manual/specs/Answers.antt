@@ -1,5 +1,5 @@
 -- Document 01, "Numbers a call answers with". Assumes nothing.
-use Rattle.std.specs.Prelude.{◌≡◌, Bool, true, false, cond, List, [], ◌∷◌, ◌++◌, ℕ, eqb, ℤ, pos}
+use Rattle.std.specs.Prelude.{◌≡◌, Bool, true, false, cond, List, [], ◌∷◌, ◌++◌, ℕ, eqb, ℤ, pos, Result, Ok, Err, ⊤}
 use Rattle.history.specs.Words.{any_of}
 use Rattle.manual.specs.declared.Verdict.{Verdict}
 use Rattle.manual.specs.declared.Verdict.TheVariants.{None}
@@ -7,24 +7,10 @@ use Rattle.manual.specs.declared.Refusal.{Refusal}
 use Rattle.manual.specs.declared.Refusal.TheVariants.{BadArgument, BadConfiguration, BadState, NoSuch}
 use Rattle.manual.specs.declared.Refusal.TheVariants.{WrongCycleState, NoPreResult, RoomTooSmall, BadImage}
 use Rattle.manual.specs.declared.Refusal.TheVariants.{WrongFrame, NoEntry, MissingCondition, CountsFull}
-use Rattle.manual.specs.declared.Answer.{Answer}
-use Rattle.manual.specs.declared.Answer.TheVariants.{Done}
-use Rattle.manual.specs.declared.ReportAnswer.{ReportAnswer}
-use Rattle.manual.specs.declared.ReportAnswer.TheVariants.{Accepted}
-use Rattle.manual.specs.declared.StatusAnswer.{StatusAnswer}
-use Rattle.manual.specs.declared.StatusAnswer.TheVariants.{Status}
-use Rattle.manual.specs.declared.CounterAnswer.{CounterAnswer}
-use Rattle.manual.specs.declared.CounterAnswer.TheVariants.{Counter}
-use Rattle.manual.specs.declared.MissingAnswer.{MissingAnswer}
-use Rattle.manual.specs.declared.MissingAnswer.TheVariants.{Missing}
 use Rattle.manual.specs.declared.Paint.{Paint}
 use Rattle.manual.specs.declared.Paint.TheVariants.{Grey}
-use Rattle.manual.specs.declared.PaintAnswer.{PaintAnswer}
-use Rattle.manual.specs.declared.PaintAnswer.TheVariants.{Painted}
-use Rattle.manual.specs.declared.FrameAnswer.{FrameAnswer}
-use Rattle.manual.specs.declared.FrameAnswer.TheVariants.{At}
-use Rattle.manual.specs.declared.LengthAnswer.{LengthAnswer}
-use Rattle.manual.specs.declared.LengthAnswer.TheVariants.{Written}
+use Rattle.manual.specs.declared.StillMissing.{StillMissing}
+use Rattle.manual.specs.declared.FramePart.{FramePart}
 use Rattle.manual.specs.State.{State}
 
 -- What is lent beside the blocks and the board for a call to write: the output room, of bytes or, to list the grey
@@ -115,6 +101,11 @@ number_of NoEntry = 10
 number_of MissingCondition = 11
 number_of CountsFull = 12
 
+-- the number of an answer, whatever stands beside it
+abbrev pub number_answered : {A : Type 0} → Result A Refusal → ℕ
+number_answered (Ok x) = 0
+number_answered (Err r) = number_of r
+
 -- an answer in this paper's numbers
 pub record Answered : Type 0 where
   pub number : ℕ
@@ -124,53 +115,53 @@ pub record Answered : Type 0 where
 abbrev pub answered : ℕ → Verdict → ℕ → Answered
 answered number verdict value = record { number = number; verdict = verdict; value = value }
 
-abbrev pub of_answer : Answer → Answered
-of_answer Done = answered 0 None 0
-of_answer (Answer.Refused r) = answered (number_of r) None 0
+abbrev pub of_answer : Result ⊤ Refusal → Answered
+of_answer (Ok t) = answered 0 None 0
+of_answer (Err r) = answered (number_of r) None 0
 
-abbrev pub of_report : ReportAnswer → Answered
-of_report (Accepted v) = answered 0 v 0
-of_report (ReportAnswer.Refused r) = answered (number_of r) None 0
+abbrev pub of_report : Result Verdict Refusal → Answered
+of_report (Ok v) = answered 0 v 0
+of_report (Err r) = answered (number_of r) None 0
 
-abbrev pub of_status : StatusAnswer → Answered
-of_status (Status byte) = answered 0 None byte
-of_status (StatusAnswer.Refused r) = answered (number_of r) None 0
+abbrev pub of_status : Result ℕ Refusal → Answered
+of_status (Ok byte) = answered 0 None byte
+of_status (Err r) = answered (number_of r) None 0
 
 -- the counter, which has a sign, is said beside it
-abbrev pub of_counter : CounterAnswer → Answered
-of_counter (Counter z) = answered 0 None 0
-of_counter (CounterAnswer.Refused r) = answered (number_of r) None 0
+abbrev pub of_counter : Result ℤ Refusal → Answered
+of_counter (Ok z) = answered 0 None 0
+of_counter (Err r) = answered (number_of r) None 0
 
-abbrev pub counter_answered : CounterAnswer → ℤ
-counter_answered (Counter z) = z
-counter_answered (CounterAnswer.Refused r) = pos 0
+abbrev pub counter_answered : Result ℤ Refusal → ℤ
+counter_answered (Ok z) = z
+counter_answered (Err r) = pos 0
 
 -- the paint is said beside it; "a refusal … paints grey"
-abbrev pub of_paint : PaintAnswer → Answered
-of_paint (Painted p) = answered 0 None 0
-of_paint (PaintAnswer.Refused r) = answered (number_of r) None 0
+abbrev pub of_paint : Result Paint Refusal → Answered
+of_paint (Ok p) = answered 0 None 0
+of_paint (Err r) = answered (number_of r) None 0
 
-abbrev pub paint_answered : PaintAnswer → Paint
-paint_answered (Painted p) = p
-paint_answered (PaintAnswer.Refused r) = Grey
+abbrev pub paint_answered : Result Paint Refusal → Paint
+paint_answered (Ok p) = p
+paint_answered (Err r) = Grey
 
 -- the lowest missing number is said beside it; "a refusal … answers 0 and 0"
-abbrev pub of_missing : MissingAnswer → Answered
-of_missing (Missing still) = answered 0 None still.count
-of_missing (MissingAnswer.Refused r) = answered (number_of r) None 0
+abbrev pub of_missing : Result StillMissing Refusal → Answered
+of_missing (Ok still) = answered 0 None still.count
+of_missing (Err r) = answered (number_of r) None 0
 
-abbrev pub lowest_answered : MissingAnswer → ℕ
-lowest_answered (Missing still) = still.lowest
-lowest_answered (MissingAnswer.Refused r) = 0
+abbrev pub lowest_answered : Result StillMissing Refusal → ℕ
+lowest_answered (Ok still) = still.lowest
+lowest_answered (Err r) = 0
 
 -- the part is said of the caller's block beside it
-abbrev pub of_frame : FrameAnswer → Answered
-of_frame (At part) = answered 0 None 0
-of_frame (FrameAnswer.Refused r) = answered (number_of r) None 0
+abbrev pub of_frame : Result FramePart Refusal → Answered
+of_frame (Ok part) = answered 0 None 0
+of_frame (Err r) = answered (number_of r) None 0
 
-abbrev pub of_length : LengthAnswer → Answered
-of_length (Written length) = answered 0 None length
-of_length (LengthAnswer.Refused r) = answered (number_of r) None 0
+abbrev pub of_length : Result ℕ Refusal → Answered
+of_length (Ok length) = answered 0 None length
+of_length (Err r) = answered (number_of r) None 0
 
 -- an answer, with the frame part, what was lent beside and the state that the call leaves
 abbrev pub leaves : Answered → List ℕ → Beside → State → Outcome

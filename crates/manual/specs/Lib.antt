@@ -1,6 +1,7 @@
 pub mod Words
 pub mod Configuration
 pub mod State
+pub mod Lent
 pub mod WellFormed
 pub mod Answers
 pub mod Debouncing

@@ -2,6 +2,10 @@
 // specs/.
 #![tactic(auto)]
 
+ghost use Rattle.std.specs.Prelude.{◌≡◌};
+ghost use Rattle.manual.specs.Answers.{number_of};
+ghost use Rattle.manual.specs.Lent.{as_found, as_lent};
+
 // "An event number is never taken for a place in memory."
 #[derive(Clone, Copy)]
 pub struct EventNumber(pub usize);
@@ -100,32 +104,26 @@ pub enum Refusal {
     CountsFull,
 }
 
-// The answer of fresh, tick, start, stop, clear and restore.
-#[derive(Clone, Copy)]
-pub enum Answer {
-    Done,
-    Refused(Refusal),
-}
+// "Numbers a call answers with": its number.
+impl From<Refusal> for u8 {
+    ghost from_gives = { λ refusal number. number ≡ number_of refusal };
 
-// The answer of a report.
-#[derive(Clone, Copy)]
-pub enum ReportAnswer {
-    Accepted(Verdict),
-    Refused(Refusal),
-}
-
-// The answer of read status: the status byte.
-#[derive(Clone, Copy)]
-pub enum StatusAnswer {
-    Status(u8),
-    Refused(Refusal),
-}
-
-// The answer of read counter: the fault detection counter.
-#[derive(Clone, Copy)]
-pub enum CounterAnswer {
-    Counter(i8),
-    Refused(Refusal),
+    fn from(refusal: Refusal) -> u8 {
+        match refusal {
+            Refusal::BadArgument => 1,
+            Refusal::BadConfiguration => 2,
+            Refusal::BadState => 3,
+            Refusal::NoSuch => 4,
+            Refusal::WrongCycleState => 5,
+            Refusal::NoPreResult => 6,
+            Refusal::RoomTooSmall => 7,
+            Refusal::BadImage => 8,
+            Refusal::WrongFrame => 9,
+            Refusal::NoEntry => 10,
+            Refusal::MissingCondition => 11,
+            Refusal::CountsFull => 12,
+        }
+    }
 }
 
 // Document 02, W5: "how many of the conditions it needs are still missing, and the lowest missing number, or 32 when
@@ -136,26 +134,12 @@ pub struct StillMissing {
     pub lowest: u32,
 }
 
-// The answer of read missing.
-#[derive(Clone, Copy)]
-pub enum MissingAnswer {
-    Missing(StillMissing),
-    Refused(Refusal),
-}
-
 // Document 02, W10: "each event gets a paint".
 #[derive(Clone, Copy)]
 pub enum Paint {
     Grey,
     Red,
     Live,
-}
-
-// The answer of read paint.
-#[derive(Clone, Copy)]
-pub enum PaintAnswer {
-    Painted(Paint),
-    Refused(Refusal),
 }
 
 // Document 02, W6: "Reading a frame takes a choice of which": the frame of the first failure, or of the latest.
@@ -172,38 +156,34 @@ pub struct FramePart {
     pub length: usize,
 }
 
-// The answer of read frame: where the frame is.
+// "the lent blocks": the records, the debounce numbers and memory as a call finds them, and the board that it is given.
 #[derive(Clone, Copy)]
-pub enum FrameAnswer {
-    At(FramePart),
-    Refused(Refusal),
-}
-
-// The answer of save and of a diagnostic request: how many bytes of the room were written; and of list grey: how many
-// numbers.
-#[derive(Clone, Copy)]
-pub enum LengthAnswer {
-    Written(usize),
-    Refused(Refusal),
-}
-
-// What a call that can change the board hands back: its answer, and the board.
-#[derive(Clone, Copy)]
-pub struct Returned {
-    pub answer: Answer,
+pub struct Lent<'a> {
+    pub records: &'a [u8],
+    pub debounce: &'a [i32],
+    pub memory: &'a [u8],
     pub board: Board,
 }
 
-// The same of a report.
-#[derive(Clone, Copy)]
-pub struct ReportReturned {
-    pub answer: ReportAnswer,
+// The same, lent to a call that can change them. What it leaves of the board stands here too.
+#[derive(Drop)]
+pub struct LentMut<'a> {
+    pub records: &'a mut [u8],
+    pub debounce: &'a mut [i32],
+    pub memory: &'a mut [u8],
     pub board: Board,
 }
 
-// What read table hands back: its answer, and "a four by eight table of counts", cycle by cycle, bit 0 first.
-#[derive(Clone, Copy)]
-pub struct TableReturned {
-    pub answer: Answer,
-    pub counts: [u16; CYCLES * BITS],
+impl<'a> LentMut<'a> {
+    // The state as it stands, to be read.
+    pub fn as_found<'b>(&'b self) -> Lent<'b>
+        ensures { as_found result ≡ as_lent self.now }
+    {
+        Lent {
+            records: &*self.records,
+            debounce: &*self.debounce,
+            memory: &*self.memory,
+            board: self.board,
+        }
+    }
 }

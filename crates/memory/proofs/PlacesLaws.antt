@@ -23,8 +23,8 @@ use Rattle.manual.specs.Memory.{Entry, event_of, entry_width, entry_at, entry_co
 use Rattle.manual.proofs.ConfigurationLaws.{config_tells}
 use Rattle.manual.proofs.MemoryLaws.{entries_length}
 use Rattle.manual.proofs.WellFormedLaws.{state_tells, used_fits}
-use Rattle.memory.specs.declared.Find.{Find}
-use Rattle.memory.specs.declared.Find.TheVariants.{At, Nothing}
+use Rattle.memory.specs.Places.{Find}
+use Rattle.std.specs.Prelude.{Some, None}
 use Rattle.memory.specs.Places.{blank, at_place, first_place_from, first_place}
 use Rattle.memory.specs.Fits.{EntriesFit, PlaceFits, EventsFit}
 
@@ -105,18 +105,18 @@ next_entry xs i h = drop-cons xs i blank h ∙ ap (λ (k : ℕ). at_place i xs �
 module _ (q : Entry → Bool) (xs : List Entry) (i : ℕ) where
   first_turn : i < length xs
       → first_place_from q i (drop i xs)
-      ≡ cond (q (at_place i xs)) (At (record { 0 = i })) (first_place_from q (i + 1) (drop (i + 1) xs))
+      ≡ cond (q (at_place i xs)) (Some (record { 0 = i })) (first_place_from q (i + 1) (drop (i + 1) xs))
   unfolding first_place_from
   first_turn h = ap (first_place_from q i) (next_entry xs i h)
 
-  pub first_hit : i < length xs → q (at_place i xs) ≡ true → first_place_from q i (drop i xs) ≡ At (record { 0 = i })
+  pub first_hit : i < length xs → q (at_place i xs) ≡ true → first_place_from q i (drop i xs) ≡ Some (record { 0 = i })
   first_hit h e = first_turn h ∙ rw e refl
 
   pub first_miss : i < length xs → q (at_place i xs) ≡ false
       → first_place_from q i (drop i xs) ≡ first_place_from q (i + 1) (drop (i + 1) xs)
   first_miss h e = first_turn h ∙ rw e refl
 
-  pub first_end : length xs ≤ i → first_place_from q i (drop i xs) ≡ Nothing
+  pub first_end : length xs ≤ i → first_place_from q i (drop i xs) ≡ None
   unfolding first_place_from
   first_end h = ap (first_place_from q i) (drop_of_length-le xs {i = i} h)
 
@@ -129,13 +129,13 @@ pub record Found (q : Entry → Bool) (xs : List Entry) (p : ℕ) : Type 0 where
   pub first : first_of q xs ≡ some (at_place p xs)
 
 abbrev pub Finds : (Entry → Bool) → List Entry → Find → Type 0
-Finds q xs (At p) = Found q xs p.0
-Finds q xs Nothing = first_of q xs ≡ none
+Finds q xs (Some p) = Found q xs p.0
+Finds q xs None = first_of q xs ≡ none
 
 -- the same entry, one place later
 abbrev later : Find → Find
-later (At p) = At (record { 0 = suc p.0 })
-later Nothing = Nothing
+later (Some p) = Some (record { 0 = suc p.0 })
+later None = None
 
 later_is : (q : Entry → Bool) (i : ℕ) (xs : List Entry) → first_place_from q (i + 1) xs ≡ later (first_place_from q i xs)
 unfolding first_place_from
@@ -143,16 +143,16 @@ later_is q i [] = refl
 later_is q i (x ∷ xs) = rw (later_is q (i + 1) xs) (go (q x))
   where
     go : (b : Bool)
-        → cond b (At (record { 0 = i + 1 })) (later (first_place_from q (i + 1) xs))
-        ≡ later (cond b (At (record { 0 = i })) (first_place_from q (i + 1) xs))
-    go true = ap (λ (k : ℕ). At (record { 0 = k })) (add-one i)
+        → cond b (Some (record { 0 = i + 1 })) (later (first_place_from q (i + 1) xs))
+        ≡ later (cond b (Some (record { 0 = i })) (first_place_from q (i + 1) xs))
+    go true = ap (λ (k : ℕ). Some (record { 0 = k })) (add-one i)
     go false = refl
 
 later_finds : (q : Entry → Bool) (x : Entry) (xs : List Entry) (r : Find) → q x ≡ false → Finds q xs r
     → Finds q (x ∷ xs) (later r)
 unfolding first_of
-later_finds q x xs (At p) e f = record { inside = suc-le-suc f.inside; passes = f.passes; first = rw e f.first }
-later_finds q x xs Nothing e f = rw e f
+later_finds q x xs (Some p) e f = record { inside = suc-le-suc f.inside; passes = f.passes; first = rw e f.first }
+later_finds q x xs None e f = rw e f
 
 pub first_finds : (q : Entry → Bool) (xs : List Entry) → Finds q xs (first_place q xs)
 unfolding first_place_from first_of
@@ -160,14 +160,14 @@ first_finds q [] = refl
 first_finds q (x ∷ xs) = rw (later_is q 0 xs) (go (first_finds q xs) (q x) refl)
   where
     go : Finds q xs (first_place q xs) → (b : Bool) → q x ≡ b
-        → Finds q (x ∷ xs) (cond b (At (record { 0 = 0 })) (later (first_place q xs)))
+        → Finds q (x ∷ xs) (cond b (Some (record { 0 = 0 })) (later (first_place q xs)))
     go f true e = record { inside = suc-le-suc zero-le; passes = e; first = rw e refl }
     go f false e = later_finds q x xs (first_place q xs) e f
 
-pub found : (q : Entry → Bool) (xs : List Entry) (p : Place) → first_place q xs ≡ At p → Found q xs p.0
+pub found : (q : Entry → Bool) (xs : List Entry) (p : Place) → first_place q xs ≡ Some p → Found q xs p.0
 found q xs p e = subst (Finds q xs) e (first_finds q xs)
 
-pub found_nothing : (q : Entry → Bool) (xs : List Entry) → first_place q xs ≡ Nothing → first_of q xs ≡ none
+pub found_nothing : (q : Entry → Bool) (xs : List Entry) → first_place q xs ≡ None → first_of q xs ≡ none
 found_nothing q xs e = subst (Finds q xs) e (first_finds q xs)
 
 -- ---- each entry, by its place
@@ -195,10 +195,10 @@ module _ (q : Entry → Bool) (xs : List Entry) where
       ∙ ap (λ (k : ℕ). first_place_from q k (drop k xs)) (add-one i)
 
   pub first_place_is : (p : Place) → p.0 < length xs → q (at_place p.0 xs) ≡ true
-      → ((k : ℕ) → k < p.0 → q (at_place k xs) ≡ false) → first_place q xs ≡ At p
+      → ((k : ℕ) → k < p.0 → q (at_place k xs) ≡ false) → first_place q xs ≡ Some p
   first_place_is p h t n = none_before p.0 (omega arith) n ∙ first_hit q xs p.0 h t
 
-  pub first_place_none : ((k : ℕ) → k < length xs → q (at_place k xs) ≡ false) → first_place q xs ≡ Nothing
+  pub first_place_none : ((k : ℕ) → k < length xs → q (at_place k xs) ≡ false) → first_place q xs ≡ None
   first_place_none n = none_before (length xs) (omega arith) n ∙ first_end q xs (length xs) (omega arith)
 
 -- the event at a place is below 512

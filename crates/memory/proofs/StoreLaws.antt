@@ -15,7 +15,7 @@ use Rattle.manual.specs.Memory.{Entry, event_of, entry_of, payload_of, renewed_p
 use Rattle.manual.specs.Memory.{bytes_in_use}
 use Rattle.manual.specs.Memory.{is_of, without, kept, displacing, victim, pushed_out, admitted, renewed, store}
 use Rattle.manual.proofs.MemoryLaws.{Fills, fills}
-use Rattle.memory.specs.declared.Find.TheVariants.{At, Nothing}
+use Rattle.std.specs.Prelude.{Some, None}
 use Rattle.memory.specs.Block.{removed, added, replaced, renewed_at}
 use Rattle.memory.specs.Places.{at_place, place_of, victim_place}
 use Rattle.memory.specs.Fits.{EntriesFit, PlaceFits, RoomAt, EventsFit}
@@ -45,10 +45,10 @@ module _ (n M F₀ F : ℕ) (m : List ℕ) (o₀ : InOrder n M F₀ m) (f : F �
   pub used_within : {used : ℕ} → used ≡ bytes_in_use F (entry_count m) → used ≤ length m
   used_within u = omega (arith, may_seek.within, u)
 
-  pub may_remove : (p : Place) → place_of e (entries_of F m) ≡ At p → PlaceFits F m p.0
+  pub may_remove : (p : Place) → place_of e (entries_of F m) ≡ Some p → PlaceFits F m p.0
   may_remove p h = place_fits n M F m ordered (is_of e) p h
 
-  pub may_remove_in_front : (p : Place) → place_of e (entries_of F m) ≡ At p → PlaceFits F (front F m) p.0
+  pub may_remove_in_front : (p : Place) → place_of e (entries_of F m) ≡ Some p → PlaceFits F (front F m) p.0
   may_remove_in_front p h =
       place_fits n (entry_count m) F (front F m) (front_in_order n M F m ordered) (is_of e) p
       (ap (place_of e) (front_entries n M F m ordered) ∙ h)
@@ -56,14 +56,14 @@ module _ (n M F₀ F : ℕ) (m : List ℕ) (o₀ : InOrder n M F₀ m) (f : F �
   abbrev forgot : ℕ → List ℕ
   forgot k = memory_of M k (without e (entries_of k m))
 
-  pub forgets : (p : Place) → place_of e (entries_of F m) ≡ At p → removed F p.0 m ≡ forgot F₀
+  pub forgets : (p : Place) → place_of e (entries_of F m) ≡ Some p → removed F p.0 m ≡ forgot F₀
   forgets p h = forgotten_at n M F m ordered e p h ∙ ap forgot f
 
-  pub forgets_in_front : (p : Place) → place_of e (entries_of F m) ≡ At p
+  pub forgets_in_front : (p : Place) → place_of e (entries_of F m) ≡ Some p
       → removed F p.0 (front F m) ++ drop (bytes_in_use F (entry_count m)) m ≡ forgot F₀
   forgets_in_front p h = forgotten_in_front n M F m ordered e p h ∙ ap forgot f
 
-  pub forgets_nothing : place_of e (entries_of F m) ≡ Nothing → m ≡ forgot F₀
+  pub forgets_nothing : place_of e (entries_of F m) ≡ None → m ≡ forgot F₀
   forgets_nothing h = forgotten_nothing n M F m ordered e h ∙ ap forgot f
 
 -- ---- a store into a memory block in order
@@ -88,7 +88,7 @@ module _ (n M F : ℕ) (m : List ℕ) (o : InOrder n M F m) (priority : ℕ → 
   }
 
   -- rule 1: "e has an entry: count up by one, at most 255; frame replaced; the entry moves to the end (newest)."
-  rule_1 : (p : Place) → place_of e xs ≡ At p → left_with (renewed_at F p.0 e frame m) Renewed ≡ stores_all
+  rule_1 : (p : Place) → place_of e xs ≡ Some p → left_with (renewed_at F p.0 e frame m) Renewed ≡ stores_all
   unfolding stores store renewed
   rule_1 p h =
       let f = found (is_of e) xs p h in
@@ -103,7 +103,7 @@ module _ (n M F : ℕ) (m : List ℕ) (o : InOrder n M F m) (priority : ℕ → 
       (sym f.first)
 
   -- rules 2 to 4: e has no entry
-  rules_2_to_4 : place_of e xs ≡ Nothing → admits_all ≡ stores_all
+  rules_2_to_4 : place_of e xs ≡ None → admits_all ≡ stores_all
   unfolding admits stores store renewed
   rules_2_to_4 h =
       ap (λ (x : Option Entry). left_by M F priority quiet e frame (renewed M priority quiet e frame x xs))
@@ -130,7 +130,7 @@ module _ (n M F : ℕ) (m : List ℕ) (o : InOrder n M F m) (priority : ℕ → 
   full : M ≤ entry_count m → ltb (length xs) M ≡ false
   full h = le-ltb (length xs) M (omega (arith, entries_are_count F m))
 
-  victim_fits : (p : Place) → victim_place priority quiet e xs ≡ At p → PlaceFits F m p.0
+  victim_fits : (p : Place) → victim_place priority quiet e xs ≡ Some p → PlaceFits F m p.0
   victim_fits p h =
       record {
         entries = entries_fit n M F m o;
@@ -138,7 +138,7 @@ module _ (n M F : ℕ) (m : List ℕ) (o : InOrder n M F m) (priority : ℕ → 
       }
 
   -- rule 3: "The victim is taken out, e appended with count 1."
-  rule_3 : M ≤ entry_count m → (p : Place) → victim_place priority quiet e xs ≡ At p
+  rule_3 : M ≤ entry_count m → (p : Place) → victim_place priority quiet e xs ≡ Some p
       → left_with (replaced F p.0 e 1 (payload_of frame) m) (displacing (at_place p.0 xs)) ≡ admits_all
   unfolding pushed_out
   rule_3 h p v =
@@ -148,7 +148,7 @@ module _ (n M F : ℕ) (m : List ℕ) (o : InOrder n M F m) (priority : ℕ → 
       (victim_entry M priority quiet e frame xs ∙ ap (entry_in xs) v)
 
   -- rule 4: "Else not stored; overflow is set."
-  rule_4 : M ≤ entry_count m → victim_place priority quiet e xs ≡ Nothing → left_with m NotStored ≡ admits_all
+  rule_4 : M ≤ entry_count m → victim_place priority quiet e xs ≡ None → left_with m NotStored ≡ admits_all
   unfolding pushed_out
   rule_4 h v =
       ap (λ (b : List ℕ). left_with b NotStored) o.block
@@ -194,23 +194,23 @@ module _ (cfg : Configuration) (records m : List ℕ) (e : ℕ) (frame : List �
   two_frames : length frame + length frame ≡ W
   two_frames = omega (arith, w, r.frame_fits)
 
-  pub may_renew : (p : Place) → place_of e (entries_of W m) ≡ At p
+  pub may_renew : (p : Place) → place_of e (entries_of W m) ≡ Some p
       → PlaceFits W m p.0 × ((e < 65536) × (length frame + length frame ≡ W))
   may_renew p h = (place_fits n M W m order (is_of e) p h, (two_bytes, two_frames))
 
   pub may_append : entry_count m < places cfg → RoomAt W m (entry_count m) e × (length frame + length frame ≡ W)
   may_append h = (room_at_end n M W m order e two_bytes h, two_frames)
 
-  pub may_displace : (p : Place) → victim_place (priority_of cfg) quiet e (entries_of W m) ≡ At p
+  pub may_displace : (p : Place) → victim_place (priority_of cfg) quiet e (entries_of W m) ≡ Some p
       → PlaceFits W m p.0 × ((e < 65536) × (length frame + length frame ≡ W))
   may_displace p h =
       (victim_fits n M W m order (priority_of cfg) quiet e frame fits_here p h, (two_bytes, two_frames))
 
-  pub renews : (p : Place) → place_of e (entries_of W m) ≡ At p
+  pub renews : (p : Place) → place_of e (entries_of W m) ≡ Some p
       → left_with (renewed_at W p.0 e frame m) Renewed ≡ stores_at (entry_frames cfg)
   renews p h = rule_1 n M W m order (priority_of cfg) quiet e frame fits_here p h ∙ ap stores_at w
 
-  pub has_none : place_of e (entries_of W m) ≡ Nothing → admits_at (entry_frames cfg) ≡ stores_at (entry_frames cfg)
+  pub has_none : place_of e (entries_of W m) ≡ None → admits_at (entry_frames cfg) ≡ stores_at (entry_frames cfg)
   has_none h =
       ap admits_at (sym w) ∙ rules_2_to_4 n M W m order (priority_of cfg) quiet e frame fits_here h ∙ ap stores_at w
 
@@ -218,11 +218,11 @@ module _ (cfg : Configuration) (records m : List ℕ) (e : ℕ) (frame : List �
       → left_with (added W e 1 (payload_of frame) m) Added ≡ admits_at (entry_frames cfg)
   appends h = rule_2 n M W m order (priority_of cfg) quiet e frame fits_here h ∙ ap admits_at w
 
-  pub displaces : places cfg ≤ entry_count m → (p : Place) → victim_place (priority_of cfg) quiet e (entries_of W m) ≡ At p
+  pub displaces : places cfg ≤ entry_count m → (p : Place) → victim_place (priority_of cfg) quiet e (entries_of W m) ≡ Some p
       → left_with (replaced W p.0 e 1 (payload_of frame) m) (displacing (at_place p.0 (entries_of W m)))
       ≡ admits_at (entry_frames cfg)
   displaces h p v = rule_3 n M W m order (priority_of cfg) quiet e frame fits_here h p v ∙ ap admits_at w
 
-  pub loses : places cfg ≤ entry_count m → victim_place (priority_of cfg) quiet e (entries_of W m) ≡ Nothing
+  pub loses : places cfg ≤ entry_count m → victim_place (priority_of cfg) quiet e (entries_of W m) ≡ None
       → left_with m NotStored ≡ admits_at (entry_frames cfg)
   loses h v = rule_4 n M W m order (priority_of cfg) quiet e frame fits_here h v ∙ ap admits_at w

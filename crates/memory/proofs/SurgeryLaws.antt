@@ -22,7 +22,7 @@ use Rattle.manual.proofs.MemoryLaws.{Framed, bytes_length, entries_framed, memor
 use Rattle.manual.proofs.MemoryLaws.{memory_tail, without_is}
 use Rattle.writing.proofs.PartlyWritten.{sets_after_one, sets_middle}
 use Rattle.memory.specs.Block.{closed, gap_closed, entered, removed, added, replaced}
-use Rattle.memory.specs.declared.Find.TheVariants.{At, Nothing}
+use Rattle.std.specs.Prelude.{Some, None}
 use Rattle.memory.specs.Places.{blank, at_place, first_place, place_of}
 use Rattle.memory.specs.Fits.{EntriesFit, PlaceFits, RoomAt}
 use Rattle.memory.specs.InOrder.{InOrder}
@@ -248,16 +248,16 @@ module _ (n M F : ℕ) (m : List ℕ) (o : InOrder n M F m) where
 
   -- ---- event e's entry leaves
 
-  pub place_fits : (q : Entry → Bool) (p : Place) → first_place q xs ≡ At p → PlaceFits F m p.0
+  pub place_fits : (q : Entry → Bool) (p : Place) → first_place q xs ≡ Some p → PlaceFits F m p.0
   place_fits q p h =
       record { entries = entries_fit; below = omega (arith, (found q xs p h).inside, entries_are_count F m) }
 
-  pub forgotten_at : (e : ℕ) (p : Place) → place_of e xs ≡ At p → removed F p.0 m ≡ memory_of M F (without e xs)
+  pub forgotten_at : (e : ℕ) (p : Place) → place_of e xs ≡ Some p → removed F p.0 m ≡ memory_of M F (without e xs)
   forgotten_at e p h =
       removed_at p.0 (place_fits (is_of e) p h).below
       ∙ ap (λ (k : ℕ). memory_of M F (without k xs)) (eqb-true _ _ (found (is_of e) xs p h).passes)
 
-  pub forgotten_nothing : (e : ℕ) → place_of e xs ≡ Nothing → m ≡ memory_of M F (without e xs)
+  pub forgotten_nothing : (e : ℕ) → place_of e xs ≡ None → m ≡ memory_of M F (without e xs)
   unfolding without
   forgotten_nothing e h =
       o.block ∙ ap (memory_of M F) (sym (those_all (is_of e) xs (first_none (is_of e) xs (found_nothing (is_of e) xs h))))
@@ -333,7 +333,7 @@ module _ (n M F : ℕ) (m : List ℕ) (o : InOrder n M F m) where
           ∙ ap (λ (k : ℕ). replicate (entry_width F * (M - k)) 0) count
 
   -- event e's entry leaves the front
-  pub forgotten_in_front : (e : ℕ) (p : Place) → place_of e entries ≡ At p
+  pub forgotten_in_front : (e : ℕ) (p : Place) → place_of e entries ≡ Some p
       → removed F p.0 (front F m) ++ drop (bytes_in_use F number) m ≡ memory_of M F (without e entries)
   unfolding without
   forgotten_in_front e p h =

@@ -1,9 +1,7 @@
 -- A place in memory: an entry's index among the entries, the oldest at place 0. Assumes nothing.
-use Rattle.std.specs.Prelude.{Bool, false, cond, List, [], ◌∷◌, ℕ, ◌+◌, get_or}
+use Rattle.std.specs.Prelude.{Bool, false, cond, List, [], ◌∷◌, ℕ, ◌+◌, get_or, Option, Some, None}
 use Rattle.manual.specs.declared.Place.{Place}
 use Rattle.manual.specs.Memory.{Entry, bytes_in_use, is_of, outranked, resting}
-use Rattle.memory.specs.declared.Find.{Find}
-use Rattle.memory.specs.declared.Find.TheVariants.{At, Nothing}
 
 -- where the frames of the entry at a place start: behind "event number (2 bytes, high first), occurrence count (1 to
 -- 255)"
@@ -17,10 +15,14 @@ blank = record { high = 0; low = 0; count = 0; payload = [] }
 abbrev pub at_place : ℕ → List Entry → Entry
 at_place p xs = get_or xs p blank
 
+-- where an entry was found, if one was
+abbrev pub Find : Type 0
+Find = Option Place
+
 -- the place of the first entry that passes, where the first of these entries stands at place i
 unfoldable pub first_place_from : (Entry → Bool) → ℕ → List Entry → Find
-first_place_from q i [] = Nothing
-first_place_from q i (x ∷ xs) = cond (q x) (At (record { 0 = i })) (first_place_from q (i + 1) xs)
+first_place_from q i [] = None
+first_place_from q i (x ∷ xs) = cond (q x) (Some (record { 0 = i })) (first_place_from q (i + 1) xs)
 
 abbrev pub first_place : (Entry → Bool) → List Entry → Find
 first_place q xs = first_place_from q 0 xs
@@ -30,8 +32,8 @@ abbrev pub place_of : ℕ → List Entry → Find
 place_of e xs = first_place (is_of e) xs
 
 abbrev pub or_else_place : Find → Find → Find
-or_else_place (At p) b = At p
-or_else_place Nothing b = b
+or_else_place (Some p) b = Some p
+or_else_place None b = b
 
 -- the manual's tests for the victim of a fresh failure of event e; neither the number of places nor the frame has a say
 -- in them

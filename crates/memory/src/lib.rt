@@ -20,13 +20,6 @@ ghost use Rattle.memory.specs.Judgement.{Small, sound_numbers, sound_entry, used
 ghost use Rattle.memory.specs.Store.{MayStore, quiet_in, left_with, admits, stores};
 ghost use Rattle.memory.specs.Block.{gap_closed, entered, removed, added, replaced, renewed_at};
 
-// Where an entry was found.
-#[derive(Clone, Copy)]
-pub enum Find {
-    At(Place),
-    Nothing,
-}
-
 // "event number (2 bytes, high first), occurrence count (1 to 255)": the bytes of an entry before its payload.
 pub const BEFORE_PAYLOAD: usize = 3;
 
@@ -122,19 +115,16 @@ fn is_of(memory: &[u8], payload_bytes: usize, place: Place, event: EventNumber) 
 }
 
 // The place of the event's entry.
-pub fn place_of(memory: &[u8], payload_bytes: usize, event: EventNumber) -> Find
+pub fn place_of(memory: &[u8], payload_bytes: usize, event: EventNumber) -> Option<Place>
     requires { EntriesFit payload_bytes memory.now }
     ensures { result ≡ place_of event.0 (entries_of payload_bytes memory.now) }
 {
-    let entries = entry_count(memory);
-    let mut i = 0;
-    while i < entries {
+    for i in 0..entry_count(memory) {
         if is_of(memory, payload_bytes, Place(i), event) {
-            return Find::At(Place(i));
+            return Some(Place(i));
         }
-        i += 1;
     }
-    Find::Nothing
+    None
 }
 
 // "Removal closes the gap and keeps the order.": takes the bytes of the entry at a place out.
@@ -237,35 +227,33 @@ pub fn forget(cfg: &[i32], memory: &mut [u8], event: EventNumber)
         (without event.0 (entries_of (entry_frames cfg.now) memory.old)) }
 {
     let payload_bytes = entry_frames(cfg);
-    let own = place_of(memory, payload_bytes, event);
-    match own {
-        Find::At(place) => {
-            let used = bytes_in_use(memory, payload_bytes);
-            remove(&mut memory[..used], payload_bytes, place);
-        }
-        Find::Nothing => {}
+    if let Some(place) = place_of(memory, payload_bytes, event) {
+        let used = bytes_in_use(memory, payload_bytes);
+        remove(&mut memory[..used], payload_bytes, place);
     }
 }
 
 // "among entries whose priority number is greater than e's, the greatest, and the oldest among equals"
-fn place_of_greatest(cfg: &[i32], memory: &[u8], payload_bytes: usize, event: EventNumber) -> Find
+fn place_of_greatest(
+    cfg: &[i32],
+    memory: &[u8],
+    payload_bytes: usize,
+    event: EventNumber,
+) -> Option<Place>
     requires { (EventsFit payload_bytes memory.now) × (event.0 < most_events) }
     ensures { result
         ≡ first_place
         (outranks (priority_of cfg.now) event.0 (entries_of payload_bytes memory.now))
         (entries_of payload_bytes memory.now) }
 {
-    let entries = entry_count(memory);
-    let mut best = Find::Nothing;
+    let mut best = None;
     let mut top = config::priority_of(cfg, event);
-    let mut i = 0;
-    while i < entries {
+    for i in 0..entry_count(memory) {
         let priority = config::priority_of(cfg, event_at(memory, payload_bytes, Place(i)));
         if top < priority {
             top = priority;
-            best = Find::At(Place(i));
+            best = Some(Place(i));
         }
-        i += 1;
     }
     best
 }
@@ -288,22 +276,19 @@ fn place_of_resting(
     memory: &[u8],
     payload_bytes: usize,
     event: EventNumber,
-) -> Find
+) -> Option<Place>
     requires { (EventsFit payload_bytes memory.now) × (event.0 < most_events) }
     ensures { result
         ≡ first_place (rests (priority_of cfg.now) (quiet_in records.now) event.0)
         (entries_of payload_bytes memory.now) }
 {
-    let entries = entry_count(memory);
     let p = config::priority_of(cfg, event);
-    let mut i = 0;
-    while i < entries {
+    for i in 0..entry_count(memory) {
         if gives_way(cfg, records, event_at(memory, payload_bytes, Place(i)), p) {
-            return Find::At(Place(i));
+            return Some(Place(i));
         }
-        i += 1;
     }
-    Find::Nothing
+    None
 }
 
 // Rule 3: the place of the victim of a fresh failure of the event.
@@ -313,16 +298,15 @@ fn victim(
     memory: &[u8],
     payload_bytes: usize,
     event: EventNumber,
-) -> Find
+) -> Option<Place>
     requires { (EventsFit payload_bytes memory.now) × (event.0 < most_events) }
     ensures { result
         ≡ victim_place (priority_of cfg.now) (quiet_in records.now) event.0
         (entries_of payload_bytes memory.now) }
 {
-    let greatest = place_of_greatest(cfg, memory, payload_bytes, event);
-    match greatest {
-        Find::At(place) => Find::At(place),
-        Find::Nothing => place_of_resting(cfg, records, memory, payload_bytes, event),
+    match place_of_greatest(cfg, memory, payload_bytes, event) {
+        Some(place) => Some(place),
+        None => place_of_resting(cfg, records, memory, payload_bytes, event),
     }
 }
 
@@ -342,7 +326,7 @@ fn copy_first(memory: &[u8], payload_bytes: usize, place: Place, first: &mut [u8
 {
     let payload = payload_at(memory, payload_bytes, place);
     let frame_bytes = first.len();
-    writing::copy_bytes(&payload[..frame_bytes], first);
+    writing::copy(&payload[..frame_bytes], first);
 }
 
 // Rule 1: "e has an entry: count up by one, at most 255; frame replaced; the entry moves to the end (newest).";
@@ -400,10 +384,9 @@ fn admit(
         append(memory, payload_bytes, event, 1, frame, frame);
         return StoreAnswer::Added;
     }
-    let found = victim(cfg, records, memory, payload_bytes, event);
-    match found {
-        Find::At(place) => displace(memory, payload_bytes, place, event, frame),
-        Find::Nothing => StoreAnswer::NotStored,
+    match victim(cfg, records, memory, payload_bytes, event) {
+        Some(place) => displace(memory, payload_bytes, place, event, frame),
+        None => StoreAnswer::NotStored,
     }
 }
 
@@ -422,13 +405,12 @@ pub fn store(
         (entries_of (entry_frames cfg.now) memory.old) }
 {
     let payload_bytes = entry_frames(cfg);
-    let own = place_of(memory, payload_bytes, event);
-    match own {
-        Find::At(place) => {
+    match place_of(memory, payload_bytes, event) {
+        Some(place) => {
             renew(memory, payload_bytes, place, event, frame);
             StoreAnswer::Renewed
         }
-        Find::Nothing => admit(cfg, records, memory, payload_bytes, event, frame),
+        None => admit(cfg, records, memory, payload_bytes, event, frame),
     }
 }
 
@@ -450,15 +432,12 @@ fn each_ok(events: usize, payload_bytes: usize, memory: &[u8], records: &[u8]) -
     ensures { result
         ≡ all_of (sound_entry events records.now) (entries_of payload_bytes memory.now) }
 {
-    let entries = entry_count(memory);
-    let mut i = 0;
-    while i < entries {
+    for i in 0..entry_count(memory) {
         let event = event_at(memory, payload_bytes, Place(i));
         let count = count_at(memory, payload_bytes, Place(i));
         if !entry_ok(events, records, event, count) {
             return false;
         }
-        i += 1;
     }
     true
 }
@@ -470,9 +449,7 @@ fn none_twice(memory: &[u8], payload_bytes: usize) -> bool
 {
     let mut seen = [false; manual::MOST_EVENTS];
     let mut once = true;
-    let mut i = entry_count(memory);
-    while 0 < i {
-        i -= 1;
+    for i in (0..entry_count(memory)).rev() {
         let event = event_at(memory, payload_bytes, Place(i));
         let e = event.0;
         once = once & !seen[e];
@@ -513,8 +490,8 @@ pub fn all_zero(bytes: &[u8]) -> bool
     ensures { result ≡ zeros bytes.now }
 {
     let mut zero = true;
-    for i in 0..bytes.len() {
-        zero = zero & (bytes[i] == 0);
+    for &byte in bytes {
+        zero = zero & (byte == 0);
     }
     zero
 }

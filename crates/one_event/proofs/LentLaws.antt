@@ -35,14 +35,14 @@ use Rattle.status.specs.Records.{stored_is, record_is, limits, FailedIs, RoomToR
 use Rattle.status.proofs.RecordsLaws.{step_written, has_room}
 use Rattle.status.proofs.RestsLaws.{rests}
 use Rattle.memory.specs.Store.{quiet_in, Left, left_with, stores}
-use Rattle.one_event.specs.Ready.{flagged, accepts, BlocksFit, RecordFits, Ready}
+use Rattle.one_event.specs.Ready.{accepts, BlocksFit, RecordFits, Ready}
 use Rattle.one_event.specs.Steps.{record_stopped, resetting, Stepped, stepped, tells_memory, failing, qualifying}
 use Rattle.one_event.specs.Steps.{applying, reporting, ticking}
 
 -- ---- what the functions of the crates below ask
 
-pub record_within : {cfg : Configuration} {records memory : List ℕ} {e : ℕ} → BlocksFit cfg records memory e
-    → record_width * e + record_width ≤ length records
+pub record_within : {cfg : Configuration} {s : State} {e : ℕ} → BlocksFit cfg s e
+    → record_width * e + record_width ≤ length s.records
 record_within f = omega (arith, f.below, f.records_as_long)
 
 pub may_stop : {cfg : Configuration} {records : List ℕ} {e : ℕ} → RecordFits cfg records e
@@ -198,13 +198,10 @@ module _ (cfg : Configuration) (e : ℕ) (frame records memory : List ℕ) (boar
     unfolding fails fails_did
     fails_is t d = λ i. fails_by ((sym t ∙ fresh) i) (after d i)
 
-    pub fails_told : {records'' memory'' : List ℕ} {board'' : Board} {did : StoreAnswer} → f.fresh_failure ≡ true
-        →
-        ((d : List ℤ)
-        → stepped (lent records'' d memory'' board'') did ≡ tells_memory cfg frame e (lent records' d memory board))
-        → (d : List ℤ)
-        → stepped (lent records'' d memory'' board'') did ≡ failing cfg frame e (lent records d memory board)
-    fails_told t m d = m d ∙ fails_is t d
+    pub fails_told : f.fresh_failure ≡ true → (d : List ℤ) {t : State} {did : StoreAnswer}
+        → stepped t did ≡ tells_memory cfg frame e (lent records' d memory board)
+        → stepped t did ≡ failing cfg frame e (lent records d memory board)
+    fails_told t d m = m ∙ fails_is t d
 
     pub fails_untold : f.fresh_failure ≡ false → (d : List ℤ)
         → stepped (lent records' d memory board) Untold ≡ failing cfg frame e (lent records d memory board)
@@ -212,34 +209,18 @@ module _ (cfg : Configuration) (e : ℕ) (frame records memory : List ℕ) (boar
 
 -- ---- a verdict, and a report or a tick
 
-module _ (cfg : Configuration) (e : ℕ) (frame records memory : List ℕ) (board : Board) where
-  -- these blocks and this board are left, and memory did this, whatever the debounce numbers are
-  abbrev Qualified : List ℕ → List ℕ → Board → StoreAnswer → Verdict → Type 0
-  Qualified records' memory' board' did v =
-      (d : List ℤ)
-      → stepped (lent records' d memory' board') did ≡ qualifying cfg frame e v (lent records d memory board)
+module _ (cfg : Configuration) (e : ℕ) (frame : List ℕ) {t : State} {did : StoreAnswer} where
+  pub qualifies_by : (s : State) {verdict : Verdict} (v : Verdict) → verdict ≡ v
+      → stepped t did ≡ qualifying cfg frame e v s → stepped t did ≡ qualifying cfg frame e verdict s
+  qualifies_by s v p q = subst (λ v. stepped t did ≡ qualifying cfg frame e v s) (sym p) q
 
-  module _ {records' memory' : List ℕ} {board' : Board} {did : StoreAnswer} where
-    pub qualifies_by : {verdict : Verdict} (v : Verdict) → verdict ≡ v → Qualified records' memory' board' did v
-        → Qualified records' memory' board' did verdict
-    qualifies_by v p q = subst (Qualified records' memory' board' did) (sym p) q
-
-    pub applied_is : (debounce : List ℤ) {debounce' : List ℤ} (x : Debounced) → debounce' ≡ set debounce e x.number
-        → Qualified records' memory' board' did x.verdict
-        → stepped (lent records' debounce' memory' board') did
-        ≡ applying cfg frame e x (lent records debounce memory board)
-    unfolding applied applied_did
-    applied_is debounce {debounce'} x p q =
-        q debounce' ∙ ap (λ (l : List ℤ). qualifying cfg frame e x.verdict (lent records l memory board)) p
-
--- no verdict starts or stops a cycle
-pub flagged_left : (cfg : Configuration) (e : ℕ) (frame : List ℕ) (x : Debounced) (s : State) {t : State}
-    {did : StoreAnswer} → stepped t did ≡ applying cfg frame e x s
-    → stepped (with_board (flagged s.board t.board.overflow) t) did ≡ applying cfg frame e x s
-flagged_left cfg e frame x s {t} {did} p =
-    let same : t.board.running ≡ s.board.running =
-    ap (λ (y : Stepped State). y.left.board.running) p ∙ applied_running cfg frame e x s in
-    (λ i. stepped (with_board (record { running = sym same i; overflow = t.board.overflow }) t) did) ∙ p
+  pub applied_is : (records memory : List ℕ) (board : Board) (debounce : List ℤ) {debounce' : List ℤ} (x : Debounced)
+      → debounce' ≡ set debounce e x.number
+      → stepped t did ≡ qualifying cfg frame e x.verdict (lent records debounce' memory board)
+      → stepped t did ≡ applying cfg frame e x (lent records debounce memory board)
+  unfolding applied applied_did
+  applied_is records memory board debounce x p q =
+      q ∙ ap (λ (l : List ℤ). qualifying cfg frame e x.verdict (lent records l memory board)) p
 
 module _ (cfg : Configuration) (e : ℕ) (s : State) where
   module _ (f : Ready cfg s e) (row : Row) (o : RowOf cfg e row) {n : ℤ} (p : n ≡ D s e) where

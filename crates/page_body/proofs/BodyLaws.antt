@@ -15,7 +15,8 @@ use Rattle.manual.specs.Untested.{row, table, is_grey, paint_of}
 use Rattle.memory.specs.Fits.{EntriesFit}
 use Rattle.memory.proofs.PlacesLaws.{entries_fit}
 use Rattle.untested.specs.Page.{holding}
-use Rattle.page_text.specs.Text.{Puts}
+use Rattle.page_text.specs.declared.Page.{Page}
+use Rattle.page_text.specs.Page.{Adds}
 use Rattle.page_heads.specs.Heads.{cycle_row}
 use Rattle.page_rows.specs.Rows.{is_painted, Shown}
 use Rattle.page_body.specs.Body.{painted, cycle_one}
@@ -54,15 +55,15 @@ module _ (cfg : Configuration) (s : State) where
   unfolding table
   row_3 = refl
 
-  pub cycle_put : (c : ℕ) {most at next : ℕ} {running : Bool} {counts before after : List ℕ}
+  pub cycle_put : (c : ℕ) {most : ℕ} {running : Bool} {counts : List ℕ} {before after : Page}
       → running ≡ runs s.board c
       → counts ≡ row cfg s c
-      → Puts (cycle_row c running counts) most at next before after
-      → Puts (cycle_one cfg s c) most at next before after
+      → Adds (cycle_row c running counts) most before after
+      → Adds (cycle_one cfg s c) most before after
   unfolding cycle_one
-  cycle_put c {most} {at} {next} {running} {counts} {before} {after} r l p =
-      subst (λ (k : List ℕ). Puts (cycle_row c (runs s.board c) k) most at next before after) l
-      (subst (λ (b : Bool). Puts (cycle_row c b counts) most at next before after) r p)
+  cycle_put c {most} {running} {counts} {before} {after} r l p =
+      subst (λ (k : List ℕ). Adds (cycle_row c (runs s.board c) k) most before after) l
+      (subst (λ (b : Bool). Adds (cycle_row c b counts) most before after) r p)
 
 pub take_few : (n : ℕ) (l : List ℕ) → length (take n l) ≤ n
 take_few zero l = omega arith

@@ -67,7 +67,7 @@ all_head =
 -- ---- messages, the log
 
 unfoldable pub messages : List ℕ → Log → List ℕ
-messages names log = unreadable_if log.bad log.behind ++ names_unused log.unused ++ bad_name (first_bad names)
+messages names log = unreadable_if log.bad ++ names_unused log.unused ++ bad_name (first_bad names)
 
 unfoldable pub log_part : Log → List ℕ
 log_part log = text "<h2>The log</h2>\n" ++ calls log.made log.refused ++ last_answer log.made log.last
@@ -81,17 +81,20 @@ module _ (cfg : Configuration) (names : List ℕ) (s : State) where
   unfoldable pub list_of : Listing → List ℕ
   list_of listing = text "<div class=\"wide\"><table>\n" ++ rows_of listing ++ table_end
 
+  unfoldable pub paint_list : Listing → ℕ → List ℕ → List ℕ
+  paint_list listing which none = cond (eqb (painted cfg s which) 0) none (list_of listing)
+
+  unfoldable pub paint_section : List ℕ → Listing → ℕ → List ℕ → List ℕ
+  paint_section heading listing which none = heading ++ paint_list listing which none
+
   unfoldable pub untested_list : List ℕ
-  untested_list =
-      cond (eqb (painted cfg s 0) 0) (text "<p>None: every signal was tested since its cycle started.</p>\n")
-      (list_of Untested)
+  untested_list = paint_list Untested 0 (text "<p>None: every signal was tested since its cycle started.</p>\n")
 
   unfoldable pub untested_section : List ℕ
   untested_section = text "<h2>Untested: do not trust what the panel shows for these</h2>\n" ++ untested_list
 
   unfoldable pub failed_list : List ℕ
-  failed_list =
-      cond (eqb (painted cfg s 1) 0) (text "<p>None: no tested signal failed its last test.</p>\n") (list_of Failed)
+  failed_list = paint_list Failed 1 (text "<p>None: no tested signal failed its last test.</p>\n")
 
   unfoldable pub failed_section : List ℕ
   failed_section = text "<h2>Failed</h2>\n" ++ failed_list

@@ -2,38 +2,33 @@
 // expected, and prints the file and the first line of each that differs, and how many cases ran and how many differed.
 #![tactic(auto)]
 
-ghost use Rattle.std.specs.Prelude.{◌≡◌, ◌≤◌, length};
+ghost use Rattle.std.specs.Prelude.{IfOk, ◌≡◌, ◌≤◌, length};
 ghost use Rattle.page_names.specs.Names.{most_names};
 
-use page_story::Names;
+use page_heads::Unused;
 use std::fs::File;
 use std::os::fd::AsRawFd;
 use std::rt::Files;
+use text::Tally;
 
 // ---- comparing
-
-// A count and one more; a million is enough for any list.
-fn one_more(count: u32) -> u32 {
-    if count < 1_000_000 { count + 1 } else { count }
-}
-
-fn count_if(count: u32, test: bool) -> u32 {
-    if test { one_more(count) } else { count }
-}
 
 // The first line in which the two differ; 0 where they do not.
 fn differing_line(page: &[u8], expected: &[u8]) -> u32 {
     let mut line = 1;
-    for i in 0..page.len() {
-        if expected.len() <= i {
+    for (a, b) in page.iter().zip(expected) {
+        if a != b {
             return line;
         }
-        if page[i] != expected[i] {
-            return line;
+        if *a == b'\n' {
+            line = text::one_more(line);
         }
-        line = count_if(line, page[i] == b'\n');
     }
-    if page.len() < expected.len() { line } else { 0 }
+    if page.len() == expected.len() {
+        0
+    } else {
+        line
+    }
 }
 
 // ---- the cases
@@ -77,11 +72,11 @@ fn read_file(rt: &impl Files<File = File>, path: &[u8], buffer: &mut [u8]) -> us
 }
 
 // The names of a case; `-` stands for no file.
-fn names_of(rt: &impl Files<File = File>, path: &[u8], names: &mut [u8]) -> Names
-    ensures { (result.length ≤ most_names) × (result.length ≤ length names.new) }
+fn names_of(rt: &impl Files<File = File>, path: &[u8], names: &mut [u8]) -> Result<usize, Unused>
+    ensures { IfOk result (λ size. (size ≤ most_names) × (size ≤ length names.new)) }
 {
     if path.len() == 1 {
-        return page_story::no_names(0);
+        return Ok(0);
     }
     page_story::read_names(rt, path, names)
 }
@@ -115,67 +110,41 @@ fn run_case(rt: &impl Files<File = File>, log: &[u8], names: &[u8], expected: &[
     let size = read_file(rt, log, &mut text);
     let longer = 32768 < size;
     let given = names_of(rt, names, &mut named);
-    let used = given.length;
     let length = page_story::page(
         &mut buffer,
         part(&text, 0, size),
         longer,
-        &named[..used],
-        given.unused,
+        &named[..given.unwrap_or(0)],
+        given.err(),
     );
     differing_line_of(rt, &buffer[..length], expected)
 }
 
-#[derive(Clone, Copy)]
-struct Tally {
-    at: usize,
-    ran: u32,
-    differed: u32,
-}
-
-// A case that differs, by the file of its expected page and the line there.
-fn say_case(name: &[u8], line: u32) {
-    io::write_all(1, name);
-    io::write_all(1, b":");
-    io::print_decimal(1, line as u64);
-    io::write_all(1, b" differs\n");
-}
-
-// Runs the case whose three files are named next: a log, its names, its page.
-fn run_next(rt: &impl Files<File = File>, list: &[u8], tally: Tally) -> Tally {
-    let log = word_end(list, tally.at);
+// Runs the case whose three files are named from a place on, a log, its names, its page, and answers the place behind
+// them. A case that differs is told by the file of its expected page and the line there.
+fn run_next(rt: &impl Files<File = File>, list: &[u8], at: usize, tally: &mut Tally) -> usize {
+    let log = word_end(list, at);
     let second = behind(log);
     let names = word_end(list, second);
     let third = behind(names);
     let expected = word_end(list, third);
     let page = part(list, third, expected);
-    let line = run_case(
-        rt,
-        part(list, tally.at, log),
-        part(list, second, names),
-        page,
-    );
+    let line = run_case(rt, part(list, at, log), part(list, second, names), page);
     if 0 < line {
-        say_case(page, line);
+        text::say_differs(page, line);
     }
-    Tally {
-        at: behind(expected),
-        ran: one_more(tally.ran),
-        differed: count_if(tally.differed, 0 < line),
-    }
+    tally.count(line == 0);
+    behind(expected)
 }
 
 fn run_all(rt: &impl Files<File = File>, list: &[u8]) -> Tally {
-    let mut tally = Tally {
-        at: 0,
-        ran: 0,
-        differed: 0,
-    };
+    let mut tally = Tally::new();
+    let mut at = 0;
     for _case in 0..list.len() {
-        if list.len() <= tally.at {
+        if list.len() <= at {
             return tally;
         }
-        tally = run_next(rt, list, tally);
+        at = run_next(rt, list, at, &mut tally);
     }
     tally
 }
@@ -184,9 +153,5 @@ fn main(rt: HostRuntime) {
     let mut list = [0; 4096];
     let length = read_file(&rt, b"cases", &mut list);
     let tally = run_all(&rt, part(&list, 0, length));
-    io::write_all(1, b"page cases: ");
-    io::print_decimal(1, tally.ran as u64);
-    io::write_all(1, b" ran, ");
-    io::print_decimal(1, tally.differed as u64);
-    io::write_all(1, b" differed\n");
+    tally.say(b"page cases");
 }

@@ -1,8 +1,10 @@
 -- The parts of the page that tell of the whole machine. Assumes nothing.
-use Rattle.std.specs.Prelude.{Bool, not, cond, ℕ, eqb}
+use Rattle.std.specs.Prelude.{Bool, not, cond, ℕ, eqb, Option, None, Some}
 use mathlib.Core.List.{List, [], ◌++◌, flat_map}
 use Rattle.page_text.specs.Text.{text}
 use Rattle.page_text.specs.Numbers.{decimal}
+use Rattle.page_heads.specs.declared.Unused.{Unused}
+use Rattle.page_heads.specs.declared.Unused.TheVariants.{Unreadable, TooLong}
 
 -- ---- "At the top, in words: how many signals are untested, failed, live"
 
@@ -61,8 +63,9 @@ unreadable behind =
     text "<p class=\"message\">Bad input: behind byte " ++ decimal behind
     ++ text " of the log there is no call that can be read. This page shows the state up to there.</p>\n"
 
-unfoldable pub unreadable_if : Bool → ℕ → List ℕ
-unreadable_if bad behind = cond bad (unreadable behind) []
+abbrev pub unreadable_if : Option ℕ → List ℕ
+unreadable_if None = []
+unreadable_if (Some behind) = unreadable behind
 
 -- what the last of the calls was answered with
 unfoldable pub answered_with : ℕ → List ℕ
@@ -73,19 +76,23 @@ answered_with answer =
 unfoldable pub last_answer : ℕ → ℕ → List ℕ
 last_answer made answer = cond (eqb made 0) (text "<p>No call was made.</p>\n") (answered_with answer)
 
--- ---- "A bad line of that file is a clear message with its number on the page's top": 0 stands for no bad line
+-- ---- "A bad line of that file is a clear message with its number on the page's top"
 
 unfoldable pub bad_line : ℕ → List ℕ
 bad_line line =
     text "<p class=\"message\">Line " ++ decimal line
     ++ text " of the names file is not a trouble code, a space and a name. It is passed over.</p>\n"
 
-unfoldable pub bad_name : ℕ → List ℕ
-bad_name line = cond (eqb line 0) [] (bad_line line)
+abbrev pub bad_name : Option ℕ → List ℕ
+bad_name None = []
+bad_name (Some line) = bad_line line
 
--- why no name is shown: 0 stands for no reason, 1 for a file that cannot be read, any other for one that is too long
-unfoldable pub names_unused : ℕ → List ℕ
-names_unused why =
-    cond (eqb why 0) []
-    (cond (eqb why 1) (text "<p class=\"message\">The names file cannot be read: signals have no names here.</p>\n")
-    (text "<p class=\"message\">The names file is longer than 65,535 bytes: signals have no names here.</p>\n"))
+-- why no name is shown
+abbrev pub unused : Unused → List ℕ
+unused Unreadable = text "<p class=\"message\">The names file cannot be read: signals have no names here.</p>\n"
+unused TooLong =
+    text "<p class=\"message\">The names file is longer than 65,535 bytes: signals have no names here.</p>\n"
+
+abbrev pub names_unused : Option Unused → List ℕ
+names_unused None = []
+names_unused (Some why) = unused why

@@ -3,8 +3,9 @@ use mathlib.Core.Path.{◌≡◌, refl}
 use mathlib.Core.Bool.{true, false}
 use mathlib.Core.List.{List, [], ◌∷◌, map}
 use Prim.Native.Nat.{ℕ}
+use Rattle.std.proofs.Common.{Some}
 use Rattle.page_names.specs.Utf8.{after_long, after_first, after, after_all, is_text}
-use Rattle.page_names.specs.Names.{leading, code_end, name_start, is_good, worth_of, worth, lines_of, kept_of}
+use Rattle.page_names.specs.Names.{code_end, name_start, is_good, worth_of, worth, lines_of, kept_of}
 use Rattle.page_names.specs.Names.{kept, is_of, name_among, name_of, is_bad, bad_among, first_bad}
 
 -- the digits 0, 9, A, F, a, f
@@ -28,11 +29,11 @@ file =
 
 pub names : map (λ code. name_of code file) (0xA1 ∷ 0xA11 ∷ 0xA2 ∷ [])
     ≡ (0x78 ∷ []) ∷ (0x78 ∷ 0x20 ∷ 0x79 ∷ []) ∷ [] ∷ []
-unfolding name_of name_among is_of is_good worth worth_of lines_of kept kept_of leading code_end name_start
+unfolding name_of name_among is_of is_good worth worth_of lines_of kept kept_of code_end name_start
     after_long after_first after after_all is_text
 names = refl
 
-pub bad_line_4 : first_bad file ≡ 4
-unfolding first_bad bad_among is_bad is_good lines_of kept kept_of leading code_end name_start
+pub bad_line_4 : first_bad file ≡ Some 4
+unfolding first_bad bad_among is_bad is_good lines_of kept kept_of code_end name_start
     after_long after_first after after_all is_text
 bad_line_4 = refl

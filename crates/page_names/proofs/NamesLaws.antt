@@ -1,47 +1,32 @@
 -- Laws of specs/Names.antt, in its order.
 use mathlib.Core.Path.{◌≡◌, refl, sym, ap, ◌∙◌}
 use mathlib.Core.Bool.{Bool, true, false, not, ◌&&◌, cond}
-use mathlib.Core.List.{List, [], ◌∷◌, tail}
+use mathlib.Core.List.{List, [], ◌∷◌}
 use Prim.Native.Nat.{ℕ, zero, suc, ◌+◌, ◌-◌, ◌*◌, ◌%◌, ◌^◌, ◌≤◌, ◌<◌}
-use native.Mathlib.Nat.{add-zero, pow-suc, pow-le-pow_right, lt_of_lt_of_le}
+use native.Mathlib.Nat.{pow-suc, pow-le-pow_right, lt_of_lt_of_le}
 use native.Mathlib.Numerals.{add-one}
 use native.Mathlib.Omega.{arith}
-use borrow.Author.Tests.{leb-true, eqb-true, ltb-true, ltb-false, eq-eqb, ne_eqb}
+use borrow.Author.Tests.{clash, leb-true, eqb-true, ltb-true, ltb-false, eq-eqb, ne_eqb}
 use lib.Dec.{eqb, leb, ltb}
-use lib.ListN.{length, get_or, take, drop, length-drop, drop_of_length-le, get_or-eq_default}
-use lib.Seq.{drop-cons, take_all, length-take-le, drop-drop, take-take, take-add, drop_at}
-use Rattle.history.specs.Words.{since, joined, cut_at}
-use Rattle.history.proofs.WordsLaws.{and_left, and_right, cut_at_newest}
-use Rattle.page_names.specs.declared.Kind.TheVariants.{Hex, Space, Inside}
+use lib.ListN.{length, get_or, take, drop, length-drop, get_or-eq_default}
+use lib.Seq.{take_all}
+use Rattle.std.proofs.Common.{Some, None}
+use Rattle.std.proofs.lemmas.List.{at_drop_more, at_drop_all}
+use Rattle.std.specs.List.{prefix_len, slice_split, onto_first}
+use Rattle.history.specs.Words.{joined, cut_at}
+use Rattle.history.proofs.WordsLaws.{and_left, and_right}
 use Rattle.page_names.specs.Utf8.{is_text}
-use Rattle.page_names.specs.Names.{passes, leading, digits_in, code_end, name_start, name_in, code_fits, name_fits}
-use Rattle.page_names.specs.Names.{is_good, worth_of, worth, is_newline, lines_of, ends_in_return, kept_of, kept, is_of}
-use Rattle.page_names.specs.Names.{name_among, name_of, is_bad, bad_among, PartIs}
+use Rattle.page_names.specs.Names.{is_hex, is_space, leading, digits_in, code_end, name_start, name_in, code_fits}
+use Rattle.page_names.specs.Names.{name_fits, is_good, worth_of, worth, is_newline, lines_of, ends_in_return, kept_of}
+use Rattle.page_names.specs.Names.{kept, is_of, name_among, name_of, is_bad, bad_among}
 
--- ---- leading: a turn of the loop, the byte that ends the run, the end of the text
+length-take_le : (n : ℕ) (l : List ℕ) → length (take n l) ≤ length l
+length-take_le zero l = omega arith
+length-take_le (suc n) [] = omega arith
+length-take_le (suc n) (x ∷ l) = let few = length-take_le n l in omega arith
 
-module _ (p : ℕ → Bool) (l : List ℕ) (i : ℕ) where
-  pub lead_more : i < length l → p (get_or l i 0) ≡ true
-      → i + leading p (drop i l) ≡ i + 1 + leading p (drop (i + 1) l)
-  unfolding leading
-  lead_more h e = rw (drop-cons l i 0 h, e, add-one) (omega arith)
-
-  pub lead_stop : i < length l → p (get_or l i 0) ≡ false → i + leading p (drop i l) ≡ i
-  unfolding leading
-  lead_stop h e = rw (drop-cons l i 0 h, e) (add-zero i)
-
-  pub lead_end : length l ≤ i → i + leading p (drop i l) ≡ i
-  unfolding leading
-  lead_end h = rw (drop_of_length-le l {i = i} h) (add-zero i)
-
-pub lead_within : (p : ℕ → Bool) (l : List ℕ) → leading p l ≤ length l
-unfolding leading
-lead_within p [] = omega arith
-lead_within p (b ∷ l) = go (p b) (lead_within p l)
-  where
-    go : (t : Bool) → leading p l ≤ length l → cond t (suc (leading p l)) zero ≤ suc (length l)
-    go true ih = omega arith
-    go false ih = omega arith
+lead_within : (p : ℕ → Bool) (l : List ℕ) → leading p l ≤ length l
+lead_within p l = length-take_le (prefix_len p l) l
 
 -- ---- a line
 
@@ -60,7 +45,7 @@ past_end l i h = rw (get_or-eq_default l 0 {n = i} h)
 
 module _ (line : List ℕ) where
   pub digits_within : digits_in line ≤ length line
-  digits_within = lead_within (passes Hex) line
+  digits_within = lead_within is_hex line
 
   pub code_end_within : code_end line ≤ length line
   unfolding code_end
@@ -77,7 +62,7 @@ module _ (line : List ℕ) where
       omega (
         arith,
         code_end_within,
-        lead_within (passes Space) (drop (code_end line) line),
+        lead_within is_space (drop (code_end line) line),
         length-drop (code_end line) line,
       )
 
@@ -109,36 +94,32 @@ module _ (line : List ℕ) where
         (and_right (first && second) third three))
 
 -- what the code reads of a line
-module _ (line : List ℕ) (d : ℕ) (q : d ≡ 0 + leading (passes Hex) (drop 0 line)) where
-  pub digits_are : d ≡ digits_in line
-  digits_are = omega (arith, q)
-
+module _ (line : List ℕ) (d : ℕ) (q : d ≡ digits_in line) where
   pub ends_past : length line ≤ d → d ≡ code_end line
   unfolding code_end
-  ends_past h = rw (← digits_are, past_end line d h)
+  ends_past h = rw (← q, past_end line d h)
 
   pub ends_behind_h : get_or line d 0 ≡ 0x68 → d + 1 ≡ code_end line
   unfolding code_end
-  ends_behind_h h = rw (← digits_are, eq-eqb (get_or line d 0) 0x68 h)
+  ends_behind_h h = rw (← q, eq-eqb (get_or line d 0) 0x68 h)
 
   pub ends_without_h : (get_or line d 0 ≡ 0x68 → ⊥) → d ≡ code_end line
   unfolding code_end
-  ends_without_h h = rw (← digits_are, ne_eqb (get_or line d 0) 0x68 h)
+  ends_without_h h = rw (← q, ne_eqb (get_or line d 0) 0x68 h)
 
 -- a part that begins at n is the rest
 pub rest_is : (l : List ℕ) (n : ℕ) → take (length l - n) (drop n l) ≡ drop n l
 rest_is l n = take_all (length l - n) (drop n l) (simp length-drop (omega arith))
 
 module _ (line : List ℕ) where
-  pub good_is : {d end start : ℕ} {text : Bool} → d ≡ 0 + leading (passes Hex) (drop 0 line) → end ≡ code_end line
+  pub good_is : {d end start : ℕ} {text : Bool} → d ≡ digits_in line → end ≡ code_end line
       → start ≡ name_start line
       → text ≡ is_text (take (length line - start) (drop start line))
       → code_fits d && ltb end start && name_fits (length line - start) && text ≡ is_good line
   unfolding is_good
   good_is {d} {end} {start} q e b t =
-      let digits = digits_are line d q in
       let same = t ∙ ap is_text (rest_is line start ∙ ap (λ k. drop k line) b) in
-      λ i. code_fits (digits i) && ltb (e i) (b i) && name_fits (length line - b i) && same i
+      λ i. code_fits (q i) && ltb (e i) (b i) && name_fits (length line - b i) && same i
 
 -- ---- worth
 
@@ -171,175 +152,89 @@ module _ (line : List ℕ) where
 -- ---- kept
 
 module _ (line : List ℕ) where
-  pub kept_none : length line ≡ 0 → 0 ≡ kept_of line
-  unfolding kept_of
-  kept_none e = go (ends_in_return line)
+  pub kept_shorter : get_or line (length line - 1) 0 ≡ 0x0D → take (length line - 1) line ≡ kept line
+  unfolding kept kept_of
+  kept_shorter e = rw (eq-eqb _ _ e)
+
+  pub kept_none : length line ≡ 0 → line ≡ kept line
+  unfolding kept kept_of
+  kept_none e = go line e
     where
-      go : (t : Bool) → 0 ≡ cond t (length line - 1) (length line)
-      go true = omega arith
-      go false = omega arith
+      go : (l : List ℕ) → length l ≡ 0 → l ≡ take (cond (ends_in_return l) (length l - 1) (length l)) l
+      go [] e = refl
+      go (x ∷ l) e = absurd (let z : ⊥ = omega (arith, e) in z)
 
-  pub kept_within : kept_of line ≤ length line
-  unfolding kept_of
-  kept_within = go (ends_in_return line)
-    where
-      go : (t : Bool) → cond t (length line - 1) (length line) ≤ length line
-      go true = omega arith
-      go false = omega arith
+  pub kept_whole : (get_or line (length line - 1) 0 ≡ 0x0D → ⊥) → line ≡ kept line
+  unfolding kept kept_of
+  kept_whole e = rw (ne_eqb _ _ e) (sym (take_all (length line) line (omega arith)))
 
--- ---- the lines, one after the other
+-- ---- the lines
 
--- the bytes in front that are no newline are the first line
-first_line : (l : List ℕ) → since is_newline l ≡ take (leading (passes Inside) l) l
-unfolding leading
-first_line [] = refl
-first_line (b ∷ l) = go (is_newline b) (first_line l)
+onto_is : (b : ℕ) (parts : List (List ℕ)) → onto_first b parts ≡ joined b parts
+onto_is b [] = refl
+onto_is b (part ∷ parts) = refl
+
+pub lines_are : (l : List ℕ) → slice_split is_newline l ≡ lines_of l
+unfolding lines_of
+lines_are [] = refl
+lines_are (b ∷ l) =
+    (λ i. cond (is_newline b) ([] ∷ lines_are l i) (onto_first b (lines_are l i)))
+    ∙ ap (cond (is_newline b) ([] ∷ cut_at is_newline l)) (onto_is b (cut_at is_newline l))
+
+-- before a line with a byte stand as many newlines as lines
+filled : (d l : List ℕ) (i : ℕ) → i < length (cut_at is_newline l) → 0 < length (get_or (cut_at is_newline l) i d)
+    → i + 1 ≤ length l
+filled d [] zero h f = absurd (let z : ⊥ = omega (arith, f) in z)
+filled d [] (suc i) h f = absurd (let z : ⊥ = omega (arith, h) in z)
+filled d (b ∷ l) i h f = go (is_newline b) (cut_at is_newline l) (filled d l) i h f
   where
-    go : (t : Bool) → since is_newline l ≡ take (leading (passes Inside) l) l
-        → cond t [] (b ∷ since is_newline l) ≡ take (cond (not t) (suc (leading (passes Inside) l)) zero) (b ∷ l)
-    go true ih = refl
-    go false ih = ap (λ k. b ∷ k) ih
+    go : (t : Bool) (parts : List (List ℕ))
+        → ((i : ℕ) → i < length parts → 0 < length (get_or parts i d) → i + 1 ≤ length l) → (i : ℕ)
+        → i < length (cond t ([] ∷ parts) (joined b parts))
+        → 0 < length (get_or (cond t ([] ∷ parts) (joined b parts)) i d) → i + 1 ≤ suc (length l)
+    go true parts ih zero h f = omega arith
+    go true parts ih (suc i) h f = let few = ih i (omega arith) f in omega (arith, few)
+    go false [] ih zero h f = omega arith
+    go false [] ih (suc i) h f = absurd (let z : ⊥ = omega (arith, h) in z)
+    go false (part ∷ parts) ih zero h f = omega arith
+    go false (part ∷ parts) ih (suc i) h f = let few = ih (suc i) (omega arith) f in omega (arith, few)
 
--- the later lines are those behind the newline, for a reading to which an empty line at the end is nothing
-later_lines : {A : Type 0} (f : List (List ℕ) → A) → f [] ≡ f ([] ∷ []) → (l : List ℕ)
-    → f (tail (cut_at is_newline l)) ≡ f (cut_at is_newline (drop (suc (leading (passes Inside) l)) l))
-unfolding leading
-later_lines f e [] = e
-later_lines f e (b ∷ l) = go (is_newline b) (later_lines f e l)
+pub bad_within : (file : List ℕ) (i : ℕ) (line : List ℕ) → i < length (lines_of file) → line ≡ get_or (lines_of file) i line
+    → is_bad (kept line) ≡ true → i + 1 ≤ length file
+unfolding lines_of is_bad kept
+bad_within file i line h e t =
+    let some = and_left (not (eqb (length (kept line)) 0)) (not (is_good (kept line))) t in
+    let few = length-take_le (kept_of line) line in
+    filled line file i h (rw (← e) (go (length (kept line)) some few))
   where
-    go : (t : Bool)
-        → f (tail (cut_at is_newline l)) ≡ f (cut_at is_newline (drop (suc (leading (passes Inside) l)) l))
-        → f (tail (cond t ([] ∷ cut_at is_newline l) (joined b (cut_at is_newline l))))
-        ≡ f (cut_at is_newline (drop (suc (cond (not t) (suc (leading (passes Inside) l)) zero)) (b ∷ l)))
-    go true ih = refl
-    go false ih = ap (λ parts. f (tail (joined b parts))) (cut_at_newest is_newline l) ∙ ih
+    go : (n : ℕ) → not (eqb n 0) ≡ true → n ≤ length line → 0 < length line
+    go zero q h = absurd (clash q)
+    go (suc n) q h = omega (arith, h)
 
--- drop from the front of a part
-drop_take : (n k : ℕ) (l : List ℕ) → n ≤ length l → drop n (take (n + k) l) ≡ take k (drop n l)
-drop_take n k l h = ap (drop n) (take-add n k l) ∙ drop_at (take n l) (take k (drop n l)) n (length-take-le n l h)
+module _ (code : ℕ) where
+  pub name_turn : (lines : List (List ℕ)) (i : ℕ) (line : List ℕ) → i < length lines → line ≡ get_or lines i line
+      → name_among code (drop i lines)
+      ≡ cond (is_of code (kept line)) (name_in (kept line)) (name_among code (drop (i + 1) lines))
+  unfolding name_among
+  name_turn lines i line h e =
+      at_drop_more (name_among code) lines i line h
+      ∙ ap (λ (l : List ℕ). cond (is_of code (kept l)) (name_in (kept l)) (name_among code (drop (i + 1) lines))) (sym e)
 
--- the line that begins at `at` and ends at `end`, and stops before a carriage return
-module _ (file : List ℕ) (at end : ℕ) (h : at < length file)
-    (e : end ≡ at + leading (passes Inside) (drop at file)) where
-  abbrev pub line_at : List ℕ
-  line_at = take (end - at) (drop at file)
+  pub name_end : (lines : List (List ℕ)) (i : ℕ) → i ≡ length lines → name_among code (drop i lines) ≡ []
+  unfolding name_among
+  name_end lines i e = at_drop_all (name_among code) lines i (omega (arith, e))
 
-  pub line_ends : end ≤ length file
-  line_ends = omega (arith, lead_within (passes Inside) (drop at file), length-drop at file)
+module _ (n : ℕ) where
+  pub bad_turn : (lines : List (List ℕ)) (i : ℕ) (line : List ℕ) → i < length lines → line ≡ get_or lines i line
+      → bad_among n (drop i lines) ≡ cond (is_bad (kept line)) (Some n) (bad_among (n + 1) (drop (i + 1) lines))
+  unfolding bad_among
+  bad_turn lines i line h e =
+      at_drop_more (bad_among n) lines i line h
+      ∙ ap (λ (l : List ℕ). cond (is_bad (kept l)) (Some n) (bad_among (n + 1) (drop (i + 1) lines))) (sym e)
 
-  width : leading (passes Inside) (drop at file) ≡ end - at
-  width = omega arith
-
-  behind : drop (suc (leading (passes Inside) (drop at file))) (drop at file) ≡ drop (end + 1) file
-  behind =
-      let there : at + suc (leading (passes Inside) (drop at file)) ≡ end + 1 = omega arith in
-      drop-drop (suc (leading (passes Inside) (drop at file))) at file ∙ ap (λ k. drop k file) there
-
-  line_long : length line_at ≡ end - at
-  line_long = length-take-le (end - at) (drop at file) (rw length-drop (omega (arith, line_ends)))
-
-  module _ (stop : ℕ) (s : stop ≡ at + kept_of line_at) where
-    pub stop_within : stop ≤ end
-    stop_within = omega (arith, kept_within line_at, line_long)
-
-    pub kept_is : take (stop - at) (drop at file) ≡ kept line_at
-    unfolding kept
-    kept_is =
-        let size : stop - at ≡ kept_of line_at = omega arith in
-        let few : kept_of line_at ≤ end - at = omega (arith, kept_within line_at, line_long) in
-        ap (λ k. take k (drop at file)) size ∙ sym (take-take (kept_of line_at) (end - at) (drop at file) few)
-
-    pub name_begins : at + name_start (take (stop - at) (drop at file)) ≤ stop
-    name_begins =
-        let ends = line_ends in
-        let stops = stop_within in
-        let long : length (take (stop - at) (drop at file)) ≡ stop - at =
-        length-take-le (stop - at) (drop at file) (rw length-drop (omega arith)) in
-        omega (arith, name_start_within (take (stop - at) (drop at file)))
-
-    -- a name of the line, as a part of the file
-    pub name_part : (start : ℕ) (name : List ℕ)
-        → start ≡ at + name_start (take (stop - at) (drop at file))
-        → name ≡ name_in (take (stop - at) (drop at file))
-        → PartIs name file start stop
-    name_part start name b q =
-        let ends = line_ends in
-        let stops = stop_within in
-        let inner = name_begins in
-        let n = name_start (take (stop - at) (drop at file)) in
-        let sum : stop - at ≡ n + (stop - start) = omega arith in
-        let wide : n ≤ length (drop at file) = rw length-drop (omega arith) in
-        record {
-          ordered = omega arith;
-          inside = omega arith;
-          is =
-              ap (λ k. take (stop - start) (drop k file)) b
-              ∙ ap (take (stop - start)) (sym (drop-drop n at file))
-              ∙ sym (drop_take n (stop - start) (drop at file) wide)
-              ∙ ap (λ k. drop n (take k (drop at file))) (sym sum)
-              ∙ sym q;
-        }
-
-  -- ---- a turn of the search for a name
-
-  module _ (code : ℕ) where
-    nothing_ends : name_among code [] ≡ name_among code ([] ∷ [])
-    unfolding name_among is_of is_good kept kept_of leading
-    nothing_ends = refl
-
-    name_turn : name_among code (lines_of (drop at file))
-        ≡ cond (is_of code (kept line_at)) (name_in (kept line_at)) (name_among code (lines_of (drop (end + 1) file)))
-    unfolding name_among lines_of
-    name_turn =
-        ap (name_among code) (cut_at_newest is_newline (drop at file))
-        ∙ (λ i. cond (is_of code (kept (first_line (drop at file) i))) (name_in (kept (first_line (drop at file) i)))
-        (later_lines (name_among code) nothing_ends (drop at file) i))
-        ∙ (λ i. cond (is_of code (kept (take (width i) (drop at file)))) (name_in (kept (take (width i) (drop at file))))
-        (name_among code (cut_at is_newline (behind i))))
-
-    pub name_hit : is_of code (kept line_at) ≡ true → name_among code (lines_of (drop at file)) ≡ name_in (kept line_at)
-    name_hit t = name_turn ∙ rw t
-
-    pub name_miss : is_of code (kept line_at) ≡ false
-        → name_among code (lines_of (drop at file)) ≡ name_among code (lines_of (drop (end + 1) file))
-    name_miss t = name_turn ∙ rw t
-
-  -- ---- and for a bad line
-
-  module _ (n : ℕ) where
-    nothing_bad : bad_among (n + 1) [] ≡ bad_among (n + 1) ([] ∷ [])
-    unfolding bad_among is_bad kept kept_of
-    nothing_bad = refl
-
-    bad_turn : bad_among n (lines_of (drop at file))
-        ≡ cond (is_bad (kept line_at)) n (bad_among (n + 1) (lines_of (drop (end + 1) file)))
-    unfolding bad_among lines_of
-    bad_turn =
-        ap (bad_among n) (cut_at_newest is_newline (drop at file))
-        ∙ (λ i. cond (is_bad (kept (first_line (drop at file) i))) n
-        (later_lines (bad_among (n + 1)) nothing_bad (drop at file) i))
-        ∙ (λ i. cond (is_bad (kept (take (width i) (drop at file)))) n
-        (bad_among (n + 1) (cut_at is_newline (behind i))))
-
-    pub bad_hit : is_bad (kept line_at) ≡ true → bad_among n (lines_of (drop at file)) ≡ n
-    bad_hit t = bad_turn ∙ rw t
-
-    pub bad_miss : is_bad (kept line_at) ≡ false
-        → bad_among n (lines_of (drop at file)) ≡ bad_among (n + 1) (lines_of (drop (end + 1) file))
-    bad_miss t = bad_turn ∙ rw t
-
--- ---- where the file ends
-
-pub no_name : (code : ℕ) (file : List ℕ) (at : ℕ) → length file ≤ at → name_among code (lines_of (drop at file)) ≡ []
-unfolding name_among lines_of is_of is_good kept kept_of leading
-no_name code file at h = rw (drop_of_length-le file {i = at} h)
-
-pub no_bad : (n : ℕ) (file : List ℕ) (at : ℕ) → length file ≤ at → bad_among n (lines_of (drop at file)) ≡ 0
-unfolding bad_among lines_of is_bad kept kept_of
-no_bad n file at h = rw (drop_of_length-le file {i = at} h)
-
-pub no_part : (name file : List ℕ) → name ≡ [] → PartIs name file 0 0
-no_part name file e = record { ordered = omega arith; inside = omega arith; is = sym e }
+  pub bad_end : (lines : List (List ℕ)) (i : ℕ) → i ≡ length lines → bad_among n (drop i lines) ≡ None
+  unfolding bad_among
+  bad_end lines i e = at_drop_all (bad_among n) lines i (omega (arith, e))
 
 -- ---- a name has 120 bytes at most
 

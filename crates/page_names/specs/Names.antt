@@ -1,8 +1,8 @@
 -- The names file: "lines of a trouble code in hexadecimal and a name in UTF-8". Assumes nothing.
-use Rattle.std.specs.Prelude.{◌≡◌, Bool, not, ◌&&◌, ◌||◌, cond, List, [], ◌∷◌, ℕ, zero, suc, ◌+◌, ◌-◌, ◌*◌, ◌%◌, ◌≤◌, eqb, leb, ltb, length, get_or, take, drop}
+use Rattle.std.specs.Prelude.{Bool, not, ◌&&◌, ◌||◌, cond, List, [], ◌∷◌, ℕ, zero, suc, ◌+◌, ◌-◌, ◌*◌, ◌%◌, Option, None, Some}
+use Rattle.std.specs.Prelude.{eqb, leb, ltb, length, get_or, take, drop}
+use Rattle.std.specs.List.{take_while}
 use Rattle.history.specs.Words.{cut_at}
-use Rattle.page_names.specs.declared.Kind.{Kind}
-use Rattle.page_names.specs.declared.Kind.TheVariants.{Hex, Space, Inside}
 use Rattle.page_names.specs.Utf8.{within, is_text}
 
 -- ---- bytes in front
@@ -11,27 +11,23 @@ use Rattle.page_names.specs.Utf8.{within, is_text}
 abbrev pub is_hex : ℕ → Bool
 is_hex b = within 0x30 0x39 b || within 0x41 0x46 b || within 0x61 0x66 b
 
--- a digit of a code, a space behind it, a byte of a line
-abbrev pub passes : Kind → ℕ → Bool
-passes Hex b = is_hex b
-passes Space b = eqb b 0x20
-passes Inside b = not (eqb b 0x0A)
+abbrev pub is_space : ℕ → Bool
+is_space b = eqb b 0x20
 
 -- how many bytes in front pass
-unfoldable pub leading : (ℕ → Bool) → List ℕ → ℕ
-leading p [] = zero
-leading p (b ∷ bytes) = cond (p b) (suc (leading p bytes)) zero
+abbrev pub leading : (ℕ → Bool) → List ℕ → ℕ
+leading p bytes = length (take_while p bytes)
 
 -- ---- a line: one to six digits, an h or none, one space or more, a name of 1 to 120 bytes
 
 abbrev pub digits_in : List ℕ → ℕ
-digits_in line = leading (passes Hex) line
+digits_in line = leading is_hex line
 
 unfoldable pub code_end : List ℕ → ℕ
 code_end line = cond (eqb (get_or line (digits_in line) 0) 0x68) (digits_in line + 1) (digits_in line)
 
 unfoldable pub name_start : List ℕ → ℕ
-name_start line = code_end line + leading (passes Space) (drop (code_end line) line)
+name_start line = code_end line + leading is_space (drop (code_end line) line)
 
 abbrev pub name_in : List ℕ → List ℕ
 name_in line = drop (name_start line) line
@@ -95,22 +91,16 @@ name_of code file = name_among code (lines_of file)
 unfoldable pub is_bad : List ℕ → Bool
 is_bad line = not (eqb (length line) 0) && not (is_good line)
 
--- the number of the first bad line, where the first of these is line n; 0 where there is none
-unfoldable pub bad_among : ℕ → List (List ℕ) → ℕ
-bad_among n [] = 0
-bad_among n (line ∷ lines) = cond (is_bad (kept line)) n (bad_among (n + 1) lines)
+-- the number of the first bad line, where the first of these is line n
+unfoldable pub bad_among : ℕ → List (List ℕ) → Option ℕ
+bad_among n [] = None
+bad_among n (line ∷ lines) = cond (is_bad (kept line)) (Some n) (bad_among (n + 1) lines)
 
-unfoldable pub first_bad : List ℕ → ℕ
+unfoldable pub first_bad : List ℕ → Option ℕ
 first_bad file = bad_among 1 (lines_of file)
 
--- ---- what the code asks and answers
+-- ---- what the code asks
 
 -- the program reads no longer file
 abbrev pub most_names : ℕ
 most_names = 65535
-
--- these bytes stand in the file from start to end
-pub record PartIs (name file : List ℕ) (start end : ℕ) : Type 0 where
-  pub ordered : start ≤ end
-  pub inside : end ≤ length file
-  pub is : take (end - start) (drop start file) ≡ name

@@ -3,8 +3,8 @@
 
 ghost use Rattle.std.specs.Prelude.{◌≡◌, ◌+◌, ◌≤◌, ◌<◌, length, drop};
 ghost use Rattle.page_names.specs.Utf8.{within, awaits, after_long, after_first, after, is_text};
-ghost use Rattle.page_names.specs.Names.{is_hex, passes, leading, code_end, name_start, is_good, worth_of, worth};
-ghost use Rattle.page_names.specs.Names.{kept_of, is_of, name_of, is_bad, first_bad, most_names, PartIs};
+ghost use Rattle.page_names.specs.Names.{is_hex, is_space, leading, digits_in, code_end, name_start, is_good, worth_of, worth};
+ghost use Rattle.page_names.specs.Names.{kept, is_of, name_of, is_bad, first_bad, most_names};
 
 // ---- "a name in UTF-8"
 
@@ -83,24 +83,11 @@ fn after(a: Awaited, b: u8) -> Awaited
 fn is_text(bytes: &[u8]) -> bool
     ensures { result ≡ is_text bytes.now }
 {
-    let mut a = awaits(0, 0, 0);
-    let mut i = 0;
-    while i < bytes.len() {
-        a = after(a, bytes[i]);
-        i += 1;
-    }
-    a.left == 0
+    let whole = awaits(0, 0, 0);
+    bytes.iter().fold(whole, |a, b| after(a, *b)).left == 0
 }
 
-// ---- bytes in front
-
-// A digit of a code, a space behind it, a byte of a line.
-#[derive(Clone, Copy)]
-enum Kind {
-    Hex,
-    Space,
-    Inside,
-}
+// ---- a line
 
 fn is_hex(b: u8) -> bool
     ensures { result ≡ is_hex b }
@@ -108,37 +95,18 @@ fn is_hex(b: u8) -> bool
     within(b'0', b'9', b) | within(b'A', b'F', b) | within(b'a', b'f', b)
 }
 
-fn passes(kind: Kind, b: u8) -> bool
-    ensures { result ≡ passes kind b }
+// How many digits stand in front.
+fn digits_in(line: &[u8]) -> usize
+    ensures { result ≡ digits_in line.now }
 {
-    match kind {
-        Kind::Hex => is_hex(b),
-        Kind::Space => b == b' ',
-        Kind::Inside => b != b'\n',
-    }
+    line.iter().take_while(|b| is_hex(**b)).count()
 }
-
-// Behind the bytes from `at` on that are of a kind.
-fn run_end(text: &[u8], at: usize, kind: Kind) -> usize
-    ensures { result ≡ at + leading (passes kind) (drop at text.now) }
-{
-    let mut i = at;
-    while i < text.len() {
-        if !passes(kind, text[i]) {
-            return i;
-        }
-        i += 1;
-    }
-    i
-}
-
-// ---- a line
 
 // The end of its code: behind the digits, and behind an h that follows them.
 fn code_end(line: &[u8]) -> usize
     ensures { result ≡ code_end line.now }
 {
-    let digits = run_end(line, 0, Kind::Hex);
+    let digits = digits_in(line);
     if line.len() <= digits {
         return digits;
     }
@@ -148,19 +116,26 @@ fn code_end(line: &[u8]) -> usize
     digits
 }
 
+// How many spaces stand in front.
+fn spaces_in(text: &[u8]) -> usize
+    ensures { result ≡ leading is_space text.now }
+{
+    text.iter().take_while(|b| **b == b' ').count()
+}
+
 // The start of its name, behind the spaces.
 fn name_start(line: &[u8]) -> usize
     ensures { result ≡ name_start line.now }
 {
     let end = code_end(line);
-    run_end(line, end, Kind::Space)
+    end + spaces_in(&line[end..])
 }
 
 // One to six digits, an h or none, one space or more, a name of 1 to 120 bytes.
 fn is_good(line: &[u8]) -> bool
     ensures { result ≡ is_good line.now }
 {
-    let digits = run_end(line, 0, Kind::Hex);
+    let digits = digits_in(line);
     let end = code_end(line);
     let start = name_start(line);
     let size = line.len() - start;
@@ -184,8 +159,8 @@ fn worth(line: &[u8], digits: usize) -> u32
     ensures { result ≡ worth digits line.now }
 {
     let mut n = 0;
-    for i in 0..digits {
-        n = 16 * n + worth_of(line[i]);
+    for &b in &line[..digits] {
+        n = 16 * n + worth_of(b);
     }
     n
 }
@@ -197,88 +172,58 @@ fn is_of(line: &[u8], code: u32) -> bool
     if !is_good(line) {
         return false;
     }
-    let digits = run_end(line, 0, Kind::Hex);
-    worth(line, digits) == code
+    worth(line, digits_in(line)) == code
 }
 
 // Whether it is neither empty nor good.
 fn is_bad(line: &[u8]) -> bool
     ensures { result ≡ is_bad line.now }
 {
-    (line.len() != 0) & !is_good(line)
+    !line.is_empty() & !is_good(line)
 }
 
-// How long the line is without a carriage return at its end.
-fn kept(line: &[u8]) -> usize
-    ensures { result ≡ kept_of line.now }
+// The line without a carriage return at its end.
+fn kept<'a>(line: &'a [u8]) -> &'a [u8]
+    ensures { result.now ≡ kept line.now }
 {
-    let length = line.len();
-    if length == 0 {
-        return 0;
+    if line.is_empty() {
+        return line;
     }
-    let last = length - 1;
+    let last = line.len() - 1;
     if line[last] == b'\r' {
-        return last;
+        return &line[..last];
     }
-    length
+    line
 }
 
 // ---- the file
 
-// A part of the file.
-#[derive(Clone, Copy)]
-struct Part {
-    start: usize,
-    end: usize,
-}
-
-// Where the name of the first good line with this code stands; a part of no bytes where there is no such line.
-fn find(file: &[u8], code: u32) -> Part
-    requires { length file.now ≤ most_names }
-    ensures { PartIs (name_of code file.now) file.now result.start result.end }
-{
-    let mut at = 0;
-    while at < file.len() {
-        let end = run_end(file, at, Kind::Inside);
-        let stop = at + kept(&file[at..end]);
-        let line = &file[at..stop];
-        if is_of(line, code) {
-            return Part {
-                start: at + name_start(line),
-                end: stop,
-            };
-        }
-        at = end + 1;
-    }
-    Part { start: 0, end: 0 }
-}
-
-// "events are shown by name beside the code": the name of a code; no bytes where there is none.
+// "events are shown by name beside the code": the name of the first good line with this code; no bytes where there is
+// no such line.
 pub fn name_of<'a>(file: &'a [u8], code: u32) -> &'a [u8]
     requires { length file.now ≤ most_names }
     ensures { result.now ≡ name_of code file.now }
 {
-    let part = find(file, code);
-    let start = part.start;
-    let end = part.end;
-    &file[start..end]
+    for line in file.split(|b| *b == b'\n') {
+        let line = kept(line);
+        if is_of(line, code) {
+            return &line[name_start(line)..];
+        }
+    }
+    &[]
 }
 
-// "A bad line of that file is a clear message with its number": the number of the first; 0 where there is none.
-pub fn first_bad(file: &[u8]) -> u32
+// "A bad line of that file is a clear message with its number": the number of the first.
+pub fn first_bad(file: &[u8]) -> Option<u16>
     requires { length file.now ≤ most_names }
-    ensures { (result ≡ first_bad file.now) × (result ≤ most_names) }
+    ensures { result ≡ first_bad file.now }
 {
-    let mut at = 0;
-    let mut number = 1;
-    while at < file.len() {
-        let end = run_end(file, at, Kind::Inside);
-        let stop = at + kept(&file[at..end]);
-        if is_bad(&file[at..stop]) {
-            return number;
+    let mut number: usize = 1;
+    for line in file.split(|b| *b == b'\n') {
+        if is_bad(kept(line)) {
+            return Some(number as u16);
         }
-        at = end + 1;
         number += 1;
     }
-    0
+    None
 }

@@ -17,7 +17,7 @@ use Rattle.manual.specs.Counter.{counter_in}
 use Rattle.manual.specs.Untested.{is_grey, paint_of}
 use Rattle.manual.proofs.ConfigurationLaws.{config_tells}
 use Rattle.manual.proofs.CounterOfAState.{in_a_byte}
-use Rattle.memory.specs.declared.Find.TheVariants.{At, Nothing}
+use Rattle.std.specs.Prelude.{Some, None}
 use Rattle.memory.specs.Places.{at_place, place_of}
 use Rattle.memory.specs.Fits.{EntriesFit, PlaceFits}
 use Rattle.memory.proofs.PlacesLaws.{entries_fit, entries_are_count, found, found_nothing}
@@ -25,8 +25,9 @@ use Rattle.judgement.specs.Fits.{EventIn, RecordsFor}
 use Rattle.queries.proofs.ReadingLaws.{small_fits}
 use Rattle.untested.specs.Page.{holding, EventWithin}
 use Rattle.untested.proofs.PageLaws.{judged_records, event_within}
-use Rattle.page_rows.specs.declared.Signal.{Signal}
-use Rattle.page_text.specs.Text.{Puts}
+use Rattle.page_parts.specs.declared.Signal.{Signal}
+use Rattle.page_text.specs.declared.Page.{Page}
+use Rattle.page_text.specs.Page.{Adds}
 use Rattle.page_names.specs.Names.{name_of}
 use Rattle.page_rows.specs.Rows.{count_in, occurrences, raised_counter, signal_of, own_name}
 use Rattle.page_rows.specs.Rows.{Shown, OneOf}
@@ -65,18 +66,18 @@ module _ (cfg : Configuration) (s : State) (e : ℕ) (o : OneOf cfg s e) where
 -- ---- the occurrence count
 
 module _ (W e : ℕ) (m : List ℕ) {W' : ℕ} (w : W' ≡ W) where
-  pub place_fits : EntriesFit W m → (p : Place) → place_of e (entries_of W' m) ≡ At p → PlaceFits W' m p.0
+  pub place_fits : EntriesFit W m → (p : Place) → place_of e (entries_of W' m) ≡ Some p → PlaceFits W' m p.0
   place_fits fits p q =
       let inside = (found (is_of e) (entries_of W' m) p q).inside in
       record { entries = rw w fits; below = omega (arith, inside, entries_are_count W' m) }
 
-  pub counts_at : (p : Place) {n : ℕ} → place_of e (entries_of W' m) ≡ At p
+  pub counts_at : (p : Place) {n : ℕ} → place_of e (entries_of W' m) ≡ Some p
       → n ≡ (at_place p.0 (entries_of W' m)).count
       → n ≡ count_in (entry_for e (entries_of W m))
   counts_at p q k =
       k ∙ sym (ap count_in (found (is_of e) (entries_of W' m) p q).first) ∙ (λ i. count_in (entry_for e (entries_of (w i) m)))
 
-  pub counts_none : place_of e (entries_of W' m) ≡ Nothing → 0 ≡ count_in (entry_for e (entries_of W m))
+  pub counts_none : place_of e (entries_of W' m) ≡ None → 0 ≡ count_in (entry_for e (entries_of W m))
   counts_none q =
       sym (ap count_in (found_nothing (is_of e) (entries_of W' m) q)) ∙ (λ i. count_in (entry_for e (entries_of (w i) m)))
 
@@ -126,12 +127,12 @@ module _ (cfg : Configuration) (records : List ℕ) (debounce : List ℤ) (memor
 -- ---- its row
 
 pub row_put : (cfg : Configuration) (names : List ℕ) (s : State) (e : ℕ) (row : List ℕ → Signal → List ℕ) {x : Signal}
-    {name before after : List ℕ} {most at next : ℕ}
+    {name : List ℕ} {most : ℕ} {before after : Page}
     → x ≡ signal_of cfg s e
     → name ≡ name_of x.code names
-    → Puts (row name x) most at next before after
-    → Puts (row (own_name cfg names e) (signal_of cfg s e)) most at next before after
+    → Adds (row name x) most before after
+    → Adds (row (own_name cfg names e) (signal_of cfg s e)) most before after
 unfolding signal_of
-row_put cfg names s e row {x} {name} {before} {after} {most} {at} {next} q k p =
-    subst (λ (y : Signal). Puts (row (name_of y.code names) y) most at next before after) q
-    (subst (λ (l : List ℕ). Puts (row l x) most at next before after) k p)
+row_put cfg names s e row {x} {name} {most} {before} {after} q k p =
+    subst (λ (y : Signal). Adds (row (name_of y.code names) y) most before after) q
+    (subst (λ (l : List ℕ). Adds (row l x) most before after) k p)

@@ -14,7 +14,7 @@ use Rattle.manual.specs.Counter.{counter_in}
 use Rattle.manual.specs.Untested.{paint_of}
 use Rattle.page_parts.specs.Signals.{untested_row, failed_row, signal_row}
 use Rattle.page_names.specs.Names.{name_of}
-use Rattle.page_rows.specs.declared.Signal.{Signal}
+use Rattle.page_parts.specs.declared.Signal.{Signal}
 use Rattle.page_rows.specs.declared.Listing.{Listing}
 use Rattle.page_rows.specs.declared.Listing.TheVariants.{Untested, Failed, All}
 

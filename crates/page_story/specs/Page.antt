@@ -1,10 +1,11 @@
 -- The page of a log: its head with the style, the page of the state after the last call, or why there is none. Assumes
 -- nothing.
-use Rattle.std.specs.Prelude.{Bool, cond, List, ◌++◌, ℕ, ◌+◌, ◌≤◌, length}
+use Rattle.std.specs.Prelude.{Bool, cond, List, ◌++◌, ℕ, ◌+◌, ◌≤◌, length, Option, None, Some}
 use Rattle.manual.specs.Configuration.{Configuration}
 use Rattle.replay_step.specs.Beginning.{Beginning, ready, refused, unreadable, beginning}
 use Rattle.page_text.specs.Text.{text}
 use Rattle.page_names.specs.Names.{most_names}
+use Rattle.page_heads.specs.declared.Unused.{Unused}
 use Rattle.page_body.specs.declared.Log.{Log}
 use Rattle.page_body.specs.Body.{body}
 use Rattle.page_story.specs.Story.{Progress, played}
@@ -47,18 +48,17 @@ head = meta_part ++ text_style ++ paint_style ++ table_style
 -- ---- a log with a state
 
 -- what is told of it beside the state
-abbrev pub log_of : ℕ → Progress → Log
+abbrev pub log_of : Option Unused → Progress → Log
 log_of unused p =
     record {
       made = p.made;
       refused = p.refused;
       last = p.last;
-      bad = p.bad;
-      behind = p.at;
+      bad = cond p.bad (Some p.at) None;
       unused = unused;
     }
 
-unfoldable pub shown : Configuration → List ℕ → ℕ → Progress → List ℕ
+unfoldable pub shown : Configuration → List ℕ → Option Unused → Progress → List ℕ
 shown cfg names unused p = body cfg names p.state (log_of unused p)
 
 -- ---- a log without a state: "over-long text, refused configuration, …: a page that says so in words"
@@ -81,7 +81,7 @@ unreadable_log longer =
 -- ---- all of it
 
 -- `longer` says that the log goes on behind these bytes, `unused` why there are no names
-module _ (longer : Bool) (log names : List ℕ) (unused : ℕ) where
+module _ (longer : Bool) (log names : List ℕ) (unused : Option Unused) where
   abbrev pub rest : Beginning → List ℕ
   rest (ready numbers at) = shown numbers names unused (played numbers log at)
   rest (refused numbers) = refused_configuration

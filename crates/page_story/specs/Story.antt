@@ -81,12 +81,12 @@ module _ (cfg : Configuration) (log : List ℕ) where
   unfoldable pub played : ℕ → Progress
   played at = turns (length log) (at_first (fresh_state cfg) at)
 
--- ---- what the code carries, with the blocks
+-- ---- what the code carries, beside the state
 
-abbrev pub so_far : List ℕ → List ℤ → List ℕ → Played → Progress
-so_far records debounce memory p =
+abbrev pub so_far : State → Played → Progress
+so_far s p =
     record {
-      state = lent records debounce memory p.board;
+      state = s;
       at = p.next.at;
       more = p.more;
       made = p.made;

@@ -1,4 +1,5 @@
 pub mod TextLaws
-pub mod EscapeLaws
+pub mod PageLaws
+pub mod FlatMapLaws
 pub mod NamesStayInPlace
 pub mod Examples

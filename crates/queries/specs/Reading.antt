@@ -1,15 +1,14 @@
 -- Read status, read counter, read missing and read frame: their refusal 4, the counter and the lowest missing condition
 -- beside the outcome, and where in the caller's own memory block the frame stands. Assumes nothing.
-use Rattle.std.specs.Prelude.{Bool, cond, List, [], ◌∷◌, ℕ, ◌+◌, eqb, leb, length, take, drop}
-use Rattle.manual.specs.declared.CounterAnswer.{CounterAnswer}
-use Rattle.manual.specs.declared.FrameAnswer.{FrameAnswer}
-use Rattle.manual.specs.declared.FrameAnswer.TheVariants.{At}
+use Rattle.std.specs.Prelude.{Bool, cond, List, [], ◌∷◌, ℕ, ◌+◌, eqb, leb, ℤ, length, take, drop}
+use Rattle.std.specs.Prelude.{Some, None, Result, Ok, Err}
 use Rattle.manual.specs.declared.FramePart.{FramePart}
-use Rattle.manual.specs.declared.MissingAnswer.{MissingAnswer}
 use Rattle.manual.specs.declared.Place.{Place}
 use Rattle.manual.specs.declared.Which.{Which}
 use Rattle.manual.specs.declared.Which.TheVariants.{First, Latest}
+use Rattle.manual.specs.declared.Refusal.{Refusal}
 use Rattle.manual.specs.declared.Refusal.TheVariants.{NoEntry}
+use Rattle.manual.specs.declared.StillMissing.{StillMissing}
 use Rattle.manual.specs.Configuration.{Configuration, frame_bytes, entry_frames}
 use Rattle.manual.specs.State.{State}
 use Rattle.manual.specs.WellFormed.{entries}
@@ -18,9 +17,7 @@ use Rattle.manual.specs.Answers.{of_missing, lowest_answered}
 use Rattle.manual.specs.Calls.{read_frame}
 use Rattle.manual.specs.Counter.{CounterRead}
 use Rattle.manual.specs.Missing.{MissingRead}
-use Rattle.memory.specs.declared.Find.{Find}
-use Rattle.memory.specs.declared.Find.TheVariants.{Nothing}
-use Rattle.memory.specs.Places.{frame_at, place_of}
+use Rattle.memory.specs.Places.{Find, frame_at, place_of}
 
 -- "read status 4; read frame 4, 10": the rule that these, read counter and read missing have
 abbrev pub four : Bool → List Rule
@@ -29,13 +26,13 @@ four no_such = (4 if no_such) ∷ []
 -- ---- what read counter answers
 
 -- what an answer says of a state that is left as found
-abbrev pub tells : CounterAnswer → State → CounterRead
+abbrev pub tells : Result ℤ Refusal → State → CounterRead
 tells a s = record { outcome = leaves (of_counter a) [] alone s; counter = counter_answered a }
 
 -- ---- what read missing answers
 
 -- what an answer says of a state that is left as found
-abbrev pub tells_missing : MissingAnswer → State → MissingRead
+abbrev pub tells_missing : Result StillMissing Refusal → State → MissingRead
 tells_missing a s = record { outcome = leaves (of_missing a) [] alone s; lowest = lowest_answered a }
 
 -- ---- the part of a memory block that an answer names
@@ -44,17 +41,17 @@ tells_missing a s = record { outcome = leaves (of_missing a) [] alone s; lowest 
 unfoldable pub part_at : ℕ → ℕ → List ℕ → List ℕ
 part_at start size m = cond (leb (start + size) (length m)) (take size (drop start m)) []
 
-abbrev pub part_of : FrameAnswer → List ℕ → List ℕ
-part_of (At p) m = part_at p.start p.length m
-part_of (FrameAnswer.Refused r) m = []
+abbrev pub part_of : Result FramePart Refusal → List ℕ → List ℕ
+part_of (Ok p) m = part_at p.start p.length m
+part_of (Err r) m = []
 
-abbrev pub start_in : FrameAnswer → ℕ
-start_in (At p) = p.start
-start_in (FrameAnswer.Refused r) = 0
+abbrev pub start_in : Result FramePart Refusal → ℕ
+start_in (Ok p) = p.start
+start_in (Err r) = 0
 
-abbrev pub length_in : FrameAnswer → ℕ
-length_in (At p) = p.length
-length_in (FrameAnswer.Refused r) = 0
+abbrev pub length_in : Result FramePart Refusal → ℕ
+length_in (Ok p) = p.length
+length_in (Err r) = 0
 
 -- ---- what read frame answers
 
@@ -65,7 +62,7 @@ pub record FrameRead : Type 0 where
   pub length : ℕ
 
 -- what an answer says of a state that is left as found
-abbrev pub says : FrameAnswer → State → FrameRead
+abbrev pub says : Result FramePart Refusal → State → FrameRead
 says a s =
     record { outcome = leaves (of_frame a) (part_of a s.memory) alone s; start = start_in a; length = length_in a }
 
@@ -79,13 +76,13 @@ abbrev pub chosen_part : ℕ → ℕ → Which → Place → FramePart
 chosen_part W F which p = record { start = frame_at W p + skipped which F; length = F }
 
 abbrev pub frame_start : ℕ → ℕ → Which → Find → ℕ
-frame_start W F which (Find.At p) = (chosen_part W F which p).start
-frame_start W F which Nothing = 0
+frame_start W F which (Some p) = (chosen_part W F which p).start
+frame_start W F which None = 0
 
 -- the answer where 2, 3 and 4 do not apply: "10 | event has no memory entry"
-abbrev pub entry_answer : ℕ → ℕ → Which → Find → FrameAnswer
-entry_answer W F which (Find.At p) = At (chosen_part W F which p)
-entry_answer W F which Nothing = FrameAnswer.Refused NoEntry
+abbrev pub entry_answer : ℕ → ℕ → Which → Find → Result FramePart Refusal
+entry_answer W F which (Some p) = Ok (chosen_part W F which p)
+entry_answer W F which None = Err NoEntry
 
 -- "a frame part empty": a refusal has neither start nor length
 abbrev pub placed : Outcome → ℕ → ℕ → FrameRead

@@ -5,7 +5,7 @@
 
 ghost use Rattle.std.specs.Prelude.{true, ◌≡◌, [], ◌≤◌};
 ghost use Rattle.manual.specs.Configuration.{most_places, most_frame, most_payload, frame_bytes, entry_frames};
-ghost use Rattle.manual.specs.State.{lent};
+ghost use Rattle.manual.specs.Lent.{as_found};
 ghost use Rattle.manual.specs.Memory.{entries_of};
 ghost use Rattle.manual.specs.Answers.{alone, first_that_applies, of_status, leaves};
 ghost use Rattle.manual.specs.Calls.{begins, no_such_event, read_status};
@@ -17,89 +17,56 @@ ghost use Rattle.memory.specs.Places.{place_of};
 ghost use Rattle.queries.specs.Reading.{four, tells, tells_missing, part_at, part_of, says, skipped, chosen_part};
 ghost use Rattle.queries.specs.Reading.{entry_answer, frame_read};
 
-use judgement::Check;
-use manual::{
-    Board, CounterAnswer, EventNumber, FrameAnswer, FramePart, MissingAnswer, Place, Refusal,
-    StatusAnswer, Which,
-};
-use memory::Find;
+use manual::{EventNumber, FramePart, Lent, Place, Refusal, StillMissing, Which};
 
 // ---- 2, 3, 4
 
 // "4 | no such event"
-fn four(no_such: bool) -> Check
+#[tactic(auto, unfolding(manual::specs::Answers::first_that_applies))]
+fn four(no_such: bool) -> Result<(), Refusal>
     ensures { check_number result ≡ first_that_applies (four no_such) }
 {
     if no_such {
-        return Check::Stop(Refusal::NoSuch);
+        return Err(Refusal::NoSuch);
     }
-    Check::Go
+    Ok(())
 }
 
 // 2, 3, then 4: with these every call that reads something of one event begins.
-pub fn judge(
-    cfg: &[i32],
-    records: &[u8],
-    debounce: &[i32],
-    memory: &[u8],
-    board: Board,
-    event: EventNumber,
-) -> Check
+pub fn judge(cfg: &[i32], state: &Lent, event: EventNumber) -> Result<(), Refusal>
     ensures { check_number result
         ≡ first_that_applies
-        (begins cfg.now (lent records.now debounce.now memory.now board)
+        (begins cfg.now (as_found state.now)
         true (four (no_such_event cfg.now event.0))) }
 {
-    match judgement::begin(cfg, records, debounce, memory, board, true) {
-        Check::Go => four(config::events(cfg) <= event.0),
-        Check::Stop(refusal) => Check::Stop(refusal),
-    }
+    judgement::begin(cfg, state, true)?;
+    four(config::events(cfg) <= event.0)
 }
 
 // ---- read status
 
 // The event's status byte.
-pub fn read_status(
-    cfg: &[i32],
-    records: &[u8],
-    debounce: &[i32],
-    memory: &[u8],
-    board: Board,
-    event: EventNumber,
-) -> StatusAnswer
+pub fn read_status(cfg: &[i32], state: &Lent, event: EventNumber) -> Result<u8, Refusal>
     ensures { leaves (of_status result) [] alone
-        (lent records.now debounce.now memory.now board)
+        (as_found state.now)
         ≡ read_status cfg.now event.0 alone
-        (lent records.now debounce.now memory.now board) }
+        (as_found state.now) }
 {
-    match judge(cfg, records, debounce, memory, board, event) {
-        Check::Go => StatusAnswer::Status(status::status_of(records, event).0),
-        Check::Stop(refusal) => StatusAnswer::Refused(refusal),
-    }
+    judge(cfg, state, event)?;
+    Ok(status::status_of(state.records, event).0)
 }
 
 // ---- read counter
 
 // The event's fault detection counter, −128 to 127.
-pub fn read_counter(
-    cfg: &[i32],
-    records: &[u8],
-    debounce: &[i32],
-    memory: &[u8],
-    board: Board,
-    event: EventNumber,
-) -> CounterAnswer
-    ensures { tells result (lent records.now debounce.now memory.now board)
+pub fn read_counter(cfg: &[i32], state: &Lent, event: EventNumber) -> Result<i8, Refusal>
+    ensures { tells result (as_found state.now)
         ≡ counter_read cfg.now event.0 alone
-        (lent records.now debounce.now memory.now board) }
+        (as_found state.now) }
 {
-    match judge(cfg, records, debounce, memory, board, event) {
-        Check::Go => {
-            let counter = counter::counter_of(cfg, records, debounce, event);
-            CounterAnswer::Counter(counter as i8)
-        }
-        Check::Stop(refusal) => CounterAnswer::Refused(refusal),
-    }
+    judge(cfg, state, event)?;
+    let counter = counter::counter_of(cfg, state.records, state.debounce, event);
+    Ok(counter as i8)
 }
 
 // ---- read missing
@@ -107,21 +74,16 @@ pub fn read_counter(
 // How many of the conditions that the event needs are not in the set of those that are present, and the lowest of them.
 pub fn read_missing(
     cfg: &[i32],
-    records: &[u8],
-    debounce: &[i32],
-    memory: &[u8],
-    board: Board,
+    state: &Lent,
     event: EventNumber,
     present: u32,
-) -> MissingAnswer
-    ensures { tells_missing result (lent records.now debounce.now memory.now board)
+) -> Result<StillMissing, Refusal>
+    ensures { tells_missing result (as_found state.now)
         ≡ missing_read cfg.now event.0 present alone
-        (lent records.now debounce.now memory.now board) }
+        (as_found state.now) }
 {
-    match judge(cfg, records, debounce, memory, board, event) {
-        Check::Go => MissingAnswer::Missing(conditions::still_missing(cfg, event, present)),
-        Check::Stop(refusal) => MissingAnswer::Refused(refusal),
-    }
+    judge(cfg, state, event)?;
+    Ok(conditions::still_missing(cfg, event, present))
 }
 
 // ---- read frame
@@ -148,7 +110,12 @@ fn chosen_part(payload_bytes: usize, frame_bytes: usize, which: Which, place: Pl
 }
 
 // Where the chosen frame of the event's entry stands; "10 | event has no memory entry".
-fn frame_of(cfg: &[i32], memory: &[u8], event: EventNumber, which: Which) -> FrameAnswer
+fn frame_of(
+    cfg: &[i32],
+    memory: &[u8],
+    event: EventNumber,
+    which: Which,
+) -> Result<FramePart, Refusal>
     requires { EntriesFit (entry_frames cfg.now) memory.now }
     ensures { result
         ≡ entry_answer (entry_frames cfg.now) (frame_bytes cfg.now) which
@@ -156,34 +123,24 @@ fn frame_of(cfg: &[i32], memory: &[u8], event: EventNumber, which: Which) -> Fra
 {
     let frame_bytes = config::frame_bytes(cfg);
     let payload_bytes = memory::entry_frames(cfg);
-    let own = memory::place_of(memory, payload_bytes, event);
-    match own {
-        Find::At(place) => {
-            FrameAnswer::At(chosen_part(payload_bytes, frame_bytes, which, place))
-        }
-        Find::Nothing => FrameAnswer::Refused(Refusal::NoEntry),
-    }
+    let place = memory::place_of(memory, payload_bytes, event).ok_or(Refusal::NoEntry)?;
+    Ok(chosen_part(payload_bytes, frame_bytes, which, place))
 }
 
 // Where the event's frame, the first or the latest, stands in the caller's own memory block; `frame_part` gives the
 // bytes.
 pub fn read_frame(
     cfg: &[i32],
-    records: &[u8],
-    debounce: &[i32],
-    memory: &[u8],
-    board: Board,
+    state: &Lent,
     event: EventNumber,
     which: Which,
-) -> FrameAnswer
-    ensures { says result (lent records.now debounce.now memory.now board)
+) -> Result<FramePart, Refusal>
+    ensures { says result (as_found state.now)
         ≡ frame_read cfg.now event.0 which
-        (lent records.now debounce.now memory.now board) }
+        (as_found state.now) }
 {
-    match judge(cfg, records, debounce, memory, board, event) {
-        Check::Go => frame_of(cfg, memory, event, which),
-        Check::Stop(refusal) => FrameAnswer::Refused(refusal),
-    }
+    judge(cfg, state, event)?;
+    frame_of(cfg, state.memory, event, which)
 }
 
 // ---- the part of the caller's own memory block
@@ -192,24 +149,20 @@ pub fn read_frame(
 fn part_at<'a>(memory: &'a [u8], start: usize, length: usize) -> &'a [u8]
     ensures { result.now ≡ part_at start length memory.now }
 {
-    if memory.len() < start {
-        return &memory[..0];
+    match memory.get(start..) {
+        Some(behind) => behind.get(..length).unwrap_or(&[]),
+        None => &[],
     }
-    if memory.len() - start < length {
-        return &memory[..0];
-    }
-    let end = start + length;
-    &memory[start..end]
 }
 
 // "The stored frame is read as a part of the caller's own memory block, no copy.": the part that an answer of
 // `read_frame` names, in the block that it was asked of. It is empty on a refusal, and where a block does not reach so
 // far.
-pub fn frame_part<'a>(memory: &'a [u8], answer: FrameAnswer) -> &'a [u8]
+pub fn frame_part<'a>(memory: &'a [u8], answer: Result<FramePart, Refusal>) -> &'a [u8]
     ensures { result.now ≡ part_of answer memory.now }
 {
     match answer {
-        FrameAnswer::At(part) => part_at(memory, part.start, part.length),
-        FrameAnswer::Refused(_) => &memory[..0],
+        Ok(part) => part_at(memory, part.start, part.length),
+        Err(_) => &[],
     }
 }

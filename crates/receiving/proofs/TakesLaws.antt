@@ -6,23 +6,23 @@ use native.Mathlib.Omega.{arith}
 use lib.Dec.{leb, ltb, eqb}
 use borrow.Author.Tests.{leb-true}
 use Rattle.transport.specs.declared.CanFrame.{CanFrame}
-use Rattle.transport.specs.Frames.{last_number, longest, has}
+use Rattle.transport.specs.Frames.{byte, last_number, longest, has}
 use Rattle.transport.specs.Receiving.{takes_single, announced, takes_first, takes_next}
 use Rattle.transport.proofs.FramesLaws.{and_left, and_right, has_tells}
 
 module _ (space : ℕ) (f : CanFrame) where
-  pub single_tells : takes_single space f ≡ true → (f.b0 ≤ 7) × (f.b0 ≤ space)
+  pub single_tells : takes_single space f ≡ true → (byte f 0 ≤ 7) × (byte f 0 ≤ space)
   unfolding takes_single
   single_tells h =
-      let a = leb 1 f.b0 in
-      let b = leb f.b0 7 in
-      let c = leb f.b0 space in
-      (leb-true f.b0 7 (and_right a b (and_left (a && b) c h)), leb-true f.b0 space (and_right (a && b) c h))
+      let a = leb 1 (byte f 0) in
+      let b = leb (byte f 0) 7 in
+      let c = leb (byte f 0) space in
+      (leb-true (byte f 0) 7 (and_right a b (and_left (a && b) c h)), leb-true (byte f 0) space (and_right (a && b) c h))
 
   pub first_tells : takes_first space f ≡ true → 8 ≤ space
   unfolding takes_first
   first_tells h =
-      let a = leb 0x10 f.b0 && ltb f.b0 0x20 in
+      let a = leb 0x10 (byte f 0) && ltb (byte f 0) 0x20 in
       let b = leb 8 (announced f) in
       let c = leb (announced f) space in
       let least : 8 ≤ announced f = leb-true 8 (announced f) (and_right a b (and_left (a && b) c h)) in
@@ -34,7 +34,7 @@ module _ (space : ℕ) (f : CanFrame) where
   next_due size k h =
       let a = has size k in
       let b = leb size space in
-      and_left a b (and_left (a && b) (eqb f.b0 (0x20 + k % 16)) h)
+      and_left a b (and_left (a && b) (eqb (byte f 0) (0x20 + k % 16)) h)
 
   pub next_tells : (size k : ℕ) → takes_next space size k f ≡ true
       → (size ≤ space) × (size ≤ longest) × (1 ≤ k) × (k ≤ last_number size)
@@ -43,4 +43,4 @@ module _ (space : ℕ) (f : CanFrame) where
       let a = has size k in
       let b = leb size space in
       let t = has_tells size k (next_due size k h) in
-      (leb-true size space (and_right a b (and_left (a && b) (eqb f.b0 (0x20 + k % 16)) h)), t.1, t.2, t.3)
+      (leb-true size space (and_right a b (and_left (a && b) (eqb (byte f 0) (0x20 + k % 16)) h)), t.1, t.2, t.3)

@@ -8,13 +8,12 @@ use borrow.Author.Tests.{ne_eqb}
 use Rattle.manual.specs.declared.Refusal.{Refusal}
 use Rattle.manual.specs.Answers.{Rule, first_that_applies, number_of}
 use Rattle.manual.proofs.AnswersLaws.{numbered, first_of_both, never_done}
-use Rattle.judgement.specs.declared.Check.{Check}
-use Rattle.judgement.specs.declared.Check.TheVariants.{Go, Stop}
+use Rattle.std.specs.Prelude.{Result, Ok, Err, ⊤}
 use Rattle.judgement.specs.Checks.{check_number}
 
-module _ (before : List Rule) (last : List Rule) (n : numbered before ≡ true) {check : Check}
+module _ (before : List Rule) (last : List Rule) (n : numbered before ≡ true) {check : Result ⊤ Refusal}
     (e : check_number check ≡ first_that_applies before) where
-  pub last_judged : check ≡ Go → {number : ℕ} → number ≡ first_that_applies last
+  pub last_judged : check ≡ Ok tt → {number : ℕ} → number ≡ first_that_applies last
       → number ≡ first_that_applies (before ++ last)
   last_judged g p =
       p
@@ -22,7 +21,7 @@ module _ (before : List Rule) (last : List Rule) (n : numbered before ≡ true) 
       (first_of_both before last n
       ∙ ap (λ (k : ℕ). cond (eqb k 0) (first_that_applies last) k) (sym e ∙ ap check_number g))
 
-  pub stopped_before : (r : Refusal) → check ≡ Stop r → number_of r ≡ first_that_applies (before ++ last)
+  pub stopped_before : (r : Refusal) → check ≡ Err r → number_of r ≡ first_that_applies (before ++ last)
   stopped_before r g =
       sym
       (first_of_both before last n

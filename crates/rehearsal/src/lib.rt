@@ -3,48 +3,53 @@
 #![tactic(auto)]
 
 ghost use Rattle.std.specs.Prelude.{◌≡◌, [], ◌∷◌};
-ghost use Rattle.manual.specs.declared.Board.{Board};
-ghost use Rattle.manual.specs.State.{lent};
+ghost use Rattle.manual.specs.Lent.{as_found, as_lent, keeps_loans};
 ghost use Rattle.manual.specs.Answers.{◌if◌, first_that_applies};
 ghost use Rattle.judgement.specs.Checks.{check_number};
-ghost use Rattle.rehearsal.specs.Copies.{AsLong};
+ghost use Rattle.std.specs.Borrow.{MutBor};
+ghost use Rattle.manual.specs.declared.LentMut.{LentMut};
+ghost use Rattle.rehearsal.specs.Copies.{AsLong, FitCopies};
 
-use judgement::Check;
-use manual::{Board, Refusal, Rise};
+use manual::{Lent, LentMut, Refusal};
 
-// What the work of a call leaves beside the lent blocks: the board, and what it adds to the counts.
-#[derive(Clone, Copy)]
-pub struct Counted {
-    pub board: Board,
-    pub rise: Rise,
+// The state, copied into blocks that are as long.
+pub fn copy_state(state: &Lent, copies: &mut LentMut)
+    requires { AsLong (as_found state.now) (as_lent copies.old) }
+    ensures loans { keeps_loans copies.old copies.new }
+    ensures promise { as_lent copies.new ≡ as_found state.now }
+{
+    writing::copy(state.records, copies.records);
+    writing::copy(state.debounce, copies.debounce);
+    writing::copy(state.memory, copies.memory);
+    copies.board = state.board;
 }
 
-// The blocks, copied.
-pub fn copy_blocks(
-    records: &[u8],
-    debounce: &[i32],
-    memory: &[u8],
-    records_copy: &mut [u8],
-    debounce_copy: &mut [i32],
-    memory_copy: &mut [u8],
-)
-    requires { (AsLong records.now records_copy.old) ×
-        ((AsLong debounce.now debounce_copy.old) × (AsLong memory.now memory_copy.old)) }
-    ensures { (b : Board)
-        → lent records_copy.new debounce_copy.new memory_copy.new b
-        ≡ lent records.now debounce.now memory.now b }
+// The work of a call, done on copies of the state that it is lent, before anything lent changes: what it answers there.
+pub fn on_copies<T, F: FnOnce(&mut LentMut) -> T>(state: &Lent, work: F) -> T
+    requires room { FitCopies (as_found state.now) }
+    requires work { (copies : MutBor LentMut) → as_lent copies.now ≡ as_found state.now → F.pre work copies }
+    ensures { (copies left : MutBor LentMut) × (as_lent copies.now ≡ as_found state.now)
+        × F.post work copies result left }
 {
-    writing::copy_bytes(records, records_copy);
-    writing::copy_numbers(debounce, debounce_copy);
-    writing::copy_bytes(memory, memory_copy);
+    let mut records = [0; manual::MOST_RECORDS];
+    let mut debounce = [0; manual::MOST_EVENTS];
+    let mut memory = [0; manual::MOST_MEMORY];
+    let mut copies = LentMut {
+        records: &mut records[..state.records.len()],
+        debounce: &mut debounce[..state.debounce.len()],
+        memory: &mut memory[..state.memory.len()],
+        board: state.board,
+    };
+    copy_state(state, &mut copies);
+    work(&mut copies)
 }
 
 // "refused with new number 12, checked last"
-pub fn limit_test(past: bool) -> Check
+pub fn limit_test(past: bool) -> Result<(), Refusal>
     ensures { check_number result ≡ first_that_applies ((12 if past) ∷ []) }
 {
     if past {
-        return Check::Stop(Refusal::CountsFull);
+        return Err(Refusal::CountsFull);
     }
-    Check::Go
+    Ok(())
 }

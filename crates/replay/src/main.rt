@@ -2,10 +2,10 @@
 // line a call.
 #![tactic(auto)]
 
-ghost use Rattle.std.specs.Prelude.{true, length};
+ghost use Rattle.std.specs.Prelude.{◌≡◌, length};
 ghost use Rattle.replay_step.specs.Turn.{Playable, Buffers};
 
-use manual::Board;
+use manual::LentMut;
 use replay_step::{Begun, Stepped};
 use transcript::Cursor;
 
@@ -17,79 +17,41 @@ fn bad_input() {
     say(b"bad input\n");
 }
 
-// How far the input is played: the board, the cursor behind the last call, and whether a further call may follow.
+// How far the input is played: the cursor behind the last call, and whether a further call may follow.
 #[derive(Clone, Copy)]
 struct Played {
-    board: Board,
     next: Cursor,
     more: bool,
 }
 
-fn ended(board: Board, next: Cursor) -> Played {
-    Played {
-        board,
-        next,
-        more: false,
-    }
+fn ended(next: Cursor) -> Played {
+    Played { next, more: false }
 }
 
 // One turn, and its line.
-fn turn(
-    cfg: &[i32],
-    records: &mut [u8],
-    debounce: &mut [i32],
-    memory: &mut [u8],
-    played: Played,
-    text: &[u8],
-    buffer: &mut [u8],
-) -> Played
-    requires { Playable cfg.now records.old buffer.old }
+fn turn(cfg: &[i32], state: &mut LentMut, played: Played, text: &[u8], buffer: &mut [u8]) -> Played
+    requires { Playable cfg.now state.old.records.now buffer.old }
+    ensures { length state.new.records.now ≡ length state.old.records.now }
 {
     let from = played.next;
-    let turn = replay_step::step(
-        cfg,
-        records,
-        debounce,
-        memory,
-        played.board,
-        text,
-        from,
-        buffer,
-    );
-    let board = turn.board;
-    let stepped = turn.stepped;
-    match stepped {
+    match replay_step::step(cfg, state, text, from, buffer) {
         Stepped::Line(length, _, next) => {
             say(&buffer[..length]);
-            Played {
-                board,
-                next,
-                more: true,
-            }
+            Played { next, more: true }
         }
-        Stepped::End => ended(board, from),
+        Stepped::End => ended(from),
         Stepped::BadInput => {
             bad_input();
-            ended(board, from)
+            ended(from)
         }
     }
 }
 
 // The calls of the text from the cursor on. Each takes at least one byte of it.
-fn turns(
-    cfg: &[i32],
-    records: &mut [u8],
-    debounce: &mut [i32],
-    memory: &mut [u8],
-    board: Board,
-    text: &[u8],
-    from: Cursor,
-    buffer: &mut [u8],
-)
-    requires { Playable cfg.now records.old buffer.old }
+fn turns(cfg: &[i32], state: &mut LentMut, text: &[u8], from: Cursor, buffer: &mut [u8])
+    requires { Playable cfg.now state.old.records.now buffer.old }
 {
     let mut played = Played {
-        board,
         next: from,
         more: true,
     };
@@ -97,7 +59,7 @@ fn turns(
         if !played.more {
             return;
         }
-        played = turn(cfg, records, debounce, memory, played, text, buffer);
+        played = turn(cfg, state, played, text, buffer);
     }
 }
 
@@ -115,29 +77,15 @@ fn story(
     let mut buffer = [0; 2052];
     let n = config::events(cfg);
     let used = memory::memory_length(config::places(cfg), memory::entry_frames(cfg));
-    let records = &mut records[..4 * n];
-    let debounce = &mut debounce[..n];
-    let memory = &mut memory[..used];
+    let mut state = LentMut {
+        records: &mut records[..4 * n],
+        debounce: &mut debounce[..n],
+        memory: &mut memory[..used],
+        board: fresh_state::stopped_board(false),
+    };
     let mut counts = [0; manual::COUNTS];
-    let fresh = fresh_state::fresh(
-        cfg,
-        records,
-        debounce,
-        memory,
-        fresh_state::stopped_board(false),
-        &mut counts,
-    );
-    let board = fresh.board;
-    turns(
-        cfg,
-        records,
-        debounce,
-        memory,
-        board,
-        text,
-        from,
-        &mut buffer,
-    );
+    let _ = fresh_state::fresh(cfg, &mut state, &mut counts);
+    turns(cfg, &mut state, text, from, &mut buffer);
 }
 
 fn main() {

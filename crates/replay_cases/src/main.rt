@@ -2,14 +2,15 @@
 // expected, and prints the file and the first line of each that differs, and how many cases ran and how many differed.
 #![tactic(auto)]
 
-ghost use Rattle.std.specs.Prelude.{length};
+ghost use Rattle.std.specs.Prelude.{◌≡◌, length};
 ghost use Rattle.replay_step.specs.Turn.{Playable, Buffers};
 
-use manual::Board;
+use manual::LentMut;
 use replay_step::{Begun, Stepped};
 use std::fs::File;
 use std::os::fd::AsRawFd;
 use std::rt::Files;
+use text::Tally;
 use transcript::Cursor;
 
 // ---- comparing
@@ -23,57 +24,20 @@ struct Printed {
     line: u32,
 }
 
-fn same_bytes(a: &[u8], b: &[u8]) -> bool {
-    if a.len() != b.len() {
-        return false;
-    }
-    for i in 0..a.len() {
-        if a[i] != b[i] {
-            return false;
-        }
-    }
-    true
-}
-
 // Whether the expected output goes on with this line.
 fn goes_on_with(expected: &[u8], from: usize, line: &[u8]) -> bool {
-    if expected.len() < from {
-        return false;
+    match expected.get(from..) {
+        Some(rest) => rest.starts_with(line),
+        None => false,
     }
-    let rest = &expected[from..];
-    if rest.len() < line.len() {
-        return false;
-    }
-    same_bytes(&rest[..line.len()], line)
-}
-
-// The place behind so many bytes; no output is a million bytes long.
-fn behind(from: usize, length: usize) -> usize {
-    if 1_000_000 < from {
-        return 0;
-    }
-    if 1_000_000 < length {
-        return 0;
-    }
-    from + length
-}
-
-// A count and one more; a million is enough for any list.
-fn one_more(count: u32) -> u32 {
-    if count < 1_000_000 { count + 1 } else { count }
-}
-
-fn count_if(count: u32, test: bool) -> u32 {
-    if test { one_more(count) } else { count }
 }
 
 fn print(printed: Printed, expected: &[u8], line: &[u8]) -> Printed {
-    let from = printed.to;
-    let same = printed.agrees & goes_on_with(expected, from, line);
+    let agrees = printed.agrees & goes_on_with(expected, printed.to, line);
     Printed {
-        to: behind(from, line.len()),
-        agrees: same,
-        line: count_if(printed.line, same),
+        to: printed.to.saturating_add(line.len()),
+        agrees,
+        line: printed.line.saturating_add(agrees as u32),
     }
 }
 
@@ -87,11 +51,10 @@ fn nothing() -> Printed {
 
 // ---- playing
 
-// How far the input is played: the board, the cursor behind the last call, whether a further call may follow, and what
-// was printed.
+// How far the input is played: the cursor behind the last call, whether a further call may follow, and what was
+// printed.
 #[derive(Clone, Copy)]
 struct Played {
-    board: Board,
     next: Cursor,
     more: bool,
     printed: Printed,
@@ -100,37 +63,29 @@ struct Played {
 // One turn, and its line.
 fn turn(
     cfg: &[i32],
-    records: &mut [u8],
-    debounce: &mut [i32],
-    memory: &mut [u8],
+    state: &mut LentMut,
     played: Played,
     text: &[u8],
     expected: &[u8],
     buffer: &mut [u8],
 ) -> Played
-    requires { Playable cfg.now records.old buffer.old }
+    requires { Playable cfg.now state.old.records.now buffer.old }
+    ensures { length state.new.records.now ≡ length state.old.records.now }
 {
     let from = played.next;
     let printed = played.printed;
-    let board = played.board;
-    let turn = replay_step::step(cfg, records, debounce, memory, board, text, from, buffer);
-    let board = turn.board;
-    let stepped = turn.stepped;
-    match stepped {
+    match replay_step::step(cfg, state, text, from, buffer) {
         Stepped::Line(length, _, next) => Played {
-            board,
             next,
             more: true,
             printed: print(printed, expected, &buffer[..length]),
         },
         Stepped::End => Played {
-            board,
             next: from,
             more: false,
             printed,
         },
         Stepped::BadInput => Played {
-            board,
             next: from,
             more: false,
             printed: print(printed, expected, b"bad input\n"),
@@ -141,19 +96,15 @@ fn turn(
 // The calls of the text from the cursor on. Each takes at least one byte of it.
 fn turns(
     cfg: &[i32],
-    records: &mut [u8],
-    debounce: &mut [i32],
-    memory: &mut [u8],
-    board: Board,
+    state: &mut LentMut,
     text: &[u8],
     from: Cursor,
     expected: &[u8],
     buffer: &mut [u8],
 ) -> Printed
-    requires { Playable cfg.now records.old buffer.old }
+    requires { Playable cfg.now state.old.records.now buffer.old }
 {
     let mut played = Played {
-        board,
         next: from,
         more: true,
         printed: nothing(),
@@ -162,9 +113,7 @@ fn turns(
         if !played.more {
             return played.printed;
         }
-        played = turn(
-            cfg, records, debounce, memory, played, text, expected, buffer,
-        );
+        played = turn(cfg, state, played, text, expected, buffer);
     }
     played.printed
 }
@@ -184,24 +133,15 @@ fn story(
     let mut buffer = [0; 2052];
     let n = config::events(cfg);
     let used = memory::memory_length(config::places(cfg), memory::entry_frames(cfg));
-    let records = &mut records[..4 * n];
-    let debounce = &mut debounce[..n];
-    let memory = &mut memory[..used];
-    let stopped = fresh_state::stopped_board(false);
+    let mut state = LentMut {
+        records: &mut records[..4 * n],
+        debounce: &mut debounce[..n],
+        memory: &mut memory[..used],
+        board: fresh_state::stopped_board(false),
+    };
     let mut counts = [0; manual::COUNTS];
-    let fresh = fresh_state::fresh(cfg, records, debounce, memory, stopped, &mut counts);
-    let board = fresh.board;
-    turns(
-        cfg,
-        records,
-        debounce,
-        memory,
-        board,
-        text,
-        from,
-        expected,
-        &mut buffer,
-    )
+    let _ = fresh_state::fresh(cfg, &mut state, &mut counts);
+    turns(cfg, &mut state, text, from, expected, &mut buffer)
 }
 
 // What the replay program would print of the text, held to what is expected.
@@ -229,23 +169,16 @@ fn would_print(text: &[u8], longer: bool, expected: &[u8]) -> Printed {
 
 // The bytes from one place to another; none where they do not lie within the text.
 fn part<'a>(text: &'a [u8], from: usize, to: usize) -> &'a [u8] {
-    if to < from {
-        return &text[..0];
-    }
-    if text.len() < to {
-        return &text[..0];
-    }
-    &text[from..to]
+    text.get(from..to).unwrap_or(&[])
 }
 
 // The place of the first space or newline from a place on.
 fn word_end(text: &[u8], from: usize) -> usize {
-    for i in from..text.len() {
-        if text[i] <= b' ' {
-            return i;
-        }
-    }
-    text.len()
+    from + text
+        .iter()
+        .skip(from)
+        .take_while(|byte| b' ' < **byte)
+        .count()
 }
 
 // Reads the front of a file, and answers how many bytes; 0 where it cannot be read.
@@ -274,49 +207,29 @@ fn differing_line(rt: &impl Files<File = File>, input: &[u8], output: &[u8]) -> 
     }
 }
 
-#[derive(Clone, Copy)]
-struct Tally {
-    at: usize,
-    ran: u32,
-    differed: u32,
-}
-
-// A case that differs, by the file of its expected output and the line there.
-fn say_case(name: &[u8], line: u32) {
-    io::write_all(1, name);
-    io::write_all(1, b":");
-    io::print_decimal(1, line as u64);
-    io::write_all(1, b" differs\n");
-}
-
-// Runs the case whose two files are named next.
-fn run_case(rt: &impl Files<File = File>, names: &[u8], tally: Tally) -> Tally {
-    let input = word_end(names, tally.at);
-    let second = behind(input, 1);
+// Runs the case whose two files are named from a place on, and answers the place behind them. A case that differs is
+// told by the file of its expected output and the line there.
+fn run_case(rt: &impl Files<File = File>, names: &[u8], at: usize, tally: &mut Tally) -> usize {
+    let input = word_end(names, at);
+    let second = input.saturating_add(1);
     let output = word_end(names, second);
     let name = part(names, second, output);
-    let line = differing_line(rt, part(names, tally.at, input), name);
+    let line = differing_line(rt, part(names, at, input), name);
     if 0 < line {
-        say_case(name, line);
+        text::say_differs(name, line);
     }
-    Tally {
-        at: behind(output, 1),
-        ran: one_more(tally.ran),
-        differed: count_if(tally.differed, 0 < line),
-    }
+    tally.count(line == 0);
+    output.saturating_add(1)
 }
 
 fn run_all(rt: &impl Files<File = File>, names: &[u8]) -> Tally {
-    let mut tally = Tally {
-        at: 0,
-        ran: 0,
-        differed: 0,
-    };
+    let mut tally = Tally::new();
+    let mut at = 0;
     for _case in 0..names.len() {
-        if names.len() <= tally.at {
+        if names.len() <= at {
             return tally;
         }
-        tally = run_case(rt, names, tally);
+        at = run_case(rt, names, at, &mut tally);
     }
     tally
 }
@@ -325,9 +238,5 @@ fn main(rt: HostRuntime) {
     let mut names = [0; 16384];
     let length = read_file(&rt, b"names", &mut names);
     let tally = run_all(&rt, part(&names, 0, length));
-    io::write_all(1, b"replay cases: ");
-    io::print_decimal(1, tally.ran as u64);
-    io::write_all(1, b" ran, ");
-    io::print_decimal(1, tally.differed as u64);
-    io::write_all(1, b" differed\n");
+    tally.say(b"replay cases");
 }

@@ -24,7 +24,7 @@ use Rattle.transcript.specs.declared.Cursor.{Cursor}
 use Rattle.transcript.specs.declared.Word.{Word}
 use Rattle.transcript.specs.declared.Word.TheVariants.{Number, End}
 use Rattle.transcript.specs.Text.{next_read}
-use Rattle.replay_step.specs.declared.Numbers.{Numbers}
+use Rattle.std.specs.Prelude.{Option, Some, None}
 use Rattle.replay_step.specs.declared.Begun.{Begun}
 use Rattle.replay_step.specs.declared.Begun.TheVariants.{Ready}
 use Rattle.replay_step.specs.Beginning.{Read, read_to, unread, with_next, one_more, numbers_read, Beginning, ready}
@@ -75,13 +75,13 @@ counts text at (suc k) = more_counts text k (numbers_read k at text) (counts tex
 
 -- ---- the buffer
 
-abbrev is_read : Numbers → Bool
-is_read (Numbers.Read next) = true
-is_read Numbers.Unreadable = false
+abbrev is_read : Option Cursor → Bool
+is_read (Some next) = true
+is_read None = false
 
-abbrev behind : Numbers → ℕ
-behind (Numbers.Read next) = next.at
-behind Numbers.Unreadable = 0
+abbrev behind : Option Cursor → ℕ
+behind (Some next) = next.at
+behind None = 0
 
 -- what the turn of the loop at a place leaves: `l` before the turn, `l'` after it, `m` before the loop
 module _ (text : List ℕ) (at place : ℕ) (m l : List ℤ) {p : ℕ} (within : place < length l)
@@ -97,48 +97,48 @@ module _ (text : List ℕ) (at place : ℕ) (m l : List ℤ) {p : ℕ} (within :
       rw e (sym (drop-drop 1 place l) ∙ ap (drop 1) rest ∙ drop-drop 1 place m)
 
   pub turn_read : {l' : List ℤ} {next : Cursor} (w : Word) → next_read p text ≡ w
-      → leaving (Numbers.Read next) l' ≡ numbers_left (with_next (take place l) w) l
+      → leaving (Some next) l' ≡ numbers_left (with_next (take place l) w) l
       → (numbers_read (suc place) at text ≡ read_to (take (suc place) l') next.at) ×
       (drop (suc place) l' ≡ drop (suc place) m)
   unfolding laid
   turn_read {l'} {next} (Number r) q e =
-      let b : l' ≡ laid (take place l ++ r.value ∷ []) l = ap (λ (x : Leaving Numbers). x.buffer) e in
+      let b : l' ≡ laid (take place l ++ r.value ∷ []) l = ap (λ (x : Leaving (Option Cursor)). x.buffer) e in
       let t = ap (take (suc place)) b ∙ take_at (take place l ++ r.value ∷ []) _ (suc place) (longer r.value) in
       let d = ap (drop (suc place)) b ∙ drop_at (take place l ++ r.value ∷ []) _ (suc place) (longer r.value) in
-      let a : r.next.at ≡ next.at = ap (λ (x : Leaving Numbers). behind x.answer) (sym e) in
+      let a : r.next.at ≡ next.at = ap (λ (x : Leaving (Option Cursor)). behind x.answer) (sym e) in
       let zs = take place l ++ r.value ∷ [] in
       let n : with_next (take place l) (next_read p text) ≡ read_to zs r.next.at = ap (with_next (take place l)) q in
       let f : read_to zs r.next.at ≡ read_to (take (suc place) l') next.at = λ i. read_to (sym t i) (a i) in (
         more_read text at place so_far ∙ n ∙ f,
         d ∙ ap (λ (k : ℕ). drop k l) (longer r.value) ∙ rest_kept,
       )
-  turn_read Word.Unreadable q e = clash true refl (ap (λ (x : Leaving Numbers). is_read x.answer) e)
-  turn_read End q e = clash true refl (ap (λ (x : Leaving Numbers). is_read x.answer) e)
+  turn_read Word.Unreadable q e = clash true refl (ap (λ (x : Leaving (Option Cursor)). is_read x.answer) e)
+  turn_read End q e = clash true refl (ap (λ (x : Leaving (Option Cursor)). is_read x.answer) e)
 
   stopped : {l' : List ℤ} (count : ℕ) → place < count
       → numbers_read (suc place) at text ≡ unread (take place l) → l' ≡ laid (take place l) l
-      → leaving Numbers.Unreadable l' ≡ numbers_left (numbers_read count at text) m
+      → leaving None l' ≡ numbers_left (numbers_read count at text) m
   stopped count h u b =
-      ap (leaving Numbers.Unreadable) (b ∙ laid_over (take place l) l m long rest)
+      ap (leaving None) (b ∙ laid_over (take place l) l m long rest)
       ∙ ap (λ (r : Read). numbers_left r m) (sym (stays_unread text at (suc place) count (omega arith) u))
 
   pub turn_unread : {l' : List ℤ} (count : ℕ) → place < count → (w : Word) → next_read p text ≡ w
-      → leaving Numbers.Unreadable l' ≡ numbers_left (with_next (take place l) w) l
-      → leaving Numbers.Unreadable l' ≡ numbers_left (numbers_read count at text) m
-  turn_unread count h (Number r) q e = clash true refl (ap (λ (x : Leaving Numbers). is_read x.answer) (sym e))
+      → leaving None l' ≡ numbers_left (with_next (take place l) w) l
+      → leaving None l' ≡ numbers_left (numbers_read count at text) m
+  turn_unread count h (Number r) q e = clash true refl (ap (λ (x : Leaving (Option Cursor)). is_read x.answer) (sym e))
   turn_unread count h Word.Unreadable q e =
       stopped count h (more_read text at place so_far ∙ ap (with_next (take place l)) q)
-      (ap (λ (x : Leaving Numbers). x.buffer) e)
+      (ap (λ (x : Leaving (Option Cursor)). x.buffer) e)
   turn_unread count h End q e =
       stopped count h (more_read text at place so_far ∙ ap (with_next (take place l)) q)
-      (ap (λ (x : Leaving Numbers). x.buffer) e)
+      (ap (λ (x : Leaving (Option Cursor)). x.buffer) e)
 
 -- the loop at its end
 pub all_read : (text : List ℕ) (at place : ℕ) (m : List ℤ) {l : List ℤ} {next : Cursor} → place ≤ length l
     → numbers_read place at text ≡ read_to (take place l) next.at → drop place l ≡ drop place m
-    → leaving (Numbers.Read next) l ≡ numbers_left (numbers_read place at text) m
+    → leaving (Some next) l ≡ numbers_left (numbers_read place at text) m
 all_read text at place m {l} {next} h e rest =
-    ap (leaving (Numbers.Read next))
+    ap (leaving (Some next))
     (sym (laid_front l place h) ∙ laid_over (take place l) l m (length-take-le place l h) rest)
     ∙ ap (λ (r : Read). numbers_left r m) (sym e)
 
@@ -155,21 +155,21 @@ judged_over zs at l m e = go (config_ok zs)
     go false = ap (leaving Begun.Refused) e
 
 pub read_judged : (count : ℕ) (r : Read) {next : Cursor} {b : Begun} {l : List ℤ} (m : List ℤ) → Counts count r
-    → leaving (Numbers.Read next) l ≡ numbers_left r m
+    → leaving (Some next) l ≡ numbers_left r m
     → leaving b l ≡ beginning_left (judged_numbers (take count l) next.at) l
     → leaving b l ≡ beginning_left (of_numbers r) m
 unfolding laid
 read_judged count (read_to zs at) {next} {b} {l} m n e j =
-    let o : l ≡ laid zs m = ap (λ (x : Leaving Numbers). x.buffer) e in
+    let o : l ≡ laid zs m = ap (λ (x : Leaving (Option Cursor)). x.buffer) e in
     let t : take count l ≡ zs = ap (take count) o ∙ take_at zs _ count n in
-    let a : next.at ≡ at = ap (λ (x : Leaving Numbers). behind x.answer) e in
+    let a : next.at ≡ at = ap (λ (x : Leaving (Option Cursor)). behind x.answer) e in
     j ∙ (λ i. beginning_left (judged_numbers (t i) (a i)) l) ∙ judged_over zs at l m (ap (laid zs) o ∙ laid_again zs m)
-read_judged count (unread zs) m n e j = clash true refl (ap (λ (x : Leaving Numbers). is_read x.answer) e)
+read_judged count (unread zs) m n e j = clash true refl (ap (λ (x : Leaving (Option Cursor)). is_read x.answer) e)
 
-pub unread_begins : (r : Read) {l : List ℤ} (m : List ℤ) → leaving Numbers.Unreadable l ≡ numbers_left r m
+pub unread_begins : (r : Read) {l : List ℤ} (m : List ℤ) → leaving None l ≡ numbers_left r m
     → leaving Begun.Unreadable l ≡ beginning_left (of_numbers r) m
-unread_begins (read_to zs at) m e = clash true refl (ap (λ (x : Leaving Numbers). is_read x.answer) (sym e))
-unread_begins (unread zs) m e = ap (λ (x : Leaving Numbers). leaving Begun.Unreadable x.buffer) e
+unread_begins (read_to zs at) m e = clash true refl (ap (λ (x : Leaving (Option Cursor)). is_read x.answer) (sym e))
+unread_begins (unread zs) m e = ap (λ (x : Leaving (Option Cursor)). leaving Begun.Unreadable x.buffer) e
 
 -- an allowed count is one that the buffer has room for
 pub count_small : (z : ℤ) → between (pos 0) (pos most_numbers) z ≡ true → nat_of z ≤ most_numbers

@@ -17,12 +17,11 @@ use Rattle.transcript.specs.declared.Word.{Word}
 use Rattle.transcript.specs.declared.Word.TheVariants.{Number, End}
 use Rattle.transcript.specs.Text.{run, is_number, read_word, next_read}
 use Rattle.transcript.proofs.TextLaws.{found, next_end, next_word}
-use Rattle.replay_step.specs.declared.Argument.{Argument}
-use Rattle.replay_step.specs.declared.Argument.TheVariants.{Is}
+use Rattle.std.specs.Prelude.{Some, None}
 use Rattle.replay_step.specs.declared.Asked.{Asked}
 use Rattle.replay_step.specs.declared.Asked.TheVariants.{Makes, Nothing}
-use Rattle.replay_step.specs.Asked.{argument_of, argument_at, report_with, report_asked, call_with, call_from}
-use Rattle.replay_step.specs.Asked.{call_asked, asked_by, asked_at}
+use Rattle.replay_step.specs.Asked.{Argument, argument_of, argument_at, report_with, report_asked, call_with, call_from}
+use Rattle.replay_step.specs.Asked.{Called, call_asked, asked_of, asked_by, asked_at}
 use Rattle.replay_step.specs.Beginning.{Read, read_to, unread, with_next, one_more, numbers_read, Beginning, ready}
 use Rattle.replay_step.specs.Beginning.{refused, unreadable, judged_numbers, of_numbers, with_count, of_count}
 use Rattle.replay_step.specs.Beginning.{beginning}
@@ -65,8 +64,8 @@ word_ahead at text = go (ltb start (length text)) refl
 -- ---- a call
 
 abbrev ArgumentAhead : ℕ → List ℕ → Argument → Type 0
-ArgumentAhead at text (Is value next) = Ahead at text next.at
-ArgumentAhead at text Argument.Unreadable = Unit {0}
+ArgumentAhead at text (Some (value, next)) = Ahead at text next.at
+ArgumentAhead at text None = Unit {0}
 
 argument_ahead : (at : ℕ) (text : List ℕ) → ArgumentAhead at text (argument_at at text)
 unfolding argument_at
@@ -77,43 +76,50 @@ argument_ahead at text = go (next_read at text) (word_ahead at text)
     go Word.Unreadable a = tt
     go End a = tt
 
+abbrev CalledAhead : ℕ → List ℕ → Called → Type 0
+CalledAhead at text (Some (call, next)) = Ahead at text next.at
+CalledAhead at text None = Unit {0}
+
+called_further : {at next : ℕ} {text : List ℕ} → Ahead at text next → (c : Called) → CalledAhead next text c
+    → CalledAhead at text c
+called_further f (Some (call, next)) a = further f a
+called_further f None a = tt
+
+report_ahead : (event at : ℕ) (text : List ℕ) → CalledAhead at text (report_asked event at text)
+unfolding report_asked
+report_ahead event at text = go (argument_at at text) (argument_ahead at text)
+  where
+    go : (a : Argument) → ArgumentAhead at text a → CalledAhead at text (report_with event a)
+    go (Some (code, next)) h = h
+    go None h = tt
+
+with_ahead : (number first at : ℕ) (next : Cursor) (text : List ℕ) → Ahead at text next.at
+    → CalledAhead at text (call_with number first next text)
+unfolding call_with
+with_ahead number first at next text h =
+    by (eqb number 1) (CalledAhead at text)
+    (λ e. called_further h (report_asked first next.at text) (report_ahead first next.at text))
+    (λ e. by (eqb number 2) (CalledAhead at text) (λ e. h)
+    (λ e. by (eqb number 3) (CalledAhead at text) (λ e. h)
+    (λ e. by (eqb number 4) (CalledAhead at text) (λ e. h)
+    (λ e. by (eqb number 5) (CalledAhead at text) (λ e. h) (λ e. tt)))))
+
+named_ahead : (number at : ℕ) (text : List ℕ) → CalledAhead at text (call_asked number at text)
+unfolding call_asked
+named_ahead number at text = go (argument_at at text) (argument_ahead at text)
+  where
+    go : (a : Argument) → ArgumentAhead at text a → CalledAhead at text (call_from number text a)
+    go (Some (first, next)) h = with_ahead number first at next text h
+    go None h = tt
+
 abbrev pub AskedAhead : ℕ → List ℕ → Asked → Type 0
 AskedAhead at text (Makes call next) = Ahead at text next.at
 AskedAhead at text Nothing = Unit {0}
 AskedAhead at text Asked.Unreadable = Unit {0}
 
-asked_further : {at next : ℕ} {text : List ℕ} → Ahead at text next → (a : Asked) → AskedAhead next text a
-    → AskedAhead at text a
-asked_further f (Makes call next) a = further f a
-asked_further f Nothing a = tt
-asked_further f Asked.Unreadable a = tt
-
-report_ahead : (event at : ℕ) (text : List ℕ) → AskedAhead at text (report_asked event at text)
-unfolding report_asked
-report_ahead event at text = go (argument_at at text) (argument_ahead at text)
-  where
-    go : (a : Argument) → ArgumentAhead at text a → AskedAhead at text (report_with event a)
-    go (Is code next) h = h
-    go Argument.Unreadable h = tt
-
-with_ahead : (number first at : ℕ) (next : Cursor) (text : List ℕ) → Ahead at text next.at
-    → AskedAhead at text (call_with number first next text)
-unfolding call_with
-with_ahead number first at next text h =
-    by (eqb number 1) (AskedAhead at text)
-    (λ e. asked_further h (report_asked first next.at text) (report_ahead first next.at text))
-    (λ e. by (eqb number 2) (AskedAhead at text) (λ e. h)
-    (λ e. by (eqb number 3) (AskedAhead at text) (λ e. h)
-    (λ e. by (eqb number 4) (AskedAhead at text) (λ e. h)
-    (λ e. by (eqb number 5) (AskedAhead at text) (λ e. h) (λ e. tt)))))
-
-named_ahead : (number at : ℕ) (text : List ℕ) → AskedAhead at text (call_asked number at text)
-unfolding call_asked
-named_ahead number at text = go (argument_at at text) (argument_ahead at text)
-  where
-    go : (a : Argument) → ArgumentAhead at text a → AskedAhead at text (call_from number text a)
-    go (Is first next) h = with_ahead number first at next text h
-    go Argument.Unreadable h = tt
+asked_ahead : (at : ℕ) (text : List ℕ) (c : Called) → CalledAhead at text c → AskedAhead at text (asked_of c)
+asked_ahead at text (Some (call, next)) a = a
+asked_ahead at text None a = tt
 
 pub call_ahead : (at : ℕ) (text : List ℕ) → AskedAhead at text (asked_at at text)
 unfolding asked_at
@@ -121,9 +127,9 @@ call_ahead at text = go (next_read at text) (word_ahead at text)
   where
     go : (w : Word) → WordAhead at text w → AskedAhead at text (asked_by text w)
     go (Number r) h =
+        let c = call_asked (nat_of r.value) r.next.at text in
         by r.minus (AskedAhead at text) (λ e. tt)
-        (λ e. asked_further h (call_asked (nat_of r.value) r.next.at text)
-        (named_ahead (nat_of r.value) r.next.at text))
+        (λ e. asked_ahead at text c (called_further h c (named_ahead (nat_of r.value) r.next.at text)))
     go Word.Unreadable h = tt
     go End h = tt
 

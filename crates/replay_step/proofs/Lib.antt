@@ -1,3 +1,4 @@
 pub mod BeginningLaws
 pub mod TurnLaws
 pub mod EachCallTakesAByte
+pub mod LengthsKept

@@ -9,9 +9,8 @@ use lib.Dec.{eqb, leb}
 use lib.ListN.{length, take, drop, replicate, length-append}
 use borrow.Author.Tests.{leb-true, le-leb}
 use Rattle.history.specs.History.{start}
-use Rattle.manual.specs.declared.Board.{Board}
 use Rattle.manual.specs.Configuration.{Configuration, events, places, entry_frames}
-use Rattle.manual.specs.State.{State, lent, record_width, with_cycle}
+use Rattle.manual.specs.State.{State, record_width, with_cycle}
 use Rattle.manual.specs.Memory.{memory_length, most_memory}
 use Rattle.manual.specs.Answers.{Beside, Outcome, Answered, done, refused, first_that_applies, judged, leaves}
 use Rattle.manual.specs.OneEvent.{for_those, happens}
@@ -31,11 +30,9 @@ use Rattle.replay_step.specs.Asked.{asked_at}
 use Rattle.replay_step.specs.Turn.{lent_each, Made, made, made_by_call, call_is, Turned, turned, with_line}
 use Rattle.replay_step.specs.Turn.{zero_frame, line_after, lined, turn_by, turn, Buffers}
 
-pub made_by : {answer : ℕ} (a : Answered) {records : List ℕ} {debounce : List ℤ} {memory : List ℕ} {b b' : Board}
-    {o : Outcome} {x : Beside}
-    → answer ≡ a.number → b ≡ b'
-    → leaves a [] x (lent records debounce memory b') ≡ o → made answer (lent records debounce memory b) ≡ made_by_call o
-made_by a {records} {debounce} {memory} p q e = (λ i. made (p i) (lent records debounce memory (q i))) ∙ ap made_by_call e
+pub made_by : {answer : ℕ} (a : Answered) {s : State} {o : Outcome} {x : Beside}
+    → answer ≡ a.number → leaves a [] x s ≡ o → made answer s ≡ made_by_call o
+made_by a {s} p e = ap (λ (n : ℕ). made n s) p ∙ ap made_by_call e
 
 -- a start is not lent the counts: what it answers and makes of the state is the same whatever is lent beside
 pub start_made : (cfg : Configuration) (c : ℕ) (b b' : Beside) (s : State)

@@ -1,5 +1,5 @@
 -- Document 01, "Replay program": "The count of configuration numbers, those, then calls". Assumes nothing.
-use Rattle.std.specs.Prelude.{Bool, cond, List, [], ◌∷◌, ◌++◌, ℕ, zero, suc, ℤ, pos, length}
+use Rattle.std.specs.Prelude.{Bool, cond, List, [], ◌∷◌, ◌++◌, ℕ, zero, suc, ℤ, pos, length, Option, Some, None}
 use Rattle.manual.specs.Words.{between, nat_of}
 use Rattle.manual.specs.Configuration.{most_numbers, config_ok}
 use Rattle.writing.specs.Writing.{laid}
@@ -7,7 +7,6 @@ use Rattle.transcript.specs.declared.Cursor.{Cursor}
 use Rattle.transcript.specs.declared.Word.{Word}
 use Rattle.transcript.specs.declared.Word.TheVariants.{Number, End}
 use Rattle.transcript.specs.Text.{next_read}
-use Rattle.replay_step.specs.declared.Numbers.{Numbers}
 use Rattle.replay_step.specs.declared.Begun.{Begun}
 use Rattle.replay_step.specs.declared.Begun.TheVariants.{Ready}
 
@@ -75,9 +74,9 @@ abbrev pub cursor : ℕ → Cursor
 cursor at = record { at = at }
 
 -- the numbers that were read stand in front of the buffer, the rest of it as found
-abbrev pub numbers_left : Read → List ℤ → Leaving Numbers
-numbers_left (read_to numbers at) buffer = leaving (Numbers.Read (cursor at)) (laid numbers buffer)
-numbers_left (unread numbers) buffer = leaving Numbers.Unreadable (laid numbers buffer)
+abbrev pub numbers_left : Read → List ℤ → Leaving (Option Cursor)
+numbers_left (read_to numbers at) buffer = leaving (Some (cursor at)) (laid numbers buffer)
+numbers_left (unread numbers) buffer = leaving None (laid numbers buffer)
 
 abbrev pub beginning_left : Beginning → List ℤ → Leaving Begun
 beginning_left (ready numbers at) buffer = leaving (Ready (length numbers) (cursor at)) (laid numbers buffer)

@@ -5,6 +5,7 @@ use mathlib.Core.Bool.{Bool, false}
 use mathlib.Core.List.{List, [], ◌∷◌}
 use Prim.Native.Nat.{ℕ, ◌≤◌}
 use Rattle.history.proofs.WordsLaws.{and_left, and_right}
+use Rattle.std.specs.Prelude.{Result, Ok, Err, ⊤}
 use Rattle.manual.specs.declared.Refusal.{Refusal}
 use Rattle.manual.specs.declared.Rise.{Rise}
 use Rattle.manual.specs.Configuration.{Configuration, most_events}
@@ -16,8 +17,6 @@ use Rattle.manual.specs.Calls.{begins}
 use Rattle.manual.proofs.CountsLaws.{AtMost}
 use Rattle.counts.specs.Near.{AreFive, some_near}
 use Rattle.counts.proofs.NearLaws.{are_five, far_from_past}
-use Rattle.judgement.specs.declared.Check.{Check}
-use Rattle.judgement.specs.declared.Check.TheVariants.{Go, Stop}
 use Rattle.judgement.specs.Checks.{check_number}
 use Rattle.judgement.proofs.BeginLaws.{begun}
 use Rattle.judgement.proofs.JudgedLaws.{judged_by, stopped_by}
@@ -30,8 +29,8 @@ module _ (cfg : Configuration) (s : State) (counts : List ℕ) {fits : Bool} (q 
       → number ≡ first_that_applies (begins cfg s (counts_fit counts) [])
   begins_by p = p ∙ ap (λ (fits : Bool). first_that_applies (begins cfg s fits [])) q
 
-  module _ {check : Check} (p : check_number check ≡ first_that_applies (begins cfg s fits [])) where
-    pub has_begun : check ≡ Go → Begun cfg s counts
+  module _ {check : Result ⊤ Refusal} (p : check_number check ≡ first_that_applies (begins cfg s fits [])) where
+    pub has_begun : check ≡ Ok tt → Begun cfg s counts
     has_begun g =
         let b = begun cfg s (counts_fit counts) (sym (begins_by p) ∙ ap check_number g) in
         record {
@@ -41,11 +40,11 @@ module _ (cfg : Configuration) (s : State) (counts : List ℕ) {fits : Bool} (q 
         }
 
     module _ (rules : List Rule) where
-      pub judged_counted : check ≡ Go → {number : ℕ} → number ≡ first_that_applies rules
+      pub judged_counted : check ≡ Ok tt → {number : ℕ} → number ≡ first_that_applies rules
           → number ≡ first_that_applies (begins cfg s (counts_fit counts) rules)
       judged_counted = judged_by cfg s (counts_fit counts) (begins_by p) rules
 
-      pub stopped_counted : (r : Refusal) → check ≡ Stop r
+      pub stopped_counted : (r : Refusal) → check ≡ Err r
           → number_of r ≡ first_that_applies (begins cfg s (counts_fit counts) rules)
       stopped_counted = stopped_by cfg s (counts_fit counts) (begins_by p) rules
 

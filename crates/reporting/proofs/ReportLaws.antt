@@ -1,5 +1,5 @@
 -- What a report finds where its tests pass, and what it leaves.
-use mathlib.Core.Path.{◌≡◌, refl, sym, ap, subst, ◌∙◌}
+use mathlib.Core.Path.{◌≡◌, refl, ap, ◌∙◌}
 use mathlib.Core.Bool.{true, false}
 use mathlib.Core.List.{List, []}
 use Prim.Native.Nat.{ℕ}
@@ -7,17 +7,18 @@ use lib.ListN.{length}
 use borrow.Author.Tests.{eqb-true, leb-false, not-false}
 use Rattle.manual.specs.declared.Rise.{Rise}
 use Rattle.manual.specs.declared.StoreAnswer.{StoreAnswer}
+use Rattle.manual.specs.declared.Verdict.{Verdict}
 use Rattle.manual.specs.Configuration.{Configuration, events, frame_bytes}
 use Rattle.manual.specs.State.{State}
 use Rattle.manual.specs.WellFormed.{well_formed}
-use Rattle.manual.specs.Answers.{lent_counts, alone, Outcome, first_that_applies, Answered, answered, leaves}
+use Rattle.manual.specs.Answers.{Beside, lent_counts, alone, Outcome, first_that_applies, answered, leaves}
 use Rattle.manual.specs.Counts.{of_store, rise_of, numbers, raised, carries_past, counts_fit}
 use Rattle.manual.specs.Calls.{report_log, report_rules, report_done}
 use Rattle.manual.proofs.AnswersLaws.{none_applies, three_passed}
 use Rattle.manual.proofs.EventLoops.{ready_at_once}
 use Rattle.counts.specs.Near.{AreFive}
 use Rattle.counts.proofs.NearLaws.{are_five}
-use Rattle.one_event.specs.Ready.{Ready}
+use Rattle.one_event.specs.Ready.{accepts, Ready}
 use Rattle.one_event.specs.Steps.{Stepped, stepped, reporting}
 use Rattle.one_event.proofs.ReadyLaws.{ready_of}
 use Rattle.reporting.specs.Accepted.{Begun, MayReport}
@@ -69,18 +70,17 @@ module _ (cfg : Configuration) (s : State) (e : ℕ) (frame : List ℕ) where
     report_rise p r = r e ∙ ap (λ (x : Stepped Outcome). rise_of (of_store e x.did)) p
 
     -- the counts stand beside what the report does to the state
-    pub report_left : {a : Answered} {t : State} (counts : List ℕ) {counts' : List ℕ}
-        → leaves a [] alone t ≡ report_done cfg e code frame alone s
+    pub report_left : {verdict : Verdict} {t : State} (counts : List ℕ) {counts' : List ℕ}
+        → accepts verdict t ≡ report_done cfg e code frame alone s
         → counts' ≡ raised (rise_of (report_log cfg e code frame s)) counts
-        → leaves a [] (lent_counts counts') t ≡ report_done cfg e code frame (lent_counts counts) s
+        → leaves (answered 0 verdict 0) [] (lent_counts counts') t ≡ report_done cfg e code frame (lent_counts counts) s
     report_left counts p q =
         λ i. leaves (answered (p i).answer (p i).verdict (p i).value) (p i).part (lent_counts (q i)) (p i).state
 
--- a report on copies of the blocks is the report
-module _ (cfg : Configuration) (e : ℕ) (frame : List ℕ) {s s' : State} (p : s' ≡ s) where
-  pub may_rehearse : MayReport cfg s e frame → MayReport cfg s' e frame
-  may_rehearse = subst (λ (t : State). MayReport cfg t e frame) (sym p)
-
-  pub rehearsed : (code : ℕ) {rise : List ℕ} → rise ≡ rise_of (report_log cfg e code frame s')
-      → rise ≡ rise_of (report_log cfg e code frame s)
-  rehearsed code q = q ∙ ap (λ (t : State). rise_of (report_log cfg e code frame t)) p
+-- what is judged of the state as it is read is judged of the state
+pub report_read : (cfg : Configuration) (e code : ℕ) (frame : List ℕ) (present : ℕ) (b : Beside) {s s' : State} {number : ℕ}
+    → s' ≡ s
+    → number ≡ first_that_applies (report_rules cfg e code frame present b s')
+    → number ≡ first_that_applies (report_rules cfg e code frame present b s)
+report_read cfg e code frame present b p q =
+    q ∙ ap (λ (t : State). first_that_applies (report_rules cfg e code frame present b t)) p

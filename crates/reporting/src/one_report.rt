@@ -1,151 +1,82 @@
 // The work of an accepted report, and its rehearsal: what it would add to the counts, before anything lent changes.
-ghost use Rattle.std.specs.Prelude.{◌≡◌, []};
-ghost use Rattle.manual.specs.State.{lent};
-ghost use Rattle.manual.specs.Answers.{alone, of_report, leaves};
+ghost use Rattle.std.specs.Prelude.{◌≡◌};
+ghost use Rattle.manual.specs.Lent.{as_found, as_lent, keeps_loans};
+ghost use Rattle.manual.specs.Answers.{alone};
 ghost use Rattle.manual.specs.Counts.{rise_of, numbers, carries_past};
 ghost use Rattle.manual.specs.Calls.{report_log, report_done};
 ghost use Rattle.counts.specs.Near.{AreFive};
-ghost use Rattle.rehearsal.specs.Copies.{AsLong};
+ghost use Rattle.one_event.specs.Ready.{accepts};
 ghost use Rattle.reporting.specs.Accepted.{MayReport};
 
-use manual::{Board, EventNumber, ReportAnswer, ReportReturned, Rise};
+use crate::Report;
+use manual::{Lent, LentMut, Rise, Verdict};
 
-// What an accepted report leaves beside the lent blocks: what it answers, and what it adds to the counts.
-#[derive(Drop)]
+// What an accepted report leaves beside the state: its verdict, and what it adds to the counts.
+#[derive(Clone, Copy)]
 pub(crate) struct Accepted {
-    pub returned: ReportReturned,
+    pub verdict: Verdict,
     pub rise: Rise,
 }
 
 // "Each accepted report gives a verdict: none, passed or failed."
-pub(crate) fn accept_report(
-    cfg: &[i32],
-    records: &mut [u8],
-    debounce: &mut [i32],
-    memory: &mut [u8],
-    board: Board,
-    event: EventNumber,
-    code: u32,
-    frame: &[u8],
-) -> Accepted
-    requires { MayReport cfg.now (lent records.old debounce.old memory.old board) event.0 frame.now }
-    ensures { (leaves (of_report result.returned.answer) [] alone
-        (lent records.new debounce.new memory.new result.returned.board)
-        ≡ report_done cfg.now event.0 code frame.now alone
-        (lent records.old debounce.old memory.old board))
-        × (numbers result.rise ≡ rise_of (report_log cfg.now event.0 code frame.now
-        (lent records.old debounce.old memory.old board))) }
+pub(crate) fn accept_report(cfg: &[i32], state: &mut LentMut, given: &Report) -> Accepted
+    requires { MayReport cfg.now (as_lent state.old) given.now.event.0 given.now.frame.now }
+    ensures loans { keeps_loans state.old state.new }
+    ensures promise { accepts result.verdict (as_lent state.new)
+        ≡ report_done cfg.now given.now.event.0 given.now.code given.now.frame.now alone
+        (as_lent state.old) }
+    ensures rise { numbers result.rise
+        ≡ rise_of (report_log cfg.now given.now.event.0 given.now.code given.now.frame.now
+        (as_lent state.old)) }
 {
-    let after = one_event::reports(cfg, records, debounce, memory, board, event, code, frame);
-    let verdict = after.verdict;
-    let board_after = after.board;
-    let did = after.did;
-    let returned = ReportReturned {
-        answer: ReportAnswer::Accepted(verdict),
-        board: board_after,
-    };
-    let rise = counts::rise_of(did);
-    Accepted { returned, rise }
-}
-
-// The report, on copies of the blocks.
-fn rehearse_on(
-    cfg: &[i32],
-    records: &[u8],
-    debounce: &[i32],
-    memory: &[u8],
-    board: Board,
-    event: EventNumber,
-    code: u32,
-    frame: &[u8],
-    records_copy: &mut [u8],
-    debounce_copy: &mut [i32],
-    memory_copy: &mut [u8],
-) -> Rise
-    requires { (MayReport cfg.now (lent records.now debounce.now memory.now board) event.0 frame.now) ×
-        ((AsLong records.now records_copy.old) ×
-        ((AsLong debounce.now debounce_copy.old) × (AsLong memory.now memory_copy.old))) }
-    ensures { numbers result ≡ rise_of (report_log cfg.now event.0 code frame.now
-        (lent records.now debounce.now memory.now board)) }
-{
-    rehearsal::copy_blocks(
-        records,
-        debounce,
-        memory,
-        records_copy,
-        debounce_copy,
-        memory_copy,
-    );
-    let after = accept_report(
-        cfg,
-        records_copy,
-        debounce_copy,
-        memory_copy,
-        board,
-        event,
-        code,
-        frame,
-    );
-    after.rise
+    let after = one_event::reports(cfg, state, given.event, given.code, given.frame);
+    Accepted {
+        verdict: after.verdict,
+        rise: counts::rise_of(after.did),
+    }
 }
 
 // What the report would add to the counts. Nothing lent changes.
-fn rehearse(
-    cfg: &[i32],
-    records: &[u8],
-    debounce: &[i32],
-    memory: &[u8],
-    board: Board,
-    event: EventNumber,
-    code: u32,
-    frame: &[u8],
-) -> Rise
-    requires { MayReport cfg.now (lent records.now debounce.now memory.now board) event.0 frame.now }
-    ensures { numbers result ≡ rise_of (report_log cfg.now event.0 code frame.now
-        (lent records.now debounce.now memory.now board)) }
+fn rehearse(cfg: &[i32], state: &Lent, given: &Report) -> Rise
+    requires { MayReport cfg.now (as_found state.now) given.now.event.0 given.now.frame.now }
+    ensures { numbers result
+        ≡ rise_of (report_log cfg.now given.now.event.0 given.now.code given.now.frame.now
+        (as_found state.now)) }
 {
-    let mut records_copy = [0; manual::MOST_RECORDS];
-    let mut debounce_copy = [0; manual::MOST_EVENTS];
-    let mut memory_copy = [0; manual::MOST_MEMORY];
-    let r = records.len();
-    let d = debounce.len();
-    let m = memory.len();
-    rehearse_on(
-        cfg,
-        records,
-        debounce,
-        memory,
-        board,
+    // By parts: what a closure ensures is not known where it captures a struct that holds a reference.
+    let Report {
         event,
         code,
         frame,
-        &mut records_copy[..r],
-        &mut debounce_copy[..d],
-        &mut memory_copy[..m],
-    )
+        present,
+    } = *given;
+    rehearsal::on_copies(state, |copies| {
+        accept_report(
+            cfg,
+            copies,
+            &Report {
+                event,
+                code,
+                frame,
+                present,
+            },
+        )
+        .rise
+    })
 }
 
 // Whether the report's "whole rise would carry any count past 4,294,967,295". It is rehearsed only where a count is
 // near that.
-pub(crate) fn carries_past(
-    cfg: &[i32],
-    records: &[u8],
-    debounce: &[i32],
-    memory: &[u8],
-    board: Board,
-    event: EventNumber,
-    code: u32,
-    frame: &[u8],
-    counts: &[u32],
-) -> bool
-    requires { (MayReport cfg.now (lent records.now debounce.now memory.now board) event.0 frame.now) ×
+pub(crate) fn carries_past(cfg: &[i32], state: &Lent, given: &Report, counts: &[u32]) -> bool
+    requires { (MayReport cfg.now (as_found state.now) given.now.event.0 given.now.frame.now) ×
         (AreFive counts.now) }
-    ensures { result ≡ carries_past (report_log cfg.now event.0 code frame.now
-        (lent records.now debounce.now memory.now board)) counts.now }
+    ensures { result
+        ≡ carries_past (report_log cfg.now given.now.event.0 given.now.code given.now.frame.now
+        (as_found state.now)) counts.now }
 {
     if !counts::some_near(counts) {
         return false;
     }
-    let rise = rehearse(cfg, records, debounce, memory, board, event, code, frame);
+    let rise = rehearse(cfg, state, given);
     counts::some_past(counts, rise)
 }

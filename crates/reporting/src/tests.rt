@@ -7,7 +7,7 @@ ghost use Rattle.config.specs.Rows.{RowWithin};
 ghost use Rattle.judgement.specs.Checks.{check_number};
 ghost use Rattle.reporting.specs.Tests.{row_tests, report_tests, tick_tests};
 
-use judgement::Check;
+use crate::{Report, Tick};
 use manual::{Board, EventNumber, Refusal};
 
 // "Tick of d ms (0 to 60,000)"
@@ -39,75 +39,64 @@ fn no_pre_result(cfg: &[i32], event: EventNumber, code: u32) -> bool
 }
 
 // "report …, 6, 9, 5", and 11 of document 02, of an event that has a row.
-fn row_tests(
-    cfg: &[i32],
-    board: Board,
-    event: EventNumber,
-    code: u32,
-    frame: &[u8],
-    present: u32,
-) -> Check
-    requires { event.0 < most_events }
+fn row_tests(cfg: &[i32], board: Board, given: &Report) -> Result<(), Refusal>
+    requires { given.now.event.0 < most_events }
     ensures { check_number result
-        ≡ first_that_applies (row_tests cfg.now board event.0 code frame.now present) }
+        ≡ first_that_applies
+        (row_tests cfg.now board given.now.event.0 given.now.code given.now.frame.now
+        given.now.present) }
 {
-    let pre_refused = no_pre_result(cfg, event, code);
-    let frame_refused = wrong_frame(cfg, frame);
-    let running = cycle_runs(cfg, board, event);
-    let enabled = conditions::enabled(cfg, event, present);
+    let pre_refused = no_pre_result(cfg, given.event, given.code);
+    let frame_refused = wrong_frame(cfg, given.frame);
+    let running = cycle_runs(cfg, board, given.event);
+    let enabled = conditions::enabled(cfg, given.event, given.present);
     if pre_refused {
-        return Check::Stop(Refusal::NoPreResult);
+        return Err(Refusal::NoPreResult);
     }
     if frame_refused {
-        return Check::Stop(Refusal::WrongFrame);
+        return Err(Refusal::WrongFrame);
     }
     if !running {
-        return Check::Stop(Refusal::WrongCycleState);
+        return Err(Refusal::WrongCycleState);
     }
     if !enabled {
-        return Check::Stop(Refusal::MissingCondition);
+        return Err(Refusal::MissingCondition);
     }
-    Check::Go
+    Ok(())
 }
 
 // "report 4, 1, 6, 9, 5", then 11. An event past the last has no row, so 4 is judged before the row is read.
-pub(crate) fn report_tests(
-    cfg: &[i32],
-    board: Board,
-    event: EventNumber,
-    code: u32,
-    frame: &[u8],
-    present: u32,
-) -> Check
+pub(crate) fn report_tests(cfg: &[i32], board: Board, given: &Report) -> Result<(), Refusal>
     requires { config_ok cfg.now ≡ true }
     ensures { check_number result
-        ≡ first_that_applies (report_tests cfg.now board event.0 code frame.now present) }
+        ≡ first_that_applies
+        (report_tests cfg.now board given.now.event.0 given.now.code given.now.frame.now
+        given.now.present) }
 {
-    let event_refused = config::events(cfg) <= event.0;
-    let code_refused = debounce::PRE_FAILED < code;
+    let event_refused = config::events(cfg) <= given.event.0;
+    let code_refused = debounce::PRE_FAILED < given.code;
     if event_refused {
-        return Check::Stop(Refusal::NoSuch);
+        return Err(Refusal::NoSuch);
     }
     if code_refused {
-        return Check::Stop(Refusal::BadArgument);
+        return Err(Refusal::BadArgument);
     }
-    row_tests(cfg, board, event, code, frame, present)
+    row_tests(cfg, board, given)
 }
 
 // ---- tick
 
 // "tick 1, 9"
-pub(crate) fn tick_tests(cfg: &[i32], ms: u32, frame: &[u8]) -> Check
-    ensures { check_number result ≡ first_that_applies (tick_tests cfg.now ms frame.now) }
+pub(crate) fn tick_tests(cfg: &[i32], given: &Tick) -> Result<(), Refusal>
+    ensures { check_number result
+        ≡ first_that_applies (tick_tests cfg.now given.now.ms given.now.frame.now) }
 {
-    let ms_refused = LONGEST_TICK < ms;
-    let frame_refused = wrong_frame(cfg, frame);
-    if ms_refused {
-        Check::Stop(Refusal::BadArgument)
-    } else if frame_refused {
-        Check::Stop(Refusal::WrongFrame)
+    if LONGEST_TICK < given.ms {
+        Err(Refusal::BadArgument)
+    } else if wrong_frame(cfg, given.frame) {
+        Err(Refusal::WrongFrame)
     } else {
-        Check::Go
+        Ok(())
     }
 }
 

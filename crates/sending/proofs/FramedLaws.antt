@@ -1,17 +1,13 @@
--- A frame of zeros with a part of a message stored in it, and what the tests of a sender tell. Assumes nothing.
+-- A frame of zeros with a part of a message stored in it, and the part of a message that a frame holds. Assumes nothing.
 use mathlib.Core.Path.{◌≡◌, ap, ◌∙◌}
-use mathlib.Core.Bool.{true}
 use mathlib.Core.List.{List, ◌∷◌}
 use Prim.Native.Nat.{ℕ, zero, suc, ◌+◌, ◌-◌, ◌≤◌, min}
 use native.Mathlib.Omega.{arith}
 use lib.ListN.{length, take, drop, replicate, length-drop}
 use lib.Seq.{sets, sets-eq, drop-nil}
-use lib.Dec.{leb}
-use borrow.Author.Tests.{leb-true}
 use Rattle.transport.specs.declared.CanFrame.{CanFrame}
-use Rattle.transport.specs.Frames.{padded, frame_of, frame, longest}
-use Rattle.transport.specs.Sending.{allowed}
-use Rattle.transport.proofs.FramesLaws.{take_short, and_left, and_right}
+use Rattle.transport.specs.Frames.{padded, frame_of, frame}
+use Rattle.transport.proofs.FramesLaws.{take_short}
 
 zeros_left : (p n : ℕ) → drop {A = ℕ} n (replicate p 0) ≡ replicate (p - n) 0
 zeros_left zero n = let e : 0 - n ≡ 0 = omega arith in drop-nil n ∙ rw e
@@ -46,7 +42,3 @@ pub part_is : (m : List ℕ) (at size : ℕ) → size ≡ min 7 (length m - at)
     → take (at + size - at) (drop at m) ≡ take 7 (drop at m)
 part_is m at size e =
     let d : at + size - at ≡ size = omega arith in rw (d, e, ← length-drop at m) (take_short 7 (drop at m))
-
-pub allowed_tells : (size : ℕ) → allowed size ≡ true → (1 ≤ size) × (size ≤ longest)
-allowed_tells size h =
-    (leb-true 1 size (and_left _ _ h), leb-true size longest (and_right (leb 1 size) _ h))

@@ -1,14 +1,13 @@
 // Document 02, W13: a sender. Each call takes any sender, message and frame whatever.
 #![tactic(auto)]
 
-ghost use Rattle.std.specs.Prelude.{◌≡◌, true, ◌+◌, ◌≤◌, length};
+ghost use Rattle.std.specs.Prelude.{◌≡◌, true, Ok, ◌+◌, ◌≤◌, length};
 ghost use Rattle.std.proofs.lemmas.List.Edits.{sets};
 ghost use Rattle.transport.specs.Frames.{frame_of, single, first, consecutive, longest, has};
-ghost use Rattle.transport.specs.declared.FlowAnswer.{FlowAnswer};
-ghost use Rattle.transport.specs.Sending.{allowed, start, flowed, controlled, waiting, flow, carries_on, sent};
-ghost use Rattle.transport.specs.Sending.{running, next_frame};
+ghost use Rattle.transport.specs.Sending.{allowed, start, flowed, controlled, flow, carries_on, sent};
+ghost use Rattle.transport.specs.Sending.{offers, next_frame};
 
-use transport::{CanFrame, FlowAnswer, Flowed, Next, Sender, Started};
+use transport::{CanFrame, FlowAnswer, Refused, Sender};
 
 // ---- frames
 
@@ -19,7 +18,7 @@ fn framed(head: [u8; 8], at: usize, part: &[u8]) -> CanFrame
 {
     let mut bytes = head;
     writing::put(&mut bytes, at, part);
-    transport::frame_of(bytes)
+    CanFrame { bytes }
 }
 
 // "Up to 7 bytes go in a single frame (`0N`)"
@@ -47,7 +46,7 @@ fn consecutive(message: &[u8], k: usize) -> CanFrame
     ensures { result ≡ consecutive message.now k }
 {
     let at = 7 * k - 1;
-    let end = at + transport::smaller(7, message.len() - at);
+    let end = at + usize::min(7, message.len() - at);
     let n = (k % 16) as u8;
     framed([0x20 + n, 0, 0, 0, 0, 0, 0, 0], 1, &message[at..end])
 }
@@ -62,71 +61,46 @@ fn allowed(size: usize) -> bool
 }
 
 // Begins a message: the single or first frame, and where the sender then stands.
-pub fn start(message: &[u8]) -> Started
+pub fn start(message: &[u8]) -> Result<(CanFrame, Sender), Refused>
     ensures { result ≡ start message.now }
 {
     if !allowed(message.len()) {
-        return Started::Refused;
+        return Err(Refused);
     }
     if message.len() <= 7 {
-        return Started::Send(single(message), Sender::Idle);
+        return Ok((single(message), Sender::Idle));
     }
-    Started::Send(first(message), Sender::Waiting(1))
+    Ok((first(message), Sender::Waiting(1)))
 }
 
 // ---- flow control
 
 // "Flow control `30`, block size, separation time; `31` waits, `32` or any other first byte aborts"
-fn controlled(k: usize, frame: CanFrame) -> Flowed
-    ensures { result ≡ controlled k frame }
+fn controlled(k: usize, frame: CanFrame) -> (FlowAnswer, Sender)
+    ensures { flowed (Ok result.0) result.1 ≡ controlled k frame }
 {
-    if frame.b0 == 0x30 {
-        return Flowed {
-            answer: FlowAnswer::Go(frame.b2),
-            sender: Sender::Running(k, frame.b1),
-        };
-    }
-    if frame.b0 == 0x31 {
-        return Flowed {
-            answer: FlowAnswer::Wait,
-            sender: Sender::Waiting(k),
-        };
-    }
-    Flowed {
-        answer: FlowAnswer::Aborted,
-        sender: Sender::Idle,
+    let [kind, block, separation, ..] = frame.bytes;
+    match kind {
+        0x30 => (FlowAnswer::Go(separation), Sender::Running(k, block)),
+        0x31 => (FlowAnswer::Wait, Sender::Waiting(k)),
+        _ => (FlowAnswer::Aborted, Sender::Idle),
     }
 }
 
-// 13, and the sender as given.
-fn refused(sender: Sender) -> Flowed
-    ensures { result ≡ flowed FlowAnswer.Refused sender }
+// "A sender takes flow control only when it is due, any other state refuses it.": while it waits with a frame that some
+// message has. A refusal leaves it as it was.
+pub fn flow(sender: &mut Sender, frame: CanFrame) -> Result<FlowAnswer, Refused>
+    ensures { flowed result sender.new ≡ flow sender.old frame }
 {
-    Flowed {
-        answer: FlowAnswer::Refused,
-        sender,
-    }
-}
-
-// A sender that waits with frame k, if some message has it.
-fn waiting(k: usize, frame: CanFrame) -> Flowed
-    ensures { result ≡ waiting k frame }
-{
+    let Sender::Waiting(k) = *sender else {
+        return Err(Refused);
+    };
     if !transport::has(transport::LONGEST, k) {
-        return refused(Sender::Waiting(k));
+        return Err(Refused);
     }
-    controlled(k, frame)
-}
-
-// "A sender takes flow control only when it is due, any other state refuses it."
-pub fn flow(sender: Sender, frame: CanFrame) -> Flowed
-    ensures { result ≡ flow sender frame }
-{
-    match sender {
-        Sender::Idle => refused(Sender::Idle),
-        Sender::Waiting(k) => waiting(k, frame),
-        Sender::Running(k, left) => refused(Sender::Running(k, left)),
-    }
+    let (answer, after) = controlled(k, frame);
+    *sender = after;
+    Ok(answer)
 }
 
 // ---- the next frame
@@ -135,13 +109,11 @@ pub fn flow(sender: Sender, frame: CanFrame) -> Flowed
 fn goes_on(k: usize, left: u8) -> Sender
     ensures { result ≡ carries_on k left }
 {
-    if left == 0 {
-        return Sender::Running(k, 0);
+    match left {
+        0 => Sender::Running(k, 0),
+        1 => Sender::Waiting(k),
+        _ => Sender::Running(k, left - 1),
     }
-    if left == 1 {
-        return Sender::Waiting(k);
-    }
-    Sender::Running(k, left - 1)
 }
 
 // The sender after frame k.
@@ -155,23 +127,16 @@ fn sent(size: usize, k: usize, left: u8) -> Sender
     goes_on(k + 1, left)
 }
 
-// Frame k, if the message has it.
-fn running(k: usize, left: u8, message: &[u8]) -> Next
-    ensures { result ≡ running k left message.now }
+// The next consecutive frame, if one is due and the message has it.
+pub fn next(sender: &mut Sender, message: &[u8]) -> Option<CanFrame>
+    ensures { offers result sender.new ≡ next_frame sender.old message.now }
 {
+    let Sender::Running(k, left) = *sender else {
+        return None;
+    };
     if !transport::has(message.len(), k) {
-        return Next::Nothing;
+        return None;
     }
-    Next::Send(consecutive(message, k), sent(message.len(), k, left))
-}
-
-// The next consecutive frame of the message, and where the sender then stands; or nothing is due.
-pub fn next(sender: Sender, message: &[u8]) -> Next
-    ensures { result ≡ next_frame sender message.now }
-{
-    match sender {
-        Sender::Idle => Next::Nothing,
-        Sender::Waiting(_) => Next::Nothing,
-        Sender::Running(k, left) => running(k, left, message),
-    }
+    *sender = sent(message.len(), k, left);
+    Some(consecutive(message, k))
 }

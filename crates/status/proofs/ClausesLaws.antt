@@ -1,18 +1,25 @@
 -- Laws of specs/Clauses.antt: the two parts together are the nine clauses.
 use mathlib.Core.Path.{◌≡◌, refl, sym, ◌∙◌}
-use mathlib.Core.Bool.{Bool, true, false, not, ◌&&◌, ◌||◌}
+use mathlib.Core.Bool.{Bool, true, false, not, ◌&&◌, ◌||◌, beq}
 use mathlib.Core.List.{[], ◌∷◌}
 use Prim.Native.Nat.{ℕ, ◌≤◌}
 use native.Mathlib.Omega.{arith}
 use lib.Dec.{eqb, ltb}
 use borrow.Author.Tests.{eqb-true, lt-ltb}
-use Rattle.history.specs.Words.{implies, holds}
+use Rattle.history.specs.Words.{implies, same, holds}
 use Rattle.history.specs.StatusByte.{confirmed_dtc, warning_indicator_requested, EventRecord, Limits}
 use Rattle.history.specs.WellFormed.{untested_is_fresh, faulty_has_failed, failed_is_pending, pending_has_cycles}
 use Rattle.history.specs.WellFormed.{healing_below, healing_only_warned, ageing_below, ageing_only_confirmed}
 use Rattle.history.specs.WellFormed.{well_formed_record}
 use Rattle.history.proofs.WordsLaws.{and_true, and_false, and_assoc, part}
 use Rattle.status.specs.Clauses.{bytes_ok, limits_ok, limits_kept}
+
+-- both hold or neither does, as code compares them
+pub equal_same : (a b : Bool) → beq a b ≡ same a b
+equal_same true true = refl
+equal_same true false = refl
+equal_same false true = refl
+equal_same false false = refl
 
 -- tests as code joins them
 pub three_hold : (a b c : Bool) → a && b && c ≡ holds (a ∷ b ∷ c ∷ [])

@@ -1,26 +1,9 @@
 -- Laws of a count that rises by one where a test holds: K, h and g.
 use mathlib.Core.Path.{◌≡◌, refl, ◌∙◌}
 use mathlib.Core.Bool.{Bool, true, false, not, ◌&&◌, cond}
-use Prim.Native.Nat.{ℕ, suc, ◌+◌, min, ◌<◌}
+use Prim.Native.Nat.{ℕ, suc, min, ◌<◌}
 use native.Mathlib.Omega.{arith}
-use lib.Dec.{eqb, ltb}
-use borrow.Author.Tests.{ltb-true, ltb-false}
-use Rattle.manual.proofs.WordsLaws.{clash}
-
--- ---- at most 255, by the test that the code makes
-
-module _ (c : ℕ) where
-  pub below_top : (test : Bool) → test && ltb c 255 ≡ true → c < 255
-  below_top true e = ltb-true c 255 e
-  below_top false e = clash false e refl
-
-  pub risen : (test : Bool) → test && ltb c 255 ≡ true → c + 1 ≡ cond test (min 255 (suc c)) c
-  risen true e = omega (arith, ltb-true c 255 e)
-  risen false e = clash false e refl
-
-  pub not_risen : (test : Bool) → c < 256 → test && ltb c 255 ≡ false → c ≡ cond test (min 255 (suc c)) c
-  not_risen true h e = omega (arith, ltb-false c 255 e)
-  not_risen false h e = refl
+use lib.Dec.{eqb}
 
 -- ---- K
 

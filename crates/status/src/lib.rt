@@ -4,7 +4,7 @@
 
 ghost use Rattle.std.specs.Prelude.{◌≡◌, Bool, not, ◌&&◌, cond, ℕ, suc, ◌+◌, ◌-◌, ◌*◌, min, ◌≤◌, ◌<◌, eqb, ltb, pos, length, get_or, set};
 ghost use Rattle.std.specs.Int.Bits.{bit_and, bit_or};
-ghost use Rattle.history.specs.Words.{implies, same};
+ghost use Rattle.history.specs.Words.{implies};
 ghost use Rattle.history.specs.StatusByte.{Limits, status_of, fresh_record, clean_cycle};
 ghost use Rattle.history.specs.StatusByte.{stop_a, counts_for_ageing, ages, stop_b};
 ghost use Rattle.history.specs.WellFormed.{untested_is_fresh, faulty_has_failed, failed_is_pending, pending_has_cycles};
@@ -18,7 +18,7 @@ ghost use Rattle.status.specs.Clauses.{bytes_ok, is_limited, limits_ok};
 use manual::EventNumber;
 
 // "The eight bits have the names and weights of ISO 14229-1."
-#[derive(Clone, Copy)]
+#[derive(Clone, Copy, PartialEq, Eq)]
 pub struct Status(pub u8);
 
 impl Status {
@@ -92,7 +92,7 @@ impl Status {
 }
 
 // "per event status, K (failed cycles), h (healing count), g (ageing count)"
-#[derive(Clone, Copy)]
+#[derive(Clone, Copy, PartialEq, Eq)]
 pub struct Record {
     pub status: Status,
     pub k: u8,
@@ -139,9 +139,7 @@ pub fn passed(r: Record) -> Record
                 | Status::TEST_NOT_COMPLETED_SINCE_LAST_CLEAR
                 | Status::TEST_NOT_COMPLETED_THIS_OPERATION_CYCLE,
         ),
-        k: r.k,
-        h: r.h,
-        g: r.g,
+        ..r
     }
 }
 
@@ -149,11 +147,7 @@ pub fn passed(r: Record) -> Record
 fn risen_if(test: bool, count: u8) -> u8
     ensures { result ≡ cond test (min 255 (suc count)) count }
 {
-    if test & (count < 255) {
-        count + 1
-    } else {
-        count
-    }
+    if test { count.saturating_add(1) } else { count }
 }
 
 // The same of a count that has room to rise.
@@ -195,7 +189,7 @@ pub fn failed(confirm: usize, indicator: bool, r: Record) -> AfterFailed
             status: tested
                 .set_if(indicator & confirms, Status::WARNING_INDICATOR_REQUESTED)
                 .set_if(confirms, Status::CONFIRMED_DTC),
-            k: k,
+            k,
             h: 0,
             g: 0,
         },
@@ -212,9 +206,7 @@ pub fn started(r: Record) -> Record
         status: s
             .clear(Status::TEST_FAILED_THIS_OPERATION_CYCLE)
             .set(Status::TEST_NOT_COMPLETED_THIS_OPERATION_CYCLE),
-        k: r.k,
-        h: r.h,
-        g: r.g,
+        ..r
     }
 }
 
@@ -243,7 +235,7 @@ fn stop_a(heal: usize, r: Record) -> Record
             .clear_if(heals, Status::WARNING_INDICATOR_REQUESTED),
         k: zero_if(clean, r.k),
         h: zero_if(heals, h),
-        g: r.g,
+        ..r
     }
 }
 
@@ -272,9 +264,9 @@ fn stop_b(age: usize, r: Record) -> AfterStop
                 ages,
                 Status::CONFIRMED_DTC | Status::WARNING_INDICATOR_REQUESTED,
             ),
-            k: r.k,
             h: zero_if(ages, r.h),
             g: zero_if(ages, g),
+            ..r
         },
         aged: ages,
     }
@@ -308,21 +300,13 @@ fn implies(a: bool, b: bool) -> bool
     if a { b } else { true }
 }
 
-// Both hold or neither does.
-fn same(a: bool, b: bool) -> bool
-    ensures { result ≡ same a b }
-{
-    if a { b } else { !b }
-}
-
 // "bit 4 set means status is exactly 50h"
 fn untested_is_fresh(s: Status) -> bool
     ensures { result ≡ untested_is_fresh (status_of s.0) }
 {
-    let fresh = Status::fresh();
     implies(
         s.contains(Status::TEST_NOT_COMPLETED_SINCE_LAST_CLEAR),
-        s.0 == fresh.0,
+        s == Status::fresh(),
     )
 }
 
@@ -352,7 +336,7 @@ fn pending_has_cycles(r: Record) -> bool
     ensures { result ≡ pending_has_cycles (record_is r) }
 {
     let s = r.status;
-    same(1 <= r.k, s.contains(Status::PENDING_DTC))
+    (1 <= r.k) == s.contains(Status::PENDING_DTC)
 }
 
 // The clauses on an event's record that ask for no number of its row.

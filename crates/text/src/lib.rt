@@ -1,33 +1,28 @@
-// A line of a file of stored cases, and the numbers and bytes in it. A place past the end of the line reads as byte 0.
+// A line of a file of stored cases, the numbers and bytes in it, and how many cases ran and differed. A text is what is
+// left of a line from a place on.
 #![tactic(auto)]
 
-ghost use Rattle.std.specs.Prelude.{◌≡◌, ◌≤◌, length, take};
-
-// The next byte of a file.
-#[derive(Clone, Copy)]
-enum NextByte {
-    Byte(u8),
-    End,
-}
+ghost use Rattle.std.specs.Prelude.{◌≡◌, ◌≤◌, ◌<◌, ◌+◌, IfSome, cond, min, length, slice_index, take, drop};
 
 // ---- a line
 
-fn read_byte(fd: i32) -> NextByte {
+// The next byte of a file; none at its end.
+fn read_byte(fd: i32) -> Option<u8> {
     let mut one = [0u8; 1];
     if io::read_full(fd, &mut one) == 0 {
-        NextByte::End
+        None
     } else {
-        NextByte::Byte(one[0])
+        Some(one[0])
     }
 }
 
 // The next line with its newline, at the front; its length, 0 at the end of the file.
 pub fn read_line(fd: i32, line: &mut [u8]) -> usize {
-    for i in 0..line.len() {
-        let NextByte::Byte(byte) = read_byte(fd) else {
+    for (i, place) in line.iter_mut().enumerate() {
+        let Some(byte) = read_byte(fd) else {
             return i;
         };
-        line[i] = byte;
+        *place = byte;
         if byte == b'\n' {
             return i + 1;
         }
@@ -35,317 +30,240 @@ pub fn read_line(fd: i32, line: &mut [u8]) -> usize {
     line.len()
 }
 
-pub fn byte_at(line: &[u8], at: usize) -> u8 {
-    if at < line.len() { line[at] } else { 0 }
+// The byte at a place; 0 past the end.
+pub fn byte_at(text: &[u8], at: usize) -> u8
+    ensures { result ≡ slice_index text.now at }
+{
+    text.get(at).copied().unwrap_or(0)
 }
 
-// The place after this one; the line's end stays.
-pub fn next(line: &[u8], at: usize) -> usize {
-    if at < line.len() { at + 1 } else { at }
+// What stands from a place on; nothing past the end.
+pub fn rest(text: &[u8], at: usize) -> &[u8]
+    ensures { result.now ≡ drop at text.now }
+{
+    text.get(at..).unwrap_or(&[])
 }
 
-// Behind the first such byte from a place on.
-pub fn behind(line: &[u8], at: usize, mark: u8) -> usize {
-    for i in at..line.len() {
-        if line[i] == mark {
-            return i + 1;
-        }
+// What stands behind the first such byte; nothing where there is none.
+pub fn behind(text: &[u8], mark: u8) -> &[u8] {
+    match text.iter().position(|byte| *byte == mark) {
+        Some(at) => &text[at + 1..],
+        None => &[],
     }
-    line.len()
 }
 
-// Where word k begins; the line begins with word 0.
-pub fn word(line: &[u8], k: usize) -> usize {
-    let mut at = 0;
+// The line from word k on; it begins with word 0.
+pub fn word(line: &[u8], k: usize) -> &[u8] {
+    let mut text = line;
     for _ in 0..k {
-        at = behind(line, at, b' ');
+        text = behind(text, b' ');
     }
-    at
+    text
 }
 
 // Whether these bytes stand at a place.
-pub fn stands(line: &[u8], at: usize, bytes: &[u8]) -> bool {
-    let mut from = at;
-    for i in 0..bytes.len() {
-        if byte_at(line, from) != bytes[i] {
-            return false;
-        }
-        from = next(line, from);
-    }
-    true
+pub fn stands(text: &[u8], at: usize, bytes: &[u8]) -> bool {
+    rest(text, at).starts_with(bytes)
 }
 
 // ---- decimal numbers
 
-// A digit's worth; 10 for any other byte.
-fn digit(byte: u8) -> u64 {
-    if byte < b'0' {
-        return 10;
+fn digit(byte: &u8) -> Option<u8> {
+    match *byte {
+        b'0'..=b'9' => Some(*byte - b'0'),
+        _ => None,
     }
-    if b'9' < byte {
-        return 10;
-    }
-    (byte - b'0') as u64
 }
 
 // With one digit more: no number of a case has more than seventeen.
-fn with_digit(n: u64, digit: u64) -> u64 {
-    if 10_000_000_000_000_000 < n {
-        return n;
-    }
-    if 9 < digit {
-        return n;
-    }
-    10 * n + digit
-}
-
-// The first place from this one on that has no digit.
-fn digits_end(line: &[u8], at: usize) -> usize {
-    for i in at..line.len() {
-        if digit(line[i]) == 10 {
-            return i;
-        }
-    }
-    line.len()
-}
-
-pub fn decimal(line: &[u8], at: usize) -> u64 {
-    let mut n = 0;
-    for i in at..digits_end(line, at) {
-        n = with_digit(n, digit(byte_at(line, i)));
-    }
-    n
-}
-
-pub fn decimal_32(line: &[u8], at: usize) -> u32 {
-    let n = decimal(line, at);
-    if n <= 4_294_967_295 {
-        n as u32
+fn with_digit(n: u64, digit: u8) -> u64 {
+    if n <= 10_000_000_000_000_000 {
+        10 * n + u64::from(digit)
     } else {
-        4_294_967_295
+        n
     }
 }
 
-fn positive(n: u64) -> i32 {
-    if n < 2_147_483_648 {
-        n as i32
-    } else {
-        2_147_483_647
+// The number in front.
+pub fn decimal(text: &[u8]) -> u64 {
+    text.iter().map_while(digit).fold(0, with_digit)
+}
+
+// The same; the largest number of 32 bits where it is larger.
+pub fn decimal_32(text: &[u8]) -> u32 {
+    u32::try_from(decimal(text)).unwrap_or(u32::MAX)
+}
+
+// A number's digits.
+fn magnitude(text: &[u8]) -> &[u8] {
+    text.strip_prefix(b"-").unwrap_or(text)
+}
+
+// The number in front, with its sign; the nearest number of 32 bits where it is none.
+pub fn integer(text: &[u8]) -> i32 {
+    match text.strip_prefix(b"-") {
+        Some(digits) => i32::try_from(decimal(digits)).map_or(i32::MIN, |n| -n),
+        None => i32::try_from(decimal(text)).unwrap_or(i32::MAX),
     }
 }
 
-fn negative(n: u64) -> i32 {
-    if n < 2_147_483_648 {
-        let value = n as i32;
-        -value
-    } else {
-        -2_147_483_648
+fn is_number(text: &[u8]) -> bool {
+    magnitude(text)
+        .first()
+        .is_some_and(|byte| byte.is_ascii_digit())
+}
+
+// The list behind its first number; nothing where no separator follows that.
+fn behind_number(text: &[u8], separator: u8) -> &[u8] {
+    let digits = magnitude(text);
+    match digits.iter().position(|byte| !byte.is_ascii_digit()) {
+        Some(end) if digits[end] == separator => &digits[end + 1..],
+        _ => &[],
     }
 }
 
-// Where a number's digits begin.
-fn behind_minus(line: &[u8], at: usize) -> usize {
-    if byte_at(line, at) == b'-' {
-        next(line, at)
-    } else {
-        at
-    }
-}
-
-pub fn integer(line: &[u8], at: usize) -> i32 {
-    if byte_at(line, at) == b'-' {
-        negative(decimal(line, next(line, at)))
-    } else {
-        positive(decimal(line, at))
-    }
-}
-
-fn is_number(line: &[u8], at: usize) -> bool {
-    digit(byte_at(line, behind_minus(line, at))) < 10
-}
-
-// Where the next number of a list begins; the line's end where there is none.
-fn next_number(line: &[u8], at: usize, separator: u8) -> usize {
-    let end = digits_end(line, behind_minus(line, at));
-    if byte_at(line, end) == separator {
-        next(line, end)
-    } else {
-        line.len()
-    }
-}
-
-// The numbers of a list, no more than there is room for, and how many there are.
-pub fn read_numbers(line: &[u8], at: usize, separator: u8, numbers: &mut [i32]) -> usize
+// The numbers of a list, each read so, no more than there is room for, and how many there are.
+pub fn read_numbers<N: Copy, R: Fn(&[u8]) -> N>(
+    text: &[u8],
+    separator: u8,
+    numbers: &mut [N],
+    read: R,
+) -> usize
+    requires { R.IsAlwaysCallable read }
     ensures { (result ≤ length numbers.new) × (result ≡ length (take result numbers.new)) }
 {
-    let mut from = at;
-    for place in 0..numbers.len() {
-        if !is_number(line, from) {
+    let mut list = text;
+    for (place, number) in numbers.iter_mut().enumerate() {
+        if !is_number(list) {
             return place;
         }
-        let number = integer(line, from);
-        numbers[place] = number;
-        from = next_number(line, from, separator);
+        *number = read(list);
+        list = behind_number(list, separator);
     }
     numbers.len()
 }
 
-// Whether the list at a place is these numbers.
-pub fn same_numbers(line: &[u8], at: usize, numbers: &[i32]) -> bool {
-    let mut from = at;
-    for i in 0..numbers.len() {
-        if !is_number(line, from) {
-            return false;
-        }
-        if integer(line, from) != numbers[i] {
-            return false;
-        }
-        from = next_number(line, from, b',');
-    }
-    !is_number(line, from)
-}
-
-// The same of numbers of 32 bits without a sign.
-pub fn read_wide(line: &[u8], at: usize, separator: u8, numbers: &mut [u32]) -> usize
-    ensures { (result ≤ length numbers.new) × (result ≡ length (take result numbers.new)) }
+// Whether the list in front, each number read so, is these numbers.
+pub fn same_numbers<N: Copy + Into<W>, W: PartialEq + Drop, R: Fn(&[u8]) -> W>(
+    text: &[u8],
+    numbers: &[N],
+    read: R,
+) -> bool
+    requires { R.IsAlwaysCallable read }
 {
-    let mut from = at;
-    for place in 0..numbers.len() {
-        if !is_number(line, from) {
-            return place;
+    let mut list = text;
+    for number in numbers {
+        if !is_number(list) || read(list) != (*number).into() {
+            return false;
         }
-        numbers[place] = decimal_32(line, from);
-        from = next_number(line, from, separator);
+        list = behind_number(list, b',');
     }
-    numbers.len()
-}
-
-// The same of them.
-pub fn same_wide(line: &[u8], at: usize, numbers: &[u32]) -> bool {
-    let mut from = at;
-    for i in 0..numbers.len() {
-        if !is_number(line, from) {
-            return false;
-        }
-        if decimal_32(line, from) != numbers[i] {
-            return false;
-        }
-        from = next_number(line, from, b',');
-    }
-    !is_number(line, from)
-}
-
-fn wide(count: u16) -> u64 {
-    count as u64
-}
-
-// The same of numbers of 16 bits.
-pub fn same_counts(line: &[u8], at: usize, counts: &[u16]) -> bool {
-    let mut from = at;
-    for i in 0..counts.len() {
-        if !is_number(line, from) {
-            return false;
-        }
-        if decimal(line, from) != wide(counts[i]) {
-            return false;
-        }
-        from = next_number(line, from, b',');
-    }
-    !is_number(line, from)
+    !is_number(list)
 }
 
 // ---- hex bytes
 
-// A digit's worth; 16 for any other byte.
-fn hex_digit(byte: u8) -> u8 {
-    match byte {
-        b'0'..=b'9' => byte - b'0',
-        b'a'..=b'f' => byte - b'a' + 10,
-        _ => 16,
+fn hex_digit(byte: &u8) -> Option<u8>
+    ensures { IfSome result (λ digit. digit < 16) }
+{
+    match *byte {
+        b'0'..=b'9' => Some(*byte - b'0'),
+        b'a'..=b'f' => Some(*byte - b'a' + 10),
+        _ => None,
     }
 }
 
-fn is_hex(line: &[u8], at: usize) -> bool {
-    hex_digit(byte_at(line, at)) < 16
-}
-
-fn pair(high: u8, low: u8) -> u8 {
-    if 15 < high {
-        return 0;
+// The byte of two digits; 0 where the second is none.
+fn hex_byte(pair: &[u8]) -> Option<u8> {
+    let high = pair.first().and_then(hex_digit)?;
+    match pair.get(1).and_then(hex_digit) {
+        Some(low) => Some(16 * high + low),
+        None => Some(0),
     }
-    if 15 < low {
-        return 0;
-    }
-    16 * high + low
 }
 
-fn hex_byte(line: &[u8], at: usize) -> u8 {
-    pair(
-        hex_digit(byte_at(line, at)),
-        hex_digit(byte_at(line, next(line, at))),
-    )
-}
-
-fn next_byte(line: &[u8], at: usize) -> usize {
-    next(line, next(line, at))
-}
-
-// The bytes at a place, no more than there is room for, and how many there are.
-pub fn read_bytes(line: &[u8], at: usize, bytes: &mut [u8]) -> usize
+// The bytes in front, no more than there is room for, and how many there are.
+pub fn read_bytes(text: &[u8], bytes: &mut [u8]) -> usize
     ensures { (result ≤ length bytes.new) × (result ≡ length (take result bytes.new)) }
 {
-    let mut from = at;
-    for place in 0..bytes.len() {
-        if !is_hex(line, from) {
+    let mut pairs = text.chunks(2);
+    for (place, byte) in bytes.iter_mut().enumerate() {
+        let Some(read) = pairs.next().and_then(hex_byte) else {
             return place;
-        }
-        bytes[place] = hex_byte(line, from);
-        from = next_byte(line, from);
+        };
+        *byte = read;
     }
     bytes.len()
 }
 
-// Whether the bytes at a place are these.
-pub fn same_bytes(line: &[u8], at: usize, bytes: &[u8]) -> bool {
-    let mut from = at;
-    for i in 0..bytes.len() {
-        if !is_hex(line, from) {
-            return false;
-        }
-        if hex_byte(line, from) != bytes[i] {
-            return false;
-        }
-        from = next_byte(line, from);
-    }
-    !is_hex(line, from)
+// Whether the bytes in front are these.
+pub fn same_bytes(text: &[u8], bytes: &[u8]) -> bool {
+    text.chunks(2).map_while(hex_byte).eq(bytes.iter().copied())
 }
 
 // ---- lengths
 
-// So many bytes of these, or all where there are fewer.
-pub fn most_bytes(n: usize, bytes: &[u8]) -> usize
-    ensures { (result ≤ length bytes.now) × (result ≡ length (take result bytes.now)) }
+// So many of these, or all where there are fewer.
+pub fn most<T>(n: usize, items: &[T]) -> usize
+    ensures fits { (result ≤ length items.now) × (result ≡ length (take result items.now)) }
+    ensures value { result ≡ min n (length items.now) }
 {
-    if n < bytes.len() { n } else { bytes.len() }
+    n.min(items.len())
 }
 
-// The same of numbers.
-pub fn most_numbers(n: usize, numbers: &[i32]) -> usize
-    ensures { (result ≤ length numbers.now) × (result ≡ length (take result numbers.now)) }
-{
-    if n < numbers.len() { n } else { numbers.len() }
+// ---- counting
+
+// The cases that ran and that differed.
+#[derive(Clone, Copy)]
+pub struct Tally {
+    pub ran: u32,
+    pub differed: u32,
 }
 
-// The same of numbers of 16 bits.
-pub fn most_counts(n: usize, counts: &[u16]) -> usize
-    ensures { (result ≤ length counts.now) × (result ≡ length (take result counts.now)) }
+// A count and one more; a thousand million is enough for any file.
+pub fn one_more(count: u32) -> u32
+    ensures { result ≡ min (count + 1) 1000000000 }
 {
-    if n < counts.len() { n } else { counts.len() }
+    count.saturating_add(1).min(1_000_000_000)
 }
 
-// The same of numbers of 32 bits without a sign.
-pub fn most_wide(n: usize, numbers: &[u32]) -> usize
-    ensures { (result ≤ length numbers.now) × (result ≡ length (take result numbers.now)) }
-{
-    if n < numbers.len() { n } else { numbers.len() }
+impl Tally {
+    pub fn new() -> Tally
+        ensures { (result.ran ≡ 0) × (result.differed ≡ 0) }
+    {
+        Tally {
+            ran: 0,
+            differed: 0,
+        }
+    }
+
+    // A case ran, and agrees with what is expected or differs.
+    pub fn count(&mut self, agrees: bool)
+        ensures { (self.new.ran ≡ min (self.old.ran + 1) 1000000000)
+            × (self.new.differed
+            ≡ cond agrees self.old.differed (min (self.old.differed + 1) 1000000000)) }
+    {
+        self.ran = one_more(self.ran);
+        if !agrees {
+            self.differed = one_more(self.differed);
+        }
+    }
+
+    // Says at the end of these cases how many ran and how many differed.
+    pub fn say(self, name: &[u8]) {
+        io::write_all(1, name);
+        io::write_all(1, b": ");
+        io::print_decimal(1, u64::from(self.ran));
+        io::write_all(1, b" ran, ");
+        io::print_decimal(1, u64::from(self.differed));
+        io::write_all(1, b" differed\n");
+    }
+}
+
+// Says of a case that differs where it stands.
+pub fn say_differs(name: &[u8], line: u32) {
+    io::write_all(1, name);
+    io::write_all(1, b":");
+    io::print_decimal(1, u64::from(line));
+    io::write_all(1, b" differs\n");
 }

@@ -13,6 +13,7 @@ use lib.IntN.{ℤ}
 use lib.Signed.{mag}
 use lib.ListN.{length, get_or, take, drop, length-drop, drop_of_length-le}
 use lib.Seq.{drop-cons, take_all, length-take-le, drop-drop}
+use Rattle.std.specs.List.{list_all, prefix_len}
 use Rattle.history.specs.Words.{same, all_of, since, joined, cut_at}
 use Rattle.history.proofs.WordsLaws.{and_left, and_right, cut_at_newest}
 use Rattle.manual.specs.Words.{those}
@@ -25,33 +26,19 @@ use Rattle.transcript.specs.declared.Word.TheVariants.{Number, Unreadable, End}
 -- ---- run
 
 -- the code's test of two Bools
-pub differ : (a b : Bool) → not (beq a b) ≡ true → same b a ≡ false
-differ true true e = sym e
-differ true false e = refl
-differ false true e = refl
-differ false false e = sym e
+like : (k b : Bool) → beq b k ≡ same k b
+like true true = refl
+like true false = refl
+like false true = refl
+like false false = refl
 
-pub agree : (a b : Bool) → not (beq a b) ≡ false → same b a ≡ true
-agree true true e = refl
-agree true false e = sym e
-agree false true e = sym e
-agree false false e = refl
-
--- the loop that counts a run: a turn, the byte that ends the run, the end of the text
-module _ (text : List ℕ) (separators : Bool) (i : ℕ) where
-  pub run_more : i < length text → same separators (is_separator (get_or text i 0)) ≡ true
-      → i + run separators (drop i text) ≡ i + 1 + run separators (drop (i + 1) text)
-  unfolding run
-  run_more h e = rw (drop-cons text i 0 h, e, add-one) (omega arith)
-
-  pub run_stop : i < length text → same separators (is_separator (get_or text i 0)) ≡ false
-      → i + run separators (drop i text) ≡ i
-  unfolding run
-  run_stop h e = rw (drop-cons text i 0 h, e) (add-zero i)
-
-  pub run_end : length text ≤ i → i + run separators (drop i text) ≡ i
-  unfolding run
-  run_end h = rw (drop_of_length-le text {i = i} h) (add-zero i)
+-- the iterator that counts a run
+pub run_counted : (separators : Bool) (text : List ℕ)
+    → prefix_len (λ b. beq (is_separator b) separators) text ≡ run separators text
+unfolding run
+run_counted k [] = refl
+run_counted k (b ∷ text) =
+    rw (like k (is_separator b), run_counted k text) (ap (λ n. cond (same k (is_separator b)) n zero) (omega arith))
 
 pub run_within : (separators : Bool) (text : List ℕ) → run separators text ≤ length text
 unfolding run
@@ -155,18 +142,17 @@ module _ (at : ℕ) (text : List ℕ) where
 
 -- ---- digits
 
--- the loop that looks at each byte: a turn, the byte that fails, the end
+-- the iterator that looks at each byte
+pub all_listed : (p : ℕ → Bool) (l : List ℕ) → list_all p l ≡ all_of p l
+all_listed p [] = refl
+all_listed p (b ∷ l) = ap (λ t. p b && t) (all_listed p l)
+
+-- the loop that takes digit by digit: a turn
 module _ (p : ℕ → Bool) (l : List ℕ) (i : ℕ) where
-  pub all_more : i < length l → p (get_or l i 0) ≡ true → all_of p (drop i l) ≡ all_of p (drop (i + 1) l)
+  all_more : i < length l → p (get_or l i 0) ≡ true → all_of p (drop i l) ≡ all_of p (drop (i + 1) l)
   all_more h e = rw (drop-cons l i 0 h, e, add-one)
 
-  pub all_stop : i < length l → p (get_or l i 0) ≡ false → all_of p (drop i l) ≡ false
-  all_stop h e = rw (drop-cons l i 0 h, e)
-
-  pub all_end : length l ≤ i → all_of p (drop i l) ≡ true
-  all_end h = rw (drop_of_length-le l {i = i} h)
-
-  pub all_here : i < length l → all_of p (drop i l) ≡ true → p (get_or l i 0) ≡ true
+  all_here : i < length l → all_of p (drop i l) ≡ true → p (get_or l i 0) ≡ true
   all_here h e = and_left _ (all_of p (drop (suc i) l)) (rw (drop-cons l i 0 h) at e)
 
 pub digit_least : (b : ℕ) → is_digit b ≡ true → 0x30 ≤ b

@@ -42,33 +42,17 @@ fn is_separator(byte: u8) -> bool
 fn run_end(text: &[u8], at: usize, separators: bool) -> usize
     ensures { result ≡ at + run separators (drop at text.now) }
 {
-    let mut i = at;
-    while i < text.len() {
-        if is_separator(text[i]) != separators {
-            return i;
-        }
-        i += 1;
-    }
-    i
-}
-
-fn is_digit(byte: u8) -> bool
-    ensures { result ≡ is_digit byte }
-{
-    (b'0' <= byte) & (byte <= b'9')
+    at + text
+        .iter()
+        .skip(at)
+        .take_while(|byte| is_separator(**byte) == separators)
+        .count()
 }
 
 fn all_digits(word: &[u8]) -> bool
     ensures { result ≡ all_of is_digit word.now }
 {
-    let mut i = 0;
-    while i < word.len() {
-        if !is_digit(word[i]) {
-            return false;
-        }
-        i += 1;
-    }
-    true
+    word.iter().all(|byte| byte.is_ascii_digit())
 }
 
 // "1 to 9 digits", with document 02's W5 "up to 10"
@@ -92,10 +76,8 @@ fn value_of(digits: &[u8]) -> u64
     ensures { result ≡ worth 0 digits.now }
 {
     let mut n = 0;
-    let mut i = 0;
-    while i < digits.len() {
-        n = with_digit(n, digits[i]);
-        i += 1;
+    for digit in digits {
+        n = with_digit(n, *digit);
     }
     n
 }
@@ -180,10 +162,8 @@ fn put_statuses(buffer: &mut [u8], at: usize, records: &[u8], events: usize) -> 
         ≡ append (flat_map spaced (status_bytes events records.now)) (written at buffer.old) }
 {
     let mut next = at;
-    let mut e = 0;
-    while e < events {
+    for e in 0..events {
         next = put_spaced(buffer, next, records[manual::RECORD_WIDTH * e]);
-        e += 1;
     }
     next
 }

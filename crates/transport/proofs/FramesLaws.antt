@@ -1,15 +1,15 @@
 -- Laws of frames, and of a room that fills from the front. Assumes nothing.
 use mathlib.Core.Path.{◌≡◌, refl, sym, ap, ◌∙◌}
 use mathlib.Core.Bool.{Bool, true, false, ◌&&◌}
-use mathlib.Core.List.{List, [], ◌∷◌, ◌++◌}
-use Prim.Native.Nat.{ℕ, zero, suc, ◌+◌, ◌-◌, ◌/◌, ◌%◌, ◌≤◌, min}
+use mathlib.Core.List.{List, ◌++◌}
+use Prim.Native.Nat.{ℕ, ◌+◌, ◌-◌, ◌/◌, ◌≤◌, min}
 use native.Mathlib.Omega.{arith}
-use lib.ListN.{length, get_or, take, drop, replicate, length-append, length-take, length-drop}
-use lib.ListN.{take-append-drop, length-replicate, drop_of_length-le}
-use lib.Seq.{drop-cons, sets, sets-eq, take_at, drop-append-add, drop-drop, take-add, length-take-le}
+use lib.ListN.{length, take, drop, replicate, length-append, length-take, length-drop}
+use lib.ListN.{take-append-drop, length-replicate}
+use lib.Seq.{sets, sets-eq, take_at, drop-append-add, drop-drop, take-add, length-take-le}
 use lib.Dec.{leb}
 use borrow.Author.Tests.{le-leb, leb-true}
-use Rattle.transport.specs.Frames.{padded, bytes_of, frame, place, last_number, longest, has}
+use Rattle.transport.specs.Frames.{padded, byte, frame, place, last_number, longest, has}
 use Rattle.transport.specs.Frames.{single, first, consecutive}
 
 -- ---- what a test tells
@@ -77,55 +77,36 @@ take_short n xs =
     ap (take (min n (length xs))) (sym (take-append-drop n xs))
     ∙ take_at (take n xs) (drop n xs) (min n (length xs)) (length-take n xs)
 
--- eight bytes are in a frame in their order
-read_from : ℕ → ℕ → List ℕ → List ℕ
-read_from zero i l = []
-read_from (suc n) i l = get_or l i 0 ∷ read_from n (suc i) l
-
-read_from_lem : (n i : ℕ) (l : List ℕ) → i + n ≡ length l → read_from n i l ≡ drop i l
-unfolding read_from
-read_from_lem zero i l e = sym (drop_of_length-le l {i = i} (omega arith))
-read_from_lem (suc n) i l e =
-    ap (λ r. get_or l i 0 ∷ r) (read_from_lem n (suc i) l (omega arith)) ∙ sym (drop-cons l i 0 (omega arith))
-
-pub holds_all : (xs : List ℕ) → length xs ≤ 8 → bytes_of (frame xs) ≡ padded xs
-unfolding read_from padded
-holds_all xs h = read_from_lem 8 0 (padded xs) eight
-  where
-    eight : 0 + 8 ≡ length (padded xs)
-    eight =
-        rw (length-append xs (replicate (8 - length xs) 0), length-replicate {A = ℕ} (8 - length xs) 0) (omega arith)
+-- "8-byte frames"
+pub eight : (xs : List ℕ) → length xs ≤ 8 → length (frame xs).bytes ≡ 8
+unfolding padded
+eight xs h =
+    rw (length-append xs (replicate (8 - length xs) 0), length-replicate {A = ℕ} (8 - length xs) 0) (omega arith)
 
 module _ (m : List ℕ) where
-  pub single_length : (single m).b0 ≡ length m
+  pub single_length : byte (single m) 0 ≡ length m
   unfolding padded
   single_length = refl
 
-  pub first_byte : (first m).b0 ≡ 0x10 + length m / 256
+  pub first_byte : byte (first m) 0 ≡ 0x10 + length m / 256
   unfolding padded
   first_byte = refl
 
-  pub single_body : length m ≤ 7 → take (length m) (drop 1 (bytes_of (single m))) ≡ m
+  pub single_body : length m ≤ 7 → take (length m) (drop 1 (single m).bytes) ≡ m
   unfolding padded
-  single_body h =
-      ap (λ l. take (length m) (drop 1 l)) (holds_all (length m ∷ m) (omega arith)) ∙ take_at m _ (length m) refl
+  single_body h = take_at m _ (length m) refl
 
-  pub first_body : 6 ≤ length m → take 6 (drop 2 (bytes_of (first m))) ≡ take 6 m
+  pub first_body : 6 ≤ length m → take 6 (drop 2 (first m).bytes) ≡ take 6 m
   unfolding padded
-  first_body h =
-      let bytes = (0x10 + length m / 256) ∷ length m % 256 ∷ take 6 m in
-      let short : length bytes ≤ 8 = omega (arith, length-take 6 m) in
-      ap (λ l. take 6 (drop 2 l)) (holds_all bytes short) ∙ take_at (take 6 m) _ 6 (length-take-le 6 m h)
+  first_body h = take_at (take 6 m) _ 6 (length-take-le 6 m h)
 
   -- all of a consecutive frame but its first byte and its zeros
   pub consecutive_body : (k : ℕ)
-      → take (min 7 (length m - place k)) (drop 1 (bytes_of (consecutive m k)))
+      → take (min 7 (length m - place k)) (drop 1 (consecutive m k).bytes)
       ≡ take (min 7 (length m - place k)) (drop (place k) m)
   unfolding padded
   consecutive_body k =
       let part = take 7 (drop (place k) m) in
       let long = min 7 (length m - place k) in
-      let short : length ((0x20 + k % 16) ∷ part) ≤ 8 = omega (arith, length-take 7 (drop (place k) m)) in
-      ap (λ l. take long (drop 1 l)) (holds_all ((0x20 + k % 16) ∷ part) short)
-      ∙ take_at part _ long (length-take 7 (drop (place k) m) ∙ rw length-drop)
+      take_at part _ long (length-take 7 (drop (place k) m) ∙ rw length-drop)
       ∙ sym (take_short 7 (drop (place k) m)) ∙ rw length-drop

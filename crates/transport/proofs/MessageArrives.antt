@@ -16,7 +16,7 @@ use Rattle.transport.specs.declared.Sender.TheVariants.{Waiting, Running}
 use Rattle.transport.specs.declared.Receiver.{Receiver}
 use Rattle.transport.specs.declared.Receiver.TheVariants.{Collecting}
 use Rattle.transport.specs.declared.Stage.TheVariants.{Coming, Arrived, Failed}
-use Rattle.transport.specs.Frames.{padded, bytes_of, single, first, place, consecutive}
+use Rattle.transport.specs.Frames.{padded, byte, single, first, place, consecutive}
 use Rattle.transport.specs.Frames.{last_number, longest, has, control}
 use Rattle.transport.specs.Sending.{allowed, start, flow, controlled, waiting, carries_on, sent, running}
 use Rattle.transport.specs.Receiving.{took, going, asks, announced, takes_single, takes_first, takes_next}
@@ -126,7 +126,7 @@ module _ (block separation waits : ℕ) (m room : List ℕ)
         (took (asks block separation (Collecting (length m) 1 block)) r)) stored
         ∙ in_step false true 0 1 (omega arith) (omega arith) (mixed 6 m room))
       where
-        stored : sets room 0 (take 6 (drop 2 (bytes_of (first m)))) ≡ mixed 6 m room
+        stored : sets room 0 (take 6 (drop 2 (first m).bytes)) ≡ mixed 6 m room
         stored = ap (sets room 0) (first_body m (omega arith)) ∙ mixed_more m room fits 0 6 (omega arith)
 
     -- frame k
@@ -268,16 +268,16 @@ module _ (blocks separations waits : ℕ → ℕ) (m room : List ℕ) where
         go : (b : Bool) → leb (length m) 7 ≡ b → (s : Sender) × (after 1 ≡ exchange s Receiver.Idle Failed room)
         go true e =
             let short = leb-true (length m) 7 e in
-            let low : (single m).b0 < 0x10 = rw (single_length m) (omega arith) in
-            let above : length room < (single m).b0 = rw (single_length m) over in (
+            let low : byte (single m) 0 < 0x10 = rw (single_length m) (omega arith) in
+            let above : length room < byte (single m) 0 = rw (single_length m) over in (
               Sender.Idle,
               ap (once 0) (begins_single least most short)
                   ∙ rw (single_above_room_refused (blocks 0) (separations 0) room (single m) low above),
             )
         go false e =
             let long = leb-false (length m) 7 e in
-            let low : 0x10 ≤ (first m).b0 = rw (first_byte m) (omega arith) in
-            let high : (first m).b0 < 0x20 = rw (first_byte m) (omega arith) in
+            let low : 0x10 ≤ byte (first m) 0 = rw (first_byte m) (omega arith) in
+            let high : byte (first m) 0 < 0x20 = rw (first_byte m) (omega arith) in
             let above : length room < announced (first m) = rw (length_read m most) over in (
               Waiting 1,
               ap (once 0) (begins_first least most long)

@@ -7,14 +7,14 @@ use Prim.Native.Nat.{ℕ, zero, suc, ◌+◌, ◌-◌, ◌≤◌}
 use native.Mathlib.Omega.{arith}
 use lib.ListN.{length}
 use lib.Dec.{eqb, leb}
+use Rattle.std.specs.Prelude.{Some, Ok, option_to_list}
 use borrow.Author.Tests.{le-leb, eqb-true, eqb-false, leb-false}
 use Rattle.transport.specs.declared.CanFrame.{CanFrame}
 use Rattle.transport.specs.declared.Sender.{Sender}
 use Rattle.transport.specs.declared.Sender.TheVariants.{Idle, Waiting, Running}
-use Rattle.transport.specs.declared.Flowed.{Flowed}
 use Rattle.transport.specs.declared.FlowAnswer.TheVariants.{Go, Wait, Aborted}
-use Rattle.transport.specs.Frames.{first, consecutive, last_number, longest, has}
-use Rattle.transport.specs.Sending.{start, flowed, controlled, waiting, carries_on, sent, running}
+use Rattle.transport.specs.Frames.{byte, first, consecutive, last_number, longest, has}
+use Rattle.transport.specs.Sending.{start, Flowed, flowed, controlled, waiting, carries_on, sent, Next, offers, running}
 use Rattle.transport.specs.Segments.{consecutives, segments, Step, controls, asks, after, handed, calm, is_idle}
 use Rattle.transport.specs.Segments.{sender_after, sends}
 use Rattle.transport.proofs.FramesLaws.{has_so}
@@ -30,6 +30,11 @@ one_more whole f xs all h = (h.0, ap (λ l. f ∷ l) h.1, h.2)
 flow_due : (f : CanFrame) (k : ℕ) → has longest k ≡ true → waiting k f ≡ controlled k f
 unfolding waiting
 flow_due f k h = rw h
+
+next_due : (m : List ℕ) (k left : ℕ) → has (length m) k ≡ true
+    → running k left m ≡ offers (Some (consecutive m k)) (sent (length m) k left)
+unfolding running
+next_due m k left h = rw h
 
 module _ (m : List ℕ) where
   -- an idle sender hands over nothing
@@ -55,10 +60,10 @@ module _ (m : List ℕ) where
   refused_flow l s k n false h = (h.0, h.1, λ e. cc)
 
   after_flow : (l : List Step) (f : CanFrame) (k n : ℕ) (a b : Bool) → Before l k n
-      → (let waits = cond b (flowed Wait (Waiting k)) (flowed Aborted Idle) in
-      let s = (cond a (flowed (Go f.b2) (Running k f.b1)) waits).sender in
+      → (let waits = cond b (flowed (Ok Wait) (Waiting k)) (flowed (Ok Aborted) Idle) in
+      let s = (cond a (flowed (Ok (Go (byte f 2))) (Running k (byte f 1))) waits).sender in
       Begins (((a || b) && calm l) && is_idle (after m l s)) (handed m l s) (consecutives m k n))
-  after_flow l f k n true b h = h.1 f.b1
+  after_flow l f k n true b h = h.1 (byte f 1)
   after_flow l f k n false true h = h.0
   after_flow l f k n false false h = (consecutives m k n, rw (idle_stays l), λ e. cc)
 
@@ -96,13 +101,13 @@ module _ (m : List ℕ) where
     -- ---- all steps
 
     before_frame : (l : List Step) (k n : ℕ) → 1 ≤ k → k + n ≡ last → Before l k (suc n)
-    unfolding handed after calm consecutives controlled running
+    unfolding handed after calm consecutives controlled
     before_frame [] k n low sum =
         let all = consecutives m k (suc n) in ((all, refl, λ e. cc), λ left. (all, refl, λ e. cc))
     before_frame (controls f ∷ l) k n low sum =
         let before = before_frame l k n low sum in
-        let go = eqb f.b0 0x30 in
-        let wait = eqb f.b0 0x31 in
+        let go = eqb (byte f 0) 0x30 in
+        let wait = eqb (byte f 0) 0x31 in
         let due = flow_due f k (has_so longest k (omega arith) (omega arith) low (omega arith)) in (
           subst
               (λ (x : Flowed). Begins ((go || wait) && calm l && is_idle (after m l x.sender))
@@ -115,7 +120,10 @@ module _ (m : List ℕ) where
         let before = before_frame l k n low sum in
         let rest = positive l k n (λ n e. before_frame l (k + 1) n (omega arith) e) sum in (
           before.0,
-          λ left. rw due
+          λ left. subst
+              (λ (x : Next). Begins (calm l && is_idle (after m l x.sender))
+              (option_to_list x.frame ++ handed m l x.sender) (consecutives m k (suc n)))
+              (sym (next_due m k left due))
               (one_more _ (consecutive m k) (handed m l (sent (length m) k left)) (consecutives m (k + 1) n)
               (after_frame l k left n low sum rest)),
         )

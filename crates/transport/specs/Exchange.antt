@@ -2,21 +2,20 @@
 -- nothing else arrives, and flow control reaches the sender before it is asked for the next frame; waits (`31`) may
 -- come before it. Assumes nothing.
 use Rattle.std.specs.Prelude.{◌&&◌, cond, List, ◌++◌, ℕ, zero, suc, length, drop, eqb, leb}
+use Rattle.std.specs.Prelude.{Option, Some, None, Result, Ok, Err}
 use Rattle.transport.specs.declared.Sender.{Sender}
 use Rattle.transport.specs.declared.Receiver.{Receiver}
-use Rattle.transport.specs.declared.Started.{Started}
-use Rattle.transport.specs.declared.Flowed.{Flowed}
+use Rattle.transport.specs.declared.CanFrame.{CanFrame}
+use Rattle.transport.specs.declared.Refused.{Refused}
 use Rattle.transport.specs.declared.FlowAnswer.{FlowAnswer}
 use Rattle.transport.specs.declared.FlowAnswer.TheVariants.{Go, Wait, Aborted}
-use Rattle.transport.specs.declared.Next.{Next}
-use Rattle.transport.specs.declared.Next.TheVariants.{Nothing}
 use Rattle.transport.specs.declared.TakeAnswer.{TakeAnswer}
 use Rattle.transport.specs.declared.TakeAnswer.TheVariants.{Going, Control, Complete}
 use Rattle.transport.specs.declared.Stage.{Stage}
 use Rattle.transport.specs.declared.Stage.TheVariants.{Coming, Arrived, Failed}
 use Rattle.transport.specs.declared.Line.{Line}
 use Rattle.transport.specs.Frames.{pause}
-use Rattle.transport.specs.Sending.{allowed, start, flow, next_frame}
+use Rattle.transport.specs.Sending.{allowed, start, Flowed, flow, Next, next_frame}
 use Rattle.transport.specs.Receiving.{Took, take_frame}
 
 -- both ends, how far it is, and the receiver's room
@@ -42,30 +41,33 @@ waited (suc n) s = waited n (flow s pause).sender
 -- due makes it fail
 
 -- the frame that the sender hands over goes on the line
-unfoldable pub offered : Next → Sender → Receiver → Line
-offered (Next.Send f after) s r = joined after r (Coming f)
-offered Nothing s r = joined s r Failed
+unfoldable pub offered : Option CanFrame → Sender → Receiver → Line
+offered (Some f) s r = joined s r (Coming f)
+offered None s r = joined s r Failed
+
+abbrev pub offered_by : Next → Receiver → Line
+offered_by x r = offered x.frame x.sender r
 
 abbrev pub asked : List ℕ → Sender → Receiver → Line
-asked m s r = offered (next_frame s m) s r
+asked m s r = offered_by (next_frame s m) r
 
 module _ (separation : ℕ) (m : List ℕ) where
   -- "The separation time is passed up to the driver.": only that of the receiver
-  unfoldable pub told_by : FlowAnswer → Sender → Receiver → Line
-  told_by (Go time) s r = cond (eqb time separation) (asked m s r) (joined s r Failed)
-  told_by Wait s r = joined s r Failed
-  told_by Aborted s r = joined s r Failed
-  told_by FlowAnswer.Refused s r = joined s r Failed
+  unfoldable pub told_by : Result FlowAnswer Refused → Sender → Receiver → Line
+  told_by (Ok (Go time)) s r = cond (eqb time separation) (asked m s r) (joined s r Failed)
+  told_by (Ok Wait) s r = joined s r Failed
+  told_by (Ok Aborted) s r = joined s r Failed
+  told_by (Err e) s r = joined s r Failed
 
   abbrev pub told : Flowed → Receiver → Line
   told x r = told_by x.answer x.sender r
 
   -- flow control goes to the sender, behind so many that say wait
-  unfoldable pub answered_by : ℕ → Sender → TakeAnswer → Receiver → Line
-  answered_by waits s Going r = asked m s r
-  answered_by waits s (Control f) r = told (flow (waited waits s) f) r
-  answered_by waits s (Complete size) r = joined s r (Arrived size)
-  answered_by waits s TakeAnswer.Refused r = joined s r Failed
+  unfoldable pub answered_by : ℕ → Sender → Result TakeAnswer Refused → Receiver → Line
+  answered_by waits s (Ok Going) r = asked m s r
+  answered_by waits s (Ok (Control f)) r = told (flow (waited waits s) f) r
+  answered_by waits s (Ok (Complete size)) r = joined s r (Arrived size)
+  answered_by waits s (Err e) r = joined s r Failed
 
   abbrev pub answered : ℕ → Sender → Took → Exchange
   answered waits s t = on_line (answered_by waits s t.taken.answer t.taken.receiver) t.room
@@ -81,9 +83,9 @@ turn block separation waits m x =
 
 -- ---- all turns
 
-abbrev pub begun_by : Started → Line
-begun_by (Started.Send f s) = joined s Receiver.Idle (Coming f)
-begun_by Started.Refused = joined Sender.Idle Receiver.Idle Failed
+abbrev pub begun_by : Result (CanFrame × Sender) Refused → Line
+begun_by (Ok (f, s)) = joined s Receiver.Idle (Coming f)
+begun_by (Err e) = joined Sender.Idle Receiver.Idle Failed
 
 -- the sender starts, and the receiver is idle
 unfoldable pub begun : List ℕ → List ℕ → Exchange

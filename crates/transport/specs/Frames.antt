@@ -1,22 +1,14 @@
 -- Document 02, W13: "ISO 15765-2 segmenting with 8-byte frames, normal addressing, unused bytes zero". Assumes nothing.
 use Rattle.std.specs.Prelude.{Bool, ◌&&◌, List, [], ◌∷◌, ◌++◌, ℕ, ◌+◌, ◌-◌, ◌*◌, ◌/◌, ◌%◌, length, get_or, take, drop, replicate, leb}
 use Rattle.transport.specs.declared.CanFrame.{CanFrame}
+use Rattle.transport.specs.declared.Refused.{Refused}
 
--- "8-byte frames": a frame's bytes, and the frame of eight bytes
-abbrev pub bytes_of : CanFrame → List ℕ
-bytes_of f = f.b0 ∷ f.b1 ∷ f.b2 ∷ f.b3 ∷ f.b4 ∷ f.b5 ∷ f.b6 ∷ f.b7 ∷ []
-
+-- "8-byte frames": the frame of eight bytes, and a frame's byte at a place
 abbrev pub frame_of : List ℕ → CanFrame
-frame_of l = record {
-  b0 = get_or l 0 0;
-  b1 = get_or l 1 0;
-  b2 = get_or l 2 0;
-  b3 = get_or l 3 0;
-  b4 = get_or l 4 0;
-  b5 = get_or l 5 0;
-  b6 = get_or l 6 0;
-  b7 = get_or l 7 0;
-}
+frame_of l = record { bytes = l }
+
+abbrev pub byte : CanFrame → ℕ → ℕ
+byte f i = get_or f.bytes i 0
 
 -- "unused bytes zero"
 unfoldable pub padded : List ℕ → List ℕ
@@ -56,6 +48,10 @@ has size k = leb 8 size && leb size longest && leb 1 k && leb k (last_number siz
 -- "Flow control `30`, block size, separation time"
 abbrev pub control : ℕ → ℕ → CanFrame
 control block separation = frame (0x30 ∷ block ∷ separation ∷ [])
+
+-- "All these are new number 13"
+abbrev pub thirteen : Refused
+thirteen = record {}
 
 -- "`31` waits"
 abbrev pub pause : CanFrame

@@ -1,11 +1,10 @@
 -- Document 02, W13: the frames of a message, and those that a sender hands over. Assumes nothing.
 use Rattle.std.specs.Prelude.{Bool, true, false, ◌&&◌, ◌||◌, cond, List, [], ◌∷◌, ◌++◌, ℕ, zero, suc, ◌+◌, length, eqb, leb}
+use Rattle.std.specs.Prelude.{Result, Ok, Err, option_to_list}
 use Rattle.transport.specs.declared.CanFrame.{CanFrame}
 use Rattle.transport.specs.declared.Sender.{Sender}
-use Rattle.transport.specs.declared.Started.{Started}
-use Rattle.transport.specs.declared.Next.{Next}
-use Rattle.transport.specs.declared.Next.TheVariants.{Nothing}
-use Rattle.transport.specs.Frames.{single, first, consecutive, last_number}
+use Rattle.transport.specs.declared.Refused.{Refused}
+use Rattle.transport.specs.Frames.{byte, single, first, consecutive, last_number}
 use Rattle.transport.specs.Sending.{start, flow, next_frame}
 
 -- ---- the frames of a message
@@ -31,24 +30,15 @@ pub data Step : Type 0 where
   controls : CanFrame → Step
   asks : Step
 
--- the frame that is handed over, and where the sender stands then
-abbrev pub frame_in : Next → List CanFrame
-frame_in (Next.Send f s) = f ∷ []
-frame_in Nothing = []
-
-abbrev pub stands_at : Next → Sender → Sender
-stands_at (Next.Send f s) before = s
-stands_at Nothing before = before
-
 module _ (m : List ℕ) where
-  -- the sender after a step
+  -- the sender after a step, and the frame that is handed over in it
   abbrev pub stepped : Step → Sender → Sender
   stepped (controls f) s = (flow s f).sender
-  stepped asks s = stands_at (next_frame s m) s
+  stepped asks s = (next_frame s m).sender
 
   abbrev pub handed_at : Step → Sender → List CanFrame
   handed_at (controls f) s = []
-  handed_at asks s = frame_in (next_frame s m)
+  handed_at asks s = option_to_list (next_frame s m).frame
 
   -- the sender after these steps, the first of them first, and the frames that it handed over, in their order
   unfoldable pub after : List Step → Sender → Sender
@@ -60,13 +50,13 @@ module _ (m : List ℕ) where
   handed (x ∷ l) s = handed_at x s ++ handed l (stepped x s)
 
   -- the same from the start of the message on
-  abbrev pub sender_of : Started → Sender
-  sender_of (Started.Send f s) = s
-  sender_of Started.Refused = Sender.Idle
+  abbrev pub sender_of : Result (CanFrame × Sender) Refused → Sender
+  sender_of (Ok (f, s)) = s
+  sender_of (Err e) = Sender.Idle
 
-  abbrev pub frame_of_start : Started → List CanFrame
-  frame_of_start (Started.Send f s) = f ∷ []
-  frame_of_start Started.Refused = []
+  abbrev pub frame_of_start : Result (CanFrame × Sender) Refused → List CanFrame
+  frame_of_start (Ok (f, s)) = f ∷ []
+  frame_of_start (Err e) = []
 
   abbrev pub sender_after : List Step → Sender
   sender_after l = after l (sender_of (start m))
@@ -82,5 +72,5 @@ is_idle (Sender.Running k left) = false
 -- every frame that is given as flow control begins with `30` or `31`: "`32` or any other first byte aborts"
 unfoldable pub calm : List Step → Bool
 calm [] = true
-calm (controls f ∷ l) = (eqb f.b0 0x30 || eqb f.b0 0x31) && calm l
+calm (controls f ∷ l) = (eqb (byte f 0) 0x30 || eqb (byte f 0) 0x31) && calm l
 calm (asks ∷ l) = calm l

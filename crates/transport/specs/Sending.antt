@@ -1,15 +1,13 @@
 -- Document 02, W13: what the calls of a sender do, whatever sender, message and frame they are given. Assumes nothing.
 use Rattle.std.specs.Prelude.{Bool, ◌&&◌, cond, List, ℕ, ◌+◌, ◌-◌, length, eqb, leb}
+use Rattle.std.specs.Prelude.{Option, Some, None, Result, Ok, Err}
 use Rattle.transport.specs.declared.CanFrame.{CanFrame}
 use Rattle.transport.specs.declared.Sender.{Sender}
 use Rattle.transport.specs.declared.Sender.TheVariants.{Idle, Waiting, Running}
-use Rattle.transport.specs.declared.Started.{Started}
-use Rattle.transport.specs.declared.Flowed.{Flowed}
+use Rattle.transport.specs.declared.Refused.{Refused}
 use Rattle.transport.specs.declared.FlowAnswer.{FlowAnswer}
 use Rattle.transport.specs.declared.FlowAnswer.TheVariants.{Go, Wait, Aborted}
-use Rattle.transport.specs.declared.Next.{Next}
-use Rattle.transport.specs.declared.Next.TheVariants.{Nothing}
-use Rattle.transport.specs.Frames.{single, first, consecutive, last_number, longest, has}
+use Rattle.transport.specs.Frames.{byte, single, first, consecutive, last_number, longest, has, thirteen}
 
 -- ---- start
 
@@ -18,35 +16,48 @@ abbrev pub allowed : ℕ → Bool
 allowed size = leb 1 size && leb size longest
 
 -- "Up to 7 bytes go in a single frame (`0N`); 8 to 4,095 in a first frame": behind it flow control is due
-unfoldable pub start : List ℕ → Started
+unfoldable pub start : List ℕ → Result (CanFrame × Sender) Refused
 start m =
     cond (allowed (length m))
-    (cond (leb (length m) 7) (Started.Send (single m) Idle) (Started.Send (first m) (Waiting 1)))
-    Started.Refused
+    (cond (leb (length m) 7) (Ok (single m, Idle)) (Ok (first m, Waiting 1)))
+    (Err thirteen)
 
 -- ---- flow control
 
-abbrev pub flowed : FlowAnswer → Sender → Flowed
+-- what flow control is answered, and where the sender then stands
+pub record Flowed : Type 0 where
+  pub answer : Result FlowAnswer Refused
+  pub sender : Sender
+
+abbrev pub flowed : Result FlowAnswer Refused → Sender → Flowed
 flowed answer s = record { answer = answer; sender = s }
 
 -- "Flow control `30`, block size, separation time; `31` waits, `32` or any other first byte aborts"; "The separation
 -- time is passed up to the driver."
 unfoldable pub controlled : ℕ → CanFrame → Flowed
 controlled k f =
-    cond (eqb f.b0 0x30) (flowed (Go f.b2) (Running k f.b1))
-    (cond (eqb f.b0 0x31) (flowed Wait (Waiting k)) (flowed Aborted Idle))
+    cond (eqb (byte f 0) 0x30) (flowed (Ok (Go (byte f 2))) (Running k (byte f 1)))
+    (cond (eqb (byte f 0) 0x31) (flowed (Ok Wait) (Waiting k)) (flowed (Ok Aborted) Idle))
 
 -- it is due before a frame that some message has
 unfoldable pub waiting : ℕ → CanFrame → Flowed
-waiting k f = cond (has longest k) (controlled k f) (flowed FlowAnswer.Refused (Waiting k))
+waiting k f = cond (has longest k) (controlled k f) (flowed (Err thirteen) (Waiting k))
 
 -- "A sender takes flow control only when it is due, any other state refuses it."
 abbrev pub flow : Sender → CanFrame → Flowed
-flow Idle f = flowed FlowAnswer.Refused Idle
+flow Idle f = flowed (Err thirteen) Idle
 flow (Waiting k) f = waiting k f
-flow (Running k left) f = flowed FlowAnswer.Refused (Running k left)
+flow (Running k left) f = flowed (Err thirteen) (Running k left)
 
 -- ---- the next frame
+
+-- the frame that is to be sent, if one is due, and where the sender then stands
+pub record Next : Type 0 where
+  pub frame : Option CanFrame
+  pub sender : Sender
+
+abbrev pub offers : Option CanFrame → Sender → Next
+offers f s = record { frame = f; sender = s }
 
 -- frame k comes next, behind one before which so many were left of the block: "block size 0 asks for no further flow
 -- control"
@@ -59,10 +70,13 @@ sent size k left = cond (eqb k (last_number size)) Idle (carries_on (k + 1) left
 
 -- "then consecutive frames", of those that the message has
 unfoldable pub running : ℕ → ℕ → List ℕ → Next
-running k left m = cond (has (length m) k) (Next.Send (consecutive m k) (sent (length m) k left)) Nothing
+running k left m =
+    cond (has (length m) k)
+    (offers (Some (consecutive m k)) (sent (length m) k left))
+    (offers None (Running k left))
 
 -- where nothing is due the sender stands as before
 abbrev pub next_frame : Sender → List ℕ → Next
-next_frame Idle m = Nothing
-next_frame (Waiting k) m = Nothing
+next_frame Idle m = offers None Idle
+next_frame (Waiting k) m = offers None (Waiting k)
 next_frame (Running k left) m = running k left m

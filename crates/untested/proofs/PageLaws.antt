@@ -4,25 +4,24 @@ use mathlib.Core.Path.{◌≡◌, refl, sym, ap, ◌∙◌}
 use mathlib.Core.Logic.{◌≢◌, ◌⊎◌, inl, inr, ⊎_elim}
 use mathlib.Core.Bool.{Bool, true, false, cond}
 use mathlib.Core.List.{List, [], ◌∷◌}
-use Prim.Native.Nat.{ℕ, zero, suc, ◌+◌, ◌*◌, ◌/◌, ◌%◌, ◌≤◌, ◌<◌}
+use Prim.Native.Nat.{ℕ, zero, suc, ◌+◌, ◌-◌, ◌*◌, ◌/◌, ◌%◌, ◌≤◌, ◌<◌}
 use native.Mathlib.Nat.{eq-or-lt_of_le}
 use native.Mathlib.Omega.{arith}
 use lib.Dec.{eqb, ltb}
 use lib.IntN.{ℤ}
-use lib.ListN.{length, get_or, set, replicate, get_or-replicate}
-use lib.Seq.{ext_get_or, get_or-set_same, get_or-set_other}
+use lib.ListN.{length, get_or, set, take, drop, replicate, get_or-replicate, length-drop}
+use lib.Seq.{ext_get_or, get_or-set_same, get_or-set_other, length-take-le}
+use borrow.Rule.Slice.PartMut.{put_mid}
+use Rattle.std.proofs.lemmas.List.{get_or-take, get_or-drop}
+use Rattle.std.proofs.lemmas.Slice.{take-put_mid_below, between-put_mid, drop-put_mid}
 use borrow.Author.Tests.{eq-eqb, ne_eqb, ltb-true, ltb-false, not-false}
+use Rattle.std.specs.Prelude.{Ok, Err}
 use Rattle.history.specs.StatusByte.{Bit, test_failed, test_failed_this_operation_cycle, pending_dtc, confirmed_dtc, weight}
 use Rattle.history.specs.StatusByte.{test_not_completed_since_last_clear, test_failed_since_last_clear}
 use Rattle.history.specs.StatusByte.{test_not_completed_this_operation_cycle, warning_indicator_requested}
 use Rattle.history.proofs.StatusByteLaws.{each_bit}
-use Rattle.manual.specs.declared.Answer.{Answer}
-use Rattle.manual.specs.declared.Answer.TheVariants.{Done}
 use Rattle.manual.specs.declared.Board.{Board}
-use Rattle.manual.specs.declared.LengthAnswer.TheVariants.{Written}
 use Rattle.manual.specs.declared.Paint.{Paint}
-use Rattle.manual.specs.declared.PaintAnswer.{PaintAnswer}
-use Rattle.manual.specs.declared.PaintAnswer.TheVariants.{Painted}
 use Rattle.manual.specs.declared.Refusal.{Refusal}
 use Rattle.manual.specs.Words.{count_below}
 use Rattle.manual.specs.Configuration.{Configuration, events, cycle_of, config_ok}
@@ -33,7 +32,7 @@ use Rattle.manual.specs.Calls.{begins, no_such_event}
 use Rattle.manual.specs.Replies.{bit_at}
 use Rattle.manual.specs.Untested.{bit_number, place_in, counts, count_of, table, is_grey, paint_of, grey_events}
 use Rattle.manual.specs.Untested.{read_table_rules, read_table, read_paint_rules, read_paint, list_grey_rules, listed, list_grey}
-use Rattle.manual.specs.Untested.{no_counts, tabled, table_read, painted, paint_read}
+use Rattle.manual.specs.Untested.{tabled, table_read, painted, paint_read}
 use Rattle.manual.proofs.AnswersLaws.{none_applies, goes_through, stops_with}
 use Rattle.manual.proofs.OneOutcomeOnly.{not_done}
 use Rattle.manual.proofs.ConfigurationLaws.{config_tells}
@@ -96,34 +95,78 @@ left_lowest byte k rest l = let e : k + 0 ≡ k = omega arith in l 0 ∙ ap (λ 
 
 -- ---- a row that rises
 
-module _ (at byte : ℕ) (before : List ℕ) where
-  pub risen_none : Risen at byte 0 before before
-  risen_none = record { counted = λ j h. absurd (omega (arith, h)); others = λ i h. refl }
+-- its first k counts have risen by the bits of the byte, and the others are as before
+pub record Row (byte k : ℕ) (before after : List ℕ) : Type 0 where
+  pub counted : (j : ℕ) → j < k → get_or after j 0 ≡ get_or before j 0 + bit_at j byte
+  pub others : (j : ℕ) → k ≤ j → get_or after j 0 ≡ get_or before j 0
+
+pub row_none : (byte : ℕ) (before : List ℕ) → Row byte 0 before before
+row_none byte before = record { counted = λ j h. absurd (omega (arith, h)); others = λ j h. refl }
+
+pub row_more : (byte k rest : ℕ) (before after : List ℕ) → Row byte k before after → Left byte k rest → k < length after
+    → Row byte (k + 1) before (set after k (get_or after k 0 + rest % 2))
+row_more byte k rest before after r l h = record {
+  counted = λ j below. ⊎_elim (λ (q : j ≡ k). rw q here)
+      (λ (q : j < k). get_or-set_other after k j new 0 (λ e. absurd (omega arith)) ∙ r.counted j q)
+      (eq-or-lt_of_le (let b = below in omega arith));
+  others = λ j above. get_or-set_other after k j new 0 (λ e. absurd (omega (arith, above)))
+      ∙ r.others j (omega (arith, above));
+}
+  where
+    new : ℕ
+    new = get_or after k 0 + rest % 2
+
+    here : get_or (set after k new) k 0 ≡ get_or before k 0 + bit_at k byte
+    here =
+        get_or-set_same after k new 0 h ∙ (λ i. r.others k (omega arith) i + left_lowest byte k rest l i)
+
+-- the row that begins at `at`
+module _ (at : ℕ) (table : List ℕ) where
+  row_read : (j : ℕ) → j < 8 → get_or (take 8 (drop at table)) j 0 ≡ get_or table (at + j) 0
+  row_read j h = get_or-take 8 (drop at table) j 0 h ∙ get_or-drop at table j 0
+
+  pub row_long : at + 8 ≤ length table → length (take (at + 8 - at) (drop at table)) ≡ 8
+  row_long h =
+      let eight : at + 8 - at ≡ 8 = omega arith in
+      rw eight (length-take-le 8 (drop at table) (omega (arith, h, length-drop at table)))
 
   -- a count that has not yet risen
-  pub not_yet : (k : ℕ) (after : List ℕ) → Risen at byte k before after → RowFits at before → k < 8
-      → get_or after (at + k) 0 < 65535
-  not_yet k after r fits h = rw (r.others (at + k) (inr (omega arith))) (fits.below k h)
+  pub row_not_yet : (byte k : ℕ) (row : List ℕ) → RowFits at table → Row byte k (take 8 (drop at table)) row → k < 8
+      → get_or row k 0 < 65535
+  row_not_yet byte k row fits r h = rw (r.others k (omega arith), row_read k h) (fits.below k h)
 
-  pub risen_more : (k rest : ℕ) (after : List ℕ) → Risen at byte k before after → Left byte k rest
-      → at + k < length after
-      → Risen at byte (k + 1) before (set after (at + k) (get_or after (at + k) 0 + rest % 2))
-  risen_more k rest after r l h = record {
-    counted = λ j below. ⊎_elim (λ (q : j ≡ k). rw q here)
-        (λ (q : j < k). get_or-set_other after (at + k) (at + j) new 0 (λ e. absurd (omega arith)) ∙ r.counted j q)
-        (eq-or-lt_of_le (let b = below in omega arith));
-    others = λ i where-it-is. get_or-set_other after (at + k) i new 0
-        (λ e. ⊎_elim (λ q. absurd (omega arith)) (λ q. absurd (omega arith)) where-it-is)
-        ∙ r.others i (⊎_elim inl (λ q. inr (omega (arith, q))) where-it-is);
+  -- the row put back
+  pub row_put : (byte : ℕ) (row : List ℕ) → at + 8 ≤ length table → length row ≡ 8
+      → Row byte 8 (take 8 (drop at table)) row
+      → Risen at byte 8 table (put_mid at 8 table row)
+  row_put byte row h l r = record {
+    counted = λ j b. within j b ∙ r.counted j b ∙ ap (λ (k : ℕ). k + bit_at j byte) (row_read j b);
+    others = λ i where-it-is. ⊎_elim (before i) (behind i) where-it-is;
   }
     where
-      new : ℕ
-      new = get_or after (at + k) 0 + rest % 2
+      all : List ℕ
+      all = put_mid at 8 table row
 
-      here : get_or (set after (at + k) new) (at + k) 0 ≡ get_or before (at + k) 0 + bit_at k byte
-      here =
-          get_or-set_same after (at + k) new 0 h
-          ∙ (λ i. r.others (at + k) (inr (omega arith)) i + left_lowest byte k rest l i)
+      before : (i : ℕ) → i < at → get_or all i 0 ≡ get_or table i 0
+      before i b =
+          sym (get_or-take at all i 0 b)
+          ∙ ap (λ (z : List ℕ). get_or z i 0) (take-put_mid_below at 8 table row at (omega arith) (omega (arith, h)))
+          ∙ get_or-take at table i 0 b
+
+      within : (j : ℕ) → j < 8 → get_or all (at + j) 0 ≡ get_or row j 0
+      within j b =
+          sym (get_or-take (at + 8 - at) (drop at all) j 0 (omega (arith, b)) ∙ get_or-drop at all j 0)
+          ∙ ap (λ (z : List ℕ). get_or z j 0)
+          (between-put_mid at 8 table row (at + 8) (omega (arith, h)) (omega (arith, l)))
+
+      behind : (i : ℕ) → at + 8 ≤ i → get_or all i 0 ≡ get_or table i 0
+      behind i b =
+          let e : i ≡ i + 0 = omega arith in
+          ap (λ (k : ℕ). get_or all k 0) e
+          ∙ sym (get_or-drop i all 0 0)
+          ∙ ap (λ (z : List ℕ). get_or z 0 0) (drop-put_mid at 8 table row i b (omega (arith, h)) l)
+          ∙ get_or-drop i table 0 0
+          ∙ ap (λ (k : ℕ). get_or table k 0) (sym e)
 
 -- ---- the counts, event by event
 
@@ -247,15 +290,15 @@ one_written x at list = refl
 module _ (cfg : Configuration) (s : State) where
   -- read table, where 2 and 3 do not apply, and where one does
   pub table_is : {counts : List ℕ} → first_that_applies (begins cfg s true []) ≡ 0 → counts ≡ table cfg s
-      → table_told (record { answer = Done; counts = counts }) s ≡ table_read cfg alone s
+      → table_told (Ok counts) s ≡ table_read cfg alone s
   unfolding table_read read_table read_table_rules
   table_is z q = let o = sym (goes_through _ alone s _ z) in (λ i. tabled (o i) (q i))
 
   pub table_refused : (r : Refusal) → number_of r ≡ first_that_applies (begins cfg s true [])
-      → table_told (record { answer = Answer.Refused r; counts = no_counts }) s ≡ table_read cfg alone s
+      → table_told (Err r) s ≡ table_read cfg alone s
   unfolding table_read read_table read_table_rules
   table_refused r q =
-      let here : table_told (record { answer = Answer.Refused r; counts = no_counts }) s
+      let here : table_told (Err r) s
       ≡ tabled (refused (number_of r) alone s) (table cfg s) =
       rw (not_done r) in
       here ∙ ap (λ (o : Outcome). tabled o (table cfg s)) (stops_with _ alone s _ r q)
@@ -271,17 +314,17 @@ module _ (cfg : Configuration) (s : State) where
 
   pub paint_is_lem : (e : ℕ) {paint : Paint} → first_that_applies (begins cfg s true (four (no_such_event cfg e))) ≡ 0
       → paint ≡ paint_of cfg (held cfg s) e
-      → paint_told (Painted paint) s ≡ paint_read cfg e alone s
+      → paint_told (Ok paint) s ≡ paint_read cfg e alone s
   unfolding paint_read read_paint read_paint_rules
   paint_is_lem e z q =
       let o = sym (goes_through _ alone s _ z) in let p = q ∙ sym (paint_in_lem cfg s e) in (λ i. painted (o i) (p i))
 
   pub paint_refused : (e : ℕ) (r : Refusal)
       → number_of r ≡ first_that_applies (begins cfg s true (four (no_such_event cfg e)))
-      → paint_told (PaintAnswer.Refused r) s ≡ paint_read cfg e alone s
+      → paint_told (Err r) s ≡ paint_read cfg e alone s
   unfolding paint_read read_paint read_paint_rules
   paint_refused e r q =
-      let here : paint_told (PaintAnswer.Refused r) s ≡ painted (refused (number_of r) alone s) (paint_of cfg s e) =
+      let here : paint_told (Err r) s ≡ painted (refused (number_of r) alone s) (paint_of cfg s e) =
       rw (not_done r) in
       here ∙ ap (λ (o : Outcome). painted o (paint_of cfg s e)) (stops_with _ alone s _ r q)
 
@@ -298,9 +341,9 @@ module _ (cfg : Configuration) (s : State) where
     }
 
     pub list_done : {size : ℕ} {after : List ℕ} → written size after ≡ filled (grey_events cfg (held cfg s)) list
-        → leaves (of_length (Written size)) [] (lent_room after) s ≡ list_grey cfg (lent_room list) s
+        → leaves (of_length (Ok size)) [] (lent_room after) s ≡ list_grey cfg (lent_room list) s
     unfolding list_grey filled
     list_done e =
-        ap (λ (w : writing.Written). leaves (of_length (Written w.next)) [] (lent_room w.room) s) e
+        ap (λ (w : writing.Written). leaves (of_length (Ok w.next)) [] (lent_room w.room) s) e
         ∙ ap (λ (l : List ℕ). listed cfg l (lent_room list) s) (sym (list_in cfg s))
         ∙ sym (goes_through _ (lent_room list) s _ z)

@@ -1,15 +1,17 @@
 -- What the functions of this crate ask and answer, in the words of the manual's specs/Untested.antt. Assumes nothing.
 use Rattle.std.specs.Prelude.{◌≡◌, ◌⊎◌, true, false, cond, List, [], ◌∷◌, ℕ, ◌+◌, ◌*◌, ◌≤◌, ◌<◌, length, get_or}
+use Rattle.std.specs.Prelude.{Result, Ok, Err}
 use Rattle.history.specs.StatusByte.{Bit}
 use Rattle.manual.specs.declared.Board.{Board}
-use Rattle.manual.specs.declared.TableReturned.{TableReturned}
-use Rattle.manual.specs.declared.PaintAnswer.{PaintAnswer}
+use Rattle.manual.specs.declared.Paint.{Paint}
+use Rattle.manual.specs.declared.Refusal.{Refusal}
+use Rattle.manual.specs.declared.Verdict.TheVariants.{None}
 use Rattle.manual.specs.Words.{count_below}
 use Rattle.manual.specs.Configuration.{Configuration, events, config_ok}
 use Rattle.manual.specs.State.{State, record_width, lent, all_stopped}
-use Rattle.manual.specs.Answers.{alone, of_answer, of_paint, paint_answered, leaves}
+use Rattle.manual.specs.Answers.{alone, number_answered, answered, of_paint, paint_answered, leaves}
 use Rattle.manual.specs.Replies.{bit_at}
-use Rattle.manual.specs.Untested.{place_in, counts, is_grey, grey_events, TableRead, PaintRead}
+use Rattle.manual.specs.Untested.{place_in, counts, is_grey, grey_events, no_counts, TableRead, PaintRead}
 use Rattle.config.specs.Rows.{RowWithin}
 use Rattle.judgement.specs.Fits.{RecordsFor}
 
@@ -70,8 +72,14 @@ module _ (cfg : Configuration) where
 
 -- ---- what an answer says of a state that is left as found
 
-abbrev pub table_told : TableReturned → State → TableRead
-table_told r s = record { outcome = leaves (of_answer r.answer) [] alone s; counts = r.counts }
+-- "any status, count or length it answers is 0": so are all counts beside a refusal
+abbrev pub counts_answered : Result (List ℕ) Refusal → List ℕ
+counts_answered (Ok counts) = counts
+counts_answered (Err r) = no_counts
 
-abbrev pub paint_told : PaintAnswer → State → PaintRead
+abbrev pub table_told : Result (List ℕ) Refusal → State → TableRead
+table_told a s =
+    record { outcome = leaves (answered (number_answered a) None 0) [] alone s; counts = counts_answered a }
+
+abbrev pub paint_told : Result Paint Refusal → State → PaintRead
 paint_told a s = record { outcome = leaves (of_paint a) [] alone s; paint = paint_answered a }

@@ -6,6 +6,7 @@ ghost use Rattle.std.specs.Prelude.{◌≡◌, true, List, [], ◌∷◌, ℕ, �
 ghost use Rattle.manual.specs.declared.Board.{Board};
 ghost use Rattle.manual.specs.Configuration.{config_ok};
 ghost use Rattle.manual.specs.State.{lent};
+ghost use Rattle.manual.specs.Lent.{as_found};
 ghost use Rattle.manual.specs.Answers.{alone, lent_room, ◌if◌, first_that_applies, of_length, leaves};
 ghost use Rattle.manual.specs.Untested.{table, is_grey, paint_of, grey_events, table_read, paint_read};
 ghost use Rattle.manual.specs.Untested.{list_grey_rules, list_grey};
@@ -15,10 +16,7 @@ ghost use Rattle.writing.specs.Writing.{written, append, filled};
 ghost use Rattle.untested.specs.Page.{RowFits, Risen, OneMore, CountsBelow, holding, if_grey, EventWithin};
 ghost use Rattle.untested.specs.Page.{MayWrite, MayList, table_told, paint_told};
 
-use judgement::Check;
-use manual::{
-    Answer, Board, EventNumber, LengthAnswer, Paint, PaintAnswer, Refusal, TableReturned,
-};
+use manual::{Board, EventNumber, Lent, Paint, Refusal};
 use status::Status;
 
 // ---- the table
@@ -32,10 +30,9 @@ fn count_bits(counts: &mut [u16], at: usize, byte: u8)
     ensures { Risen at byte 8 counts.old counts.new }
 {
     let mut rest = byte;
-    for bit in 0..manual::BITS {
-        let place = at + bit;
-        counts[place] = counts[place] + (rest % 2) as u16;
-        rest = rest / 2;
+    for count in counts[at..at + manual::BITS].iter_mut() {
+        *count += (rest % 2) as u16;
+        rest /= 2;
     }
 }
 
@@ -65,27 +62,13 @@ pub fn table_of(cfg: &[i32], records: &[u8]) -> [u16; COUNTS]
 }
 
 // Read table: 2, 3. A refusal answers no count.
-pub fn read_table(
-    cfg: &[i32],
-    records: &[u8],
-    debounce: &[i32],
-    memory: &[u8],
-    board: Board,
-) -> TableReturned
-    ensures { table_told result (lent records.now debounce.now memory.now board)
+pub fn read_table(cfg: &[i32], state: &Lent) -> Result<[u16; COUNTS], Refusal>
+    ensures { table_told result (as_found state.now)
         ≡ table_read cfg.now alone
-        (lent records.now debounce.now memory.now board) }
+        (as_found state.now) }
 {
-    match judgement::begin(cfg, records, debounce, memory, board, true) {
-        Check::Go => TableReturned {
-            answer: Answer::Done,
-            counts: table_of(cfg, records),
-        },
-        Check::Stop(refusal) => TableReturned {
-            answer: Answer::Refused(refusal),
-            counts: [0; COUNTS],
-        },
-    }
+    judgement::begin(cfg, state, true)?;
+    Ok(table_of(cfg, state.records))
 }
 
 // ---- the paint
@@ -116,22 +99,13 @@ pub fn paint_of(cfg: &[i32], records: &[u8], board: Board, event: EventNumber) -
 }
 
 // Read paint: 2, 3, 4. A refusal paints grey.
-pub fn read_paint(
-    cfg: &[i32],
-    records: &[u8],
-    debounce: &[i32],
-    memory: &[u8],
-    board: Board,
-    event: EventNumber,
-) -> PaintAnswer
-    ensures { paint_told result (lent records.now debounce.now memory.now board)
+pub fn read_paint(cfg: &[i32], state: &Lent, event: EventNumber) -> Result<Paint, Refusal>
+    ensures { paint_told result (as_found state.now)
         ≡ paint_read cfg.now event.0 alone
-        (lent records.now debounce.now memory.now board) }
+        (as_found state.now) }
 {
-    match queries::judge(cfg, records, debounce, memory, board, event) {
-        Check::Go => PaintAnswer::Painted(paint_of(cfg, records, board, event)),
-        Check::Stop(refusal) => PaintAnswer::Refused(refusal),
-    }
+    queries::judge(cfg, state, event)?;
+    Ok(paint_of(cfg, state.records, state.board, event))
 }
 
 // ---- the list
@@ -177,8 +151,7 @@ fn write_if_grey(
         (written at list.old) }
 {
     if is_grey(cfg, records, board, event) {
-        let e = event.0;
-        list[at] = e as u16;
+        list[at] = event.0 as u16;
         return at + 1;
     }
     at
@@ -199,52 +172,35 @@ fn write_grey(cfg: &[i32], records: &[u8], board: Board, list: &mut [u16]) -> us
 }
 
 // "with 7 when it is too short"
-fn seven(too_short: bool) -> Check
+#[tactic(auto, unfolding(manual::specs::Answers::first_that_applies))]
+fn seven(too_short: bool) -> Result<(), Refusal>
     ensures { check_number result ≡ first_that_applies ((7 if too_short) ∷ []) }
 {
     if too_short {
-        return Check::Stop(Refusal::RoomTooSmall);
+        return Err(Refusal::RoomTooSmall);
     }
-    Check::Go
+    Ok(())
 }
 
 // 2, 3, 7
-fn judge_list(
-    cfg: &[i32],
-    records: &[u8],
-    debounce: &[i32],
-    memory: &[u8],
-    board: Board,
-    list: &[u16],
-) -> Check
+fn judge_list(cfg: &[i32], state: &Lent, list: &[u16]) -> Result<(), Refusal>
     ensures { check_number result
         ≡ first_that_applies
         (list_grey_rules cfg.now (lent_room list.now)
-        (lent records.now debounce.now memory.now board)) }
+        (as_found state.now)) }
 {
-    match judgement::begin(cfg, records, debounce, memory, board, true) {
-        Check::Go => seven(is_too_short(cfg, records, board, list.len())),
-        Check::Stop(refusal) => Check::Stop(refusal),
-    }
+    judgement::begin(cfg, state, true)?;
+    seven(is_too_short(cfg, state.records, state.board, list.len()))
 }
 
 // List grey: 2, 3, 7. The numbers of the grey events are written from the front of the lent slice, and what lies behind
 // them stays. A refusal leaves the slice as it was, and answers 0.
-pub fn list_grey(
-    cfg: &[i32],
-    records: &[u8],
-    debounce: &[i32],
-    memory: &[u8],
-    board: Board,
-    list: &mut [u16],
-) -> LengthAnswer
+pub fn list_grey(cfg: &[i32], state: &Lent, list: &mut [u16]) -> Result<usize, Refusal>
     ensures { leaves (of_length result) [] (lent_room list.new)
-        (lent records.now debounce.now memory.now board)
+        (as_found state.now)
         ≡ list_grey cfg.now (lent_room list.old)
-        (lent records.now debounce.now memory.now board) }
+        (as_found state.now) }
 {
-    match judge_list(cfg, records, debounce, memory, board, list) {
-        Check::Go => LengthAnswer::Written(write_grey(cfg, records, board, list)),
-        Check::Stop(refusal) => LengthAnswer::Refused(refusal),
-    }
+    judge_list(cfg, state, list)?;
+    Ok(write_grey(cfg, state.records, state.board, list))
 }

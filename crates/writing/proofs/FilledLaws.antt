@@ -1,10 +1,11 @@
 -- Laws of specs/Filled.antt: a loop that stores one value in every place from `from` on.
 use mathlib.Core.Path.{◌≡◌, sym, ap, ◌∙◌}
-use mathlib.Core.List.{List}
+use mathlib.Core.List.{List, ◌++◌, append-nil}
 use Prim.Native.Nat.{ℕ, ◌+◌, ◌-◌, ◌≤◌, ◌<◌}
 use native.Mathlib.Omega.{arith}
-use lib.ListN.{length, get_or, take, set, replicate, length-append, length-replicate, get_or-replicate}
+use lib.ListN.{length, get_or, take, set, replicate, length-append, length-replicate, get_or-replicate, drop_of_length-le}
 use lib.Seq.{length-take-le, take_at, get_or-append-add}
+use borrow.Rule.Slice.PartMut.{put_mid, mid_of, post_of, Post-is, mid_len}
 use Rattle.writing.proofs.PartlyWritten.{mix, mix_more, mix_all, mix_from}
 use Rattle.writing.specs.Filled.{filled_from}
 
@@ -46,6 +47,19 @@ module _ {A : Type 0} (x : A) where
     pub fill_all : {i : ℕ} → i ≡ length m → {l : List A} → l ≡ filled_to from m i → l ≡ filled_from x from m
     unfolding filled_to
     fill_all {i} e p = p ∙ mix_all (filled_from x from m) m i filled_length e
+
+  -- a part from `from` on that came back with x in each place
+  pub part_filled : (from : ℕ) (m : List A) {part : List A} → from ≤ length m
+      → part ≡ replicate (length (mid_of from (length m - from) m)) x
+      → put_mid from (length m - from) m part ≡ filled_from x from m
+  unfolding filled_from
+  part_filled from m fits e =
+      ap (λ (l : List A). take from m ++ l)
+      (ap (λ (l : List A). l ++ post_of from (length m - from) m) e
+      ∙ ap (λ (l : List A). replicate (length (mid_of from (length m - from) m)) x ++ l)
+      (Post-is from (length m) m fits ∙ drop_of_length-le m (omega arith))
+      ∙ append-nil (replicate (length (mid_of from (length m - from) m)) x)
+      ∙ ap (λ (n : ℕ). replicate n x) (mid_len from (length m) m (omega arith)))
 
   -- every place
   pub filled_whole : (m : List A) → filled_from x 0 m ≡ replicate (length m) x

@@ -4,9 +4,4 @@ use Rattle.can_panel.proofs.flow.Goals as goal
 
 pub returns : goal.returns
 unfolding flow_crosses
-returns c =
-    rw (
-      ← c.sender_of.ensures,
-      ← c.frame_of.ensures,
-      ← c.flow-flowed.ensures,
-    ) c.flowed_bytes.ensures
+returns c = rw (← c.from-after.ensures, ← c.from.ensures, ← c.flow-answer.ensures) c.flowed_bytes.ensures

@@ -4,4 +4,4 @@ use Rattle.can_panel.proofs.next.Goals as goal
 
 pub returns : goal.returns
 unfolding next_crosses
-returns c = rw (← c.sender_of.ensures, ← c.next-next.ensures) c.next_bytes.ensures
+returns c = rw (← c.from-after.ensures, ← c.next-due.ensures) c.next_bytes.ensures

@@ -4,4 +4,4 @@ use Rattle.can_panel.proofs.start.Goals as goal
 
 pub returns : goal.returns
 unfolding start_crosses
-returns c = rw (← c.start-started.ensures) c.started_bytes.ensures
+returns c = rw (← c.start.ensures) c.started_bytes.ensures

@@ -1,4 +1,5 @@
 -- `take` meets its contract.
+use mathlib.Core.Path.{refl}
 use Rattle.can_panel.specs.CanPanel.{take_crosses}
 use Rattle.can_panel.proofs.take.Goals as goal
 
@@ -6,8 +7,8 @@ pub returns : goal.returns
 unfolding take_crosses
 returns c =
     rw (
-      ← c.receiver_of-given.ensures,
-      ← c.frame_of.ensures,
-      ← c.take-taken.ensures,
+      ← c.from-after.ensures,
+      ← c.from.ensures,
+      ← c.take-answer.ensures,
       c.taken_bytes.ensures,
-    )
+    ) refl

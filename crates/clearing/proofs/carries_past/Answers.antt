@@ -1,19 +1,13 @@
-use mathlib.Core.Path.{sym, ap, ◌∙◌}
-use mathlib.Core.List.{List}
-use Prim.Native.Nat.{ℕ}
-use Rattle.manual.specs.State.{lent}
-use Rattle.manual.specs.Counts.{raised, past}
+use mathlib.Core.Path.{sym, ◌∙◌}
+use Rattle.manual.specs.Lent.{as_found}
+use Rattle.rehearsal.proofs.CopiesLaws.{fit_copies}
 use Rattle.clearing.proofs.ClearRiseLaws.{far}
 use Rattle.clearing.proofs.carries_past.Goals as goal
 
-pub returns-then-some_near : goal.returns-then-some_near
-returns-then-some_near c =
-    let a = c.args in
-    c.some_past.ensures ∙ ap (λ (l : List ℕ). past (raised l a.counts.now)) c.rehearse-rise.ensures
+pub on_copies-rise-requires-clause-room : goal.on_copies-rise-requires-clause-room
+on_copies-rise-requires-clause-room c = fit_copies _ _ c.requires.0.0 c.requires.0.1
 
 pub returns : goal.returns
 returns c =
     let a = c.args in
-    let s = lent a.records.now a.debounce.now a.memory.now a.board in
-    let pre = c.requires in
-    sym (far a.cfg.now s a.code pre.0 a.counts.now (sym c.some_near.ensures ∙ c.if-some_near.false))
+    sym (far a.cfg.now (as_found a.state.now) a.code c.requires.0 a.counts.now (sym c.some_near.ensures ∙ c.if-some_near.false))

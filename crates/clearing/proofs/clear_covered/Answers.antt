@@ -1,49 +1,49 @@
+use mathlib.Core.Path.{◌≡◌, ap, ◌∙◌}
 use native.Mathlib.Omega.{arith}
-use Rattle.manual.specs.State.{lent}
-use Rattle.clearing.proofs.ClearAllLaws.{counted}
-use Rattle.clearing.proofs.ClearRiseLaws.{few, fewer, were_cleared}
+use lib.ListN.{length}
 use borrow.Author.Rules.{rules}
+use Rattle.manual.specs.Memory.{entry_count}
+use Rattle.manual.specs.State.{State}
+use Rattle.manual.specs.Lent.{as_lent}
+use Rattle.clearing.proofs.ClearAllLaws.{counted}
+use Rattle.clearing.proofs.ClearRiseLaws.{few, still_counted, fewer, were_cleared}
 use Rattle.clearing.proofs.clear_covered.Goals as goal
 
 pub entry_count-before-requires : goal.entry_count-before-requires
 entry_count-before-requires c =
-    let a = c.args in
-    let s = lent a.records.now a.debounce.now a.memory.now a.board in
-    let pre = c.requires in
-    counted a.cfg.now s pre.1
-
-pub entry_count-requires : goal.entry_count-requires
-entry_count-requires c =
-    let a = c.args in
-    let s = lent a.records.now a.debounce.now a.memory.now a.board in
-    let pre = c.requires in
-    let clear-events = c.clear_events-after in
-    omega (arith, counted a.cfg.now s pre.1, clear-events.auto.memory)
-
-pub overflow_sub-gone : goal.overflow_sub-gone
-overflow_sub-gone c =
-    let a = c.args in
-    let s = lent a.records.now a.debounce.now a.memory.now a.board in
-    let pre = c.requires in
-    let clear-events = c.clear_events-after in
-    let entry-count = c.entry_count-before in
-    fewer a.cfg.now s a.code pre clear-events.ensures entry-count.ensures c.entry_count.ensures
-
-pub overflow_cast-gone : goal.overflow_cast-gone
-overflow_cast-gone c =
-    let a = c.args in
-    let s = lent a.records.now a.debounce.now a.memory.now a.board in
-    let pre = c.requires in
-    let entry-count = c.entry_count-before in
-    omega (arith, few a.cfg.now s a.code pre, entry-count.ensures)
-
-pub returns : goal.returns
-returns c =
-    let a = c.args in
-    let s = lent a.records.now a.debounce.now a.memory.now a.board in
-    let entry-count = c.entry_count-before in
-    let after = c.clear_events-after in (
-      after.ensures,
-      were_cleared a.cfg.now s a.code c.requires after.ensures entry-count.ensures
-          c.entry_count.ensures (search rules),
+    omega (
+      arith,
+      counted c.args.cfg.now (as_lent c.args.state.now) c.requires.1,
+      ap (λ (u : State). length u.memory) c.as_found.ensures,
     )
+
+pub entry_count-after-requires : goal.entry_count-after-requires
+entry_count-after-requires c =
+    let a = c.args in
+    omega (
+      arith,
+      still_counted a.cfg.now (as_lent a.state.now) a.code c.requires c.clear_events.ensures.promise,
+      ap (λ (u : State). length u.memory) c.as_found-2.ensures,
+    )
+
+pub overflow_sub-before : goal.overflow_sub-before
+overflow_sub-before c =
+    let a = c.args in
+    fewer a.cfg.now (as_lent a.state.now) a.code c.requires c.clear_events.ensures.promise
+    (c.entry_count-before.ensures ∙ ap (λ (u : State). entry_count u.memory) c.as_found.ensures)
+    (c.entry_count-after.ensures ∙ ap (λ (u : State). entry_count u.memory) c.as_found-2.ensures)
+
+pub overflow_cast-before : goal.overflow_cast-before
+overflow_cast-before c =
+    let a = c.args in
+    let before : c.entry_count-before.result ≡ entry_count a.state.now.memory.now =
+    c.entry_count-before.ensures ∙ ap (λ (u : State). entry_count u.memory) c.as_found.ensures in
+    record { fits = omega (arith, few a.cfg.now (as_lent a.state.now) a.code c.requires, before) }
+
+pub returns-clause-rise : goal.returns-clause-rise
+returns-clause-rise c =
+    let a = c.args in
+    were_cleared a.cfg.now (as_lent a.state.now) a.code c.requires c.clear_events.ensures.promise
+    (c.entry_count-before.ensures ∙ ap (λ (u : State). entry_count u.memory) c.as_found.ensures)
+    (c.entry_count-after.ensures ∙ ap (λ (u : State). entry_count u.memory) c.as_found-2.ensures)
+    (search rules)

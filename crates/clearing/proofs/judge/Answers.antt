@@ -1,29 +1,23 @@
-use Rattle.manual.specs.State.{lent}
+use Rattle.std.proofs.lemmas.Result.{err_from_is_err_and}
+use Rattle.manual.specs.Lent.{as_found}
 use Rattle.clearing.proofs.ClearRiseLaws.{may_be_limited, then_limit, not_so_far}
 use Rattle.clearing.proofs.judge.Goals as goal
 
-pub carries_past-past-requires : goal.carries_past-past-requires
-carries_past-past-requires c =
+pub carries_past-requires : goal.carries_past-requires
+carries_past-requires c =
     let a = c.args in
-    let s = lent a.records.now a.debounce.now a.memory.now a.board in
-    let fit = c.fit-fits in
-    may_be_limited a.cfg.now s a.code a.counts.now fit.ensures c.judge_known.ensures
-    c.in-Go.is
+    may_be_limited a.cfg.now (as_found a.state.now) a.code a.counts.now c.fit-fits.ensures c.judge_known.ensures
+    c.in_ok-judge_known.was
 
-pub returns-in-Go : goal.returns-in-Go
-returns-in-Go c =
+pub returns : goal.returns
+returns c =
     let a = c.args in
-    let s = lent a.records.now a.debounce.now a.memory.now a.board in
-    let fit = c.fit-fits in
-    let judge-known = c.judge_known in
-    then_limit a.cfg.now s a.code a.counts.now fit.ensures judge-known.ensures
-    c.in-Go.is c.carries_past-past.ensures c.limit_test.ensures
+    then_limit a.cfg.now (as_found a.state.now) a.code a.counts.now c.fit-fits.ensures c.judge_known.ensures
+    c.in_ok-judge_known.was c.carries_past.ensures c.limit_test.ensures
 
-pub returns-in-Stop : goal.returns-in-Stop
-returns-in-Stop c =
+pub returns-in_err-judge_known : goal.returns-in_err-judge_known
+returns-in_err-judge_known c =
     let a = c.args in
-    let s = lent a.records.now a.debounce.now a.memory.now a.board in
-    let fit = c.fit-fits in
-    let judge-known = c.judge_known in
-    not_so_far a.cfg.now s a.code a.counts.now fit.ensures judge-known.ensures _
-    c.in-Stop.is
+    let p = err_from_is_err_and c.from_residual.result c.from_residual.ensures.1 in
+    rw (p.1, p.2) (not_so_far a.cfg.now (as_found a.state.now) a.code a.counts.now c.fit-fits.ensures c.judge_known.ensures _
+    c.in_err-judge_known.was)

@@ -1,23 +1,20 @@
-use Rattle.manual.specs.State.{lent}
+use Rattle.std.proofs.lemmas.Result.{err_from_is_err_and}
+use Rattle.manual.specs.Lent.{as_found}
 use Rattle.judgement.proofs.JudgedLaws.{begun_by_lem, judged_by, stopped_by}
 use Rattle.clearing.proofs.judge_known.Goals as goal
 
 pub judge_code-requires : goal.judge_code-requires
 judge_code-requires c =
     let a = c.args in
-    let s = lent a.records.now a.debounce.now a.memory.now a.board in
-    begun_by_lem a.cfg.now s a.fits c.begin.ensures c.in-Go.is
+    begun_by_lem a.cfg.now (as_found a.state.now) a.fits c.begin.ensures c.in_ok-begin.was
 
-pub returns-in-Go : goal.returns-in-Go
-returns-in-Go c =
+pub returns : goal.returns
+returns c =
     let a = c.args in
-    let s = lent a.records.now a.debounce.now a.memory.now a.board in
-    let begin = c.begin in
-    judged_by a.cfg.now s a.fits begin.ensures _ c.in-Go.is c.judge_code.ensures
+    judged_by a.cfg.now (as_found a.state.now) a.fits c.begin.ensures _ c.in_ok-begin.was c.judge_code.ensures
 
-pub returns-in-Stop : goal.returns-in-Stop
-returns-in-Stop c =
+pub returns-in_err-begin : goal.returns-in_err-begin
+returns-in_err-begin c =
     let a = c.args in
-    let s = lent a.records.now a.debounce.now a.memory.now a.board in
-    let begin = c.begin in
-    stopped_by a.cfg.now s a.fits begin.ensures _ _ c.in-Stop.is
+    let p = err_from_is_err_and c.from_residual.result c.from_residual.ensures.1 in
+    rw (p.1, p.2) (stopped_by a.cfg.now (as_found a.state.now) a.fits c.begin.ensures _ _ c.in_err-begin.was)

@@ -1,14 +1,8 @@
-use mathlib.Core.Path.{◌∙◌, ap}
-use Prim.Native.Nat.{◌*◌}
-use lib.IntN.{ℤ}
-use Rattle.manual.specs.Words.{nat_of}
+-- `entry_frames`: twice the number that `frame_bytes` is.
+use Rattle.std.proofs.Common.{rules}
 use Rattle.manual.specs.Configuration.{frame_bytes}
-use Rattle.config.proofs.SignedInCode.{back}
 use Rattle.config.proofs.entry_frames.Goals as goal
 
 pub returns : goal.returns
 unfolding frame_bytes
-returns c =
-    c.twice.ensures
-    ∙ ap (λ (z : ℤ). 2 * nat_of z)
-    (back c.number_at.result c.number_at.type_inv ∙ c.number_at.ensures)
+returns c = search rules

@@ -5,9 +5,6 @@ use Rattle.manual.proofs.ConfigurationLaws.{config_tells}
 use Rattle.config.proofs.HalvingLaws.{all_rows, halves_power, one_left, found_where_left, nothing_where_left}
 use Rattle.config.proofs.find_code.Goals as goal
 
-pub events-last-requires : goal.events-last-requires
-events-last-requires c = tt
-
 pub overflow_sub-last : goal.overflow_sub-last
 overflow_sub-last c = let t = (config_tells _ c.requires).n_least in omega (arith, c.events-last.ensures)
 

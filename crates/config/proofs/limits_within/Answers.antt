@@ -1,11 +1,9 @@
-use lib.Dec.{eqb}
+-- the row alone says what the configuration says of the event
+use mathlib.Core.Path.{◌∙◌}
+use Rattle.config.proofs.PartLaws.{limits_are}
 use Rattle.config.proofs.limits_within.Goals as goal
 
 pub returns : goal.returns
 returns c =
-    λ i. record {
-      C = c.count_within.ensures i;
-      H = c.count_within-2.ensures i;
-      A = c.count_within-3.ensures i;
-      indicator = eqb (c.count_within-4.ensures i) 1;
-    }
+    let a = c.args in
+    (rw c.part_of.ensures at c.limits_of.ensures) ∙ limits_are a.cfg.now a.event.0

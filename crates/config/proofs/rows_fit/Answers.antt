@@ -6,15 +6,8 @@ use Rattle.config.proofs.rows_fit.Goals as goal
 pub loop-event-init : goal.loop-event-init
 loop-event-init c = (omega arith, sym (all_none _))
 
-pub row_fits-fit-requires : goal.row_fits-fit-requires
-row_fits-fit-requires c =
-    record {
-      event_inside = omega (arith, c.requires.most);
-      within = omega (arith, c.requires.within);
-    }
-
 pub loop-event-preserved : goal.loop-event-preserved
-loop-event-preserved c = (omega arith, rw (all_more, c.loop-event.invariant.1, c.row_fits-fit.ensures))
+loop-event-preserved c = (omega arith, rw (all_more, c.loop-event.invariant.1, c.fits-fit.ensures))
 
 pub returns : goal.returns
 returns c =

@@ -8,28 +8,6 @@ use Rattle.counter.proofs.WideLaws.{distance_most, share_fits}
 use Rattle.counter.proofs.CounterInCode.{distance_is, share_is, below_zero_lem, from_zero}
 use Rattle.counter.proofs.debounced.Goals as goal
 
-pub share-below-requires : goal.share-below-requires
-share-below-requires c =
-    let kind = c.kind_of in
-    let far = rw (to_z-of_z c.ranges.d) at c.distance-far.ensures in
-    (lit≤ tt, distance_most kind.result c.args.d c.ranges.d.sfits far)
-
-pub overflow_cast-result : goal.overflow_cast-result
-overflow_cast-result c =
-    let kind = c.kind_of in
-    let far = rw (to_z-of_z c.ranges.d) at c.distance-far.ensures in
-    (share_fits 128 _ _ (lit≤ tt) (distance_most kind.result c.args.d c.ranges.d.sfits far) c.share-below.ensures
-    ).0
-
-pub overflow_sub-result : goal.overflow_sub-result
-overflow_sub-result c =
-    let kind = c.kind_of in
-    let far = rw (to_z-of_z c.ranges.d) at c.distance-far.ensures in
-    let f =
-    share_fits 128 _ _ (lit≤ tt) (distance_most kind.result c.args.d c.ranges.d.sfits far)
-    c.share-below.ensures in
-    rw (to_z-of_z f.0, +ℤ_idl (neg_ℤ (pos c.share-below.result))) f.1
-
 pub returns-then-d-lt0 : goal.returns-then-d-lt0
 returns-then-d-lt0 c =
     let kind = c.kind_of in
@@ -43,19 +21,6 @@ returns-then-d-lt0 c =
     rw (to_z-of_z f.0, +ℤ_idl (neg_ℤ (pos c.share-below.result)), to_z-of_z f.1)
     (below_zero_lem cfg e d (rw (to_z-of_z c.ranges.d) at c.if-d-lt0.true)
     (share_is cfg e 128 d is low c.share-below.ensures))
-
-pub share-requires : goal.share-requires
-share-requires c =
-    let kind = c.kind_of in
-    let far = rw (to_z-of_z c.ranges.d) at c.distance-far.ensures in
-    (lit≤ tt, distance_most kind.result c.args.d c.ranges.d.sfits far)
-
-pub overflow_cast-result-2 : goal.overflow_cast-result-2
-overflow_cast-result-2 c =
-    let kind = c.kind_of in
-    let far = rw (to_z-of_z c.ranges.d) at c.distance-far.ensures in
-    (share_fits 127 _ _ (lit≤ tt) (distance_most kind.result c.args.d c.ranges.d.sfits far)
-    c.share.ensures).0
 
 pub returns : goal.returns
 returns c =

@@ -1,8 +1,9 @@
 -- `accept_start` meets its contract.
 use mathlib.Core.Path.{◌≡◌}
 use mathlib.Core.List.{List}
-use Prim.Native.Nat.{ℕ, ◌-◌, ◌≤◌}
 use lib.IntN.{ℤ}
+use Rattle.manual.specs.declared.Board.{Board}
+use Prim.Native.Nat.{ℕ, ◌-◌, ◌≤◌}
 use lib.ListN.{length}
 use Rattle.history.specs.History.{start}
 use Rattle.manual.specs.Words.{for_below}
@@ -15,10 +16,9 @@ use Rattle.cycles.proofs.accept_start.Given as goal
 abbrev pub invariant-loop-event : goal.invariant-loop-event
 invariant-loop-event l =
     (l.event ≤ l.event-end)
-    ×
-    (((d : List ℤ) (m : List ℕ)
-    → lent l.records d m l.board
-    ≡ for_below l.event (turn (of_cycle l.cfg l.cycle) (happens l.cfg start)) (lent l.initial.records d m l.board))
+    × (((d : List ℤ) (m : List ℕ) (b : Board)
+    → lent l.records d m b
+    ≡ for_below l.event (turn (of_cycle l.cfg l.cycle) (happens l.cfg start)) (lent l.initial.records d m b))
     × (length l.records ≡ length l.initial.records))
 
 abbrev pub decreases-loop-event : goal.decreases-loop-event

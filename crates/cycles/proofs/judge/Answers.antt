@@ -1,18 +1,13 @@
 -- `judge` meets its contract.
-use Rattle.manual.specs.State.{lent}
-use Rattle.judgement.proofs.JudgedLaws.{judged_by, stopped_by}
+use mathlib.Core.Path.{sym, ◌∙◌}
+use Rattle.std.proofs.lemmas.Result.{err_from_is_err_and}
+use Rattle.judgement.proofs.BeginLaws.{after_go, after_stop}
 use Rattle.cycles.proofs.judge.Goals as goal
 
-pub returns-in-Go : goal.returns-in-Go
-returns-in-Go c =
-    let a = c.args in
-    let s = lent a.records.now a.debounce.now a.memory.now a.board in
-    let begin = c.begin in
-    judged_by a.cfg.now s a.fits begin.ensures _ c.in-Go.is c.four_five.ensures
+pub returns : goal.returns
+returns c = c.four_five.ensures ∙ sym (after_go _ _ _ _ (sym c.in_ok-begin.ensures))
 
-pub returns-in-Stop : goal.returns-in-Stop
-returns-in-Stop c =
-    let a = c.args in
-    let s = lent a.records.now a.debounce.now a.memory.now a.board in
-    let begin = c.begin in
-    stopped_by a.cfg.now s a.fits begin.ensures _ _ c.in-Stop.is
+pub returns-in_err-begin : goal.returns-in_err-begin
+returns-in_err-begin c =
+    let p = err_from_is_err_and c.from_residual.result c.from_residual.ensures.1 in
+    rw (p.1, p.2) (sym (after_stop _ _ _ _ _ c.in_err-begin.ensures))

@@ -1,36 +1,20 @@
 -- `start` meets its contract.
-use mathlib.Core.Path.{ap, ◌∙◌}
-use mathlib.Core.Bool.{true}
-use Rattle.manual.specs.State.{lent}
-use Rattle.manual.specs.Answers.{alone, done}
-use Rattle.manual.specs.Calls.{start_rules, start_cycle}
-use Rattle.judgement.proofs.JudgedLaws.{passed_by, accepted_by, refused_by}
-use Rattle.cycles.proofs.CyclesLaws.{may_start}
+use mathlib.Core.Path.{refl}
+use Rattle.std.proofs.lemmas.Result.{err_from_is_err_and}
+use Rattle.cycles.proofs.CyclesLaws.{start_read, start_refused, may_start, start_done}
 use Rattle.cycles.proofs.start.Goals as goal
 
 pub accept_start-requires : goal.accept_start-requires
-accept_start-requires c =
-    let a = c.args in
-    let s = lent a.records.now a.debounce.now a.memory.now a.board in
-    may_start a.cfg.now s a.cycle true _
-    (passed_by _ c.judge.ensures c.in-Go.is)
+accept_start-requires c = may_start _ _ _ (start_read _ _ _ refl c.runs-wrong.ensures c.in_ok-judge.ensures)
 
-pub returns-in-Go : goal.returns-in-Go
-unfolding start_cycle start_rules
-returns-in-Go c =
+pub returns : goal.returns
+returns c =
     let a = c.args in
-    let judge = c.judge in
-    let wrong = c.runs-wrong in
-    let accept = c.accept_start in
-    accepted_by _ (rw wrong.ensures at judge.ensures) _ _ _
-    c.in-Go.is
-    (c.done.ensures alone accept.new.records a.debounce.now a.memory.now
-    ∙ ap (done alone) (accept.ensures a.debounce.now a.memory.now))
+    start_done _ _ _ (start_read _ _ _ refl c.runs-wrong.ensures c.in_ok-judge.ensures)
+    (c.accept_start.ensures a.debounce.now a.memory.now)
 
-pub returns-in-Stop : goal.returns-in-Stop
-unfolding start_cycle start_rules
-returns-in-Stop c =
-    let judge = c.judge in
-    let wrong = c.runs-wrong in
-    refused_by _ (rw wrong.ensures at judge.ensures) _ _ _ _ c.in-Stop.is
-    (c.refused.ensures alone _ _ _)
+pub returns-in_err-judge : goal.returns-in_err-judge
+returns-in_err-judge c =
+    let p = err_from_is_err_and c.from_residual.result c.from_residual.ensures.1 in
+    rw (p.1, p.2)
+    (start_refused _ _ _ _ (start_read _ _ _ refl c.runs-wrong.ensures c.in_err-judge.ensures))

@@ -1,9 +1,8 @@
 -- `stop_events` meets its contract.
 use mathlib.Core.Path.{◌≡◌}
 use Prim.Native.Nat.{◌-◌, ◌≤◌}
-use lib.ListN.{length}
 use Rattle.manual.specs.Words.{for_below}
-use Rattle.manual.specs.State.{lent}
+use Rattle.manual.specs.Lent.{as_lent, keeps_loans}
 use Rattle.manual.specs.OneEvent.{stops}
 use Rattle.manual.specs.Calls.{of_cycle}
 use Rattle.one_event.proofs.TurnsLaws.{turn}
@@ -12,10 +11,8 @@ use Rattle.cycles.proofs.stop_events.Given as goal
 abbrev pub invariant-loop-event : goal.invariant-loop-event
 invariant-loop-event l =
     (l.event ≤ l.event-end)
-    ×
-    ((lent l.records l.debounce l.memory l.board
-    ≡ for_below l.event (turn (of_cycle l.cfg l.cycle) (stops l.cfg)) (lent l.initial.records l.initial.debounce l.initial.memory l.board))
-    × ((length l.records ≡ length l.initial.records) × ((length l.debounce ≡ length l.initial.debounce) × (length l.memory ≡ length l.initial.memory))))
+    × (keeps_loans l.initial.state l.state
+    × (as_lent l.state ≡ for_below l.event (turn (of_cycle l.cfg l.cycle) (stops l.cfg)) (as_lent l.initial.state)))
 
 abbrev pub decreases-loop-event : goal.decreases-loop-event
 decreases-loop-event l = l.event-end - l.event

@@ -1,50 +1,53 @@
+-- tick_down
 use native.Mathlib.Omega.{arith}
+use lib.IntN.{◌+ℤ◌, neg_ℤ, pos, +ℤ_idl}
 use mir.Facts.{to_z-of_z}
-use borrow.Author.Rules.{rules}
 use Rattle.manual.specs.Debouncing.{bottom}
+use Rattle.manual.specs.Words.{smaller}
 use Rattle.debounce.specs.Rows.{alone}
-use Rattle.debounce.proofs.SmallNumbersLaws.{abs_neg, waited_is, waited_small, held}
+use Rattle.debounce.proofs.SmallNumbersLaws.{abs_neg, waited_is, waited_small, back, fits, held}
 use Rattle.debounce.proofs.RowsLaws.{bottom_small}
 use Rattle.debounce.proofs.tick_down.Goals as goal
 
-pub negated-waited-requires : goal.negated-waited-requires
-negated-waited-requires c = rw (to_z-of_z c.ranges.d) (omega arith)
+pub overflow_sub-end : goal.overflow_sub-end
+overflow_sub-end c =
+    let end = bottom (alone c.args.row) 0 in
+    simp (held c.bottom-end.ensures c.bottom-end.type_inv, +ℤ_idl (neg_ℤ end))
+    (fits (neg_ℤ end) (omega (arith, abs_neg end, bottom_small c.requires.of_row)))
 
-pub negated-end-requires : goal.negated-end-requires
-negated-end-requires c =
-    rw (held c.bottom.ensures c.bottom.type_inv) (omega (arith, bottom_small c.requires.of_row))
-
-pub goes_on-requires : goal.goes_on-requires
-goes_on-requires c =
-    simp (
-      held c.negated-waited.ensures c.negated-waited.type_inv,
-      to_z-of_z c.ranges.d,
-      abs_neg c.args.d,
-    )
-    (search rules)
-
-pub negated-requires : goal.negated-requires
-negated-requires c =
-    let p = c.requires in
+pub overflow_sub-result : goal.overflow_sub-result
+overflow_sub-result c =
     let a = c.args in
+    let p = c.requires in
+    let end = bottom (alone a.row) 0 in
+    let waited = smaller (neg_ℤ a.d +ℤ pos a.ms) (neg_ℤ end) in
     simp (
       held c.goes_on.ensures c.goes_on.type_inv,
-      held c.negated-waited.ensures c.negated-waited.type_inv,
-      held c.negated-end.ensures c.negated-end.type_inv,
-      held c.bottom.ensures c.bottom.type_inv,
+      held c.bottom-end.ensures c.bottom-end.type_inv,
       to_z-of_z c.ranges.d,
+      +ℤ_idl (neg_ℤ a.d),
+      +ℤ_idl (neg_ℤ end),
+      +ℤ_idl (neg_ℤ waited),
+      back (neg_ℤ a.d) (omega (arith, abs_neg a.d)),
+      back (neg_ℤ end) (omega (arith, abs_neg end, bottom_small p.of_row)),
     )
-    (waited_small a.d (bottom (alone a.row) 0) a.ms p.of_d (bottom_small p.of_row) p.of_ms)
+    (fits (neg_ℤ waited) (omega (arith, abs_neg waited, waited_small a.d end a.ms p.of_d (bottom_small p.of_row) p.of_ms)))
 
 pub returns : goal.returns
 returns c =
     let a = c.args in
+    let p = c.requires in
+    let end = bottom (alone a.row) 0 in
+    let waited = smaller (neg_ℤ a.d +ℤ pos a.ms) (neg_ℤ end) in
     simp (
-      held c.negated.ensures c.negated.type_inv,
       held c.goes_on.ensures c.goes_on.type_inv,
-      held c.negated-waited.ensures c.negated-waited.type_inv,
-      held c.negated-end.ensures c.negated-end.type_inv,
-      held c.bottom.ensures c.bottom.type_inv,
+      held c.bottom-end.ensures c.bottom-end.type_inv,
       to_z-of_z c.ranges.d,
+      +ℤ_idl (neg_ℤ a.d),
+      +ℤ_idl (neg_ℤ end),
+      +ℤ_idl (neg_ℤ waited),
+      back (neg_ℤ a.d) (omega (arith, abs_neg a.d)),
+      back (neg_ℤ end) (omega (arith, abs_neg end, bottom_small p.of_row)),
+      back (neg_ℤ waited) (omega (arith, abs_neg waited, waited_small a.d end a.ms p.of_d (bottom_small p.of_row) p.of_ms)),
     )
-    (waited_is a.d (bottom (alone a.row) 0) a.ms)
+    (waited_is a.d end a.ms)

@@ -1,26 +1,21 @@
 use native.Mathlib.Omega.{arith}
+use lib.IntN.{pos, ◌+ℤ◌, ◌-ℤ◌}
 use mir.Facts.{to_z-of_z}
 use borrow.Author.Tests.{ne_eqb}
 use Rattle.manual.specs.Configuration.{column}
 use Rattle.manual.specs.Debouncing.{time_report}
 use Rattle.debounce.specs.Rows.{alone}
-use Rattle.debounce.proofs.SmallNumbersLaws.{held}
+use Rattle.debounce.proofs.SmallNumbersLaws.{abs_add, abs_sub, back}
 use Rattle.debounce.proofs.RowsLaws.{low_back, high_back}
 use Rattle.debounce.proofs.time_report.Goals as goal
-
-pub plus-requires : goal.plus-requires
-plus-requires c = rw (high_back c.requires) (omega arith)
-
-pub minus-requires : goal.minus-requires
-minus-requires c = rw (low_back c.requires) (omega arith)
 
 pub returns-in-1 : goal.returns-in-1
 unfolding time_report alone column
 returns-in-1 c =
     simp (
       c.in-1.is,
-      held c.plus.ensures c.plus.type_inv,
       high_back c.requires,
+      back (c.args.row.high +ℤ pos 1) (omega (arith, abs_add c.args.row.high (pos 1))),
     )
 
 pub returns-in-0 : goal.returns-in-0
@@ -28,8 +23,8 @@ unfolding time_report alone column
 returns-in-0 c =
     simp (
       c.in-0.is,
-      held c.minus.ensures c.minus.type_inv,
       low_back c.requires,
+      back (c.args.row.low -ℤ pos 1) (omega (arith, abs_sub c.args.row.low (pos 1))),
     )
 
 pub returns-then-d-le0 : goal.returns-then-d-le0

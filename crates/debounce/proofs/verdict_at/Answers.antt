@@ -1,41 +1,24 @@
-use mir.Facts.{to_z-of_z}
+-- verdict_at
 use Rattle.manual.specs.Debouncing.{verdict_at}
-use Rattle.debounce.proofs.SmallNumbersLaws.{held}
+use Rattle.debounce.proofs.SmallNumbersLaws.{same_is, other_is}
 use Rattle.debounce.proofs.verdict_at.Goals as goal
 
-pub returns-then-same : goal.returns-then-same
+pub returns-then-d-top : goal.returns-then-d-top
 unfolding verdict_at
-returns-then-same c =
-    let d = to_z-of_z c.ranges.d in
-    let top = held c.top.ensures c.top.type_inv in
-    rw (← simp (d, top) at c.same.ensures, c.if-same.true)
+returns-then-d-top c = simp (same_is c.ranges.d c.top.ensures c.top.type_inv c.if-d-top.true)
 
-pub returns-then-same-2 : goal.returns-then-same-2
+pub returns-then-d-bottom : goal.returns-then-d-bottom
 unfolding verdict_at
-returns-then-same-2 c =
-    let d = to_z-of_z c.ranges.d in
-    let top =
-    held c.top.ensures
-    c.top.type_inv in
-    let bottom = held c.bottom.ensures c.bottom.type_inv in
-    rw (
-      ← simp (d, top) at c.same.ensures,
-      c.if-same.false,
-      ← simp (d, bottom) at c.same-2.ensures,
-      c.if-same-2.true,
+returns-then-d-bottom c =
+    simp (
+      other_is c.ranges.d c.top.ensures c.top.type_inv c.if-d-top.false,
+      same_is c.ranges.d c.bottom.ensures c.bottom.type_inv c.if-d-bottom.true,
     )
 
 pub returns : goal.returns
 unfolding verdict_at
 returns c =
-    let d = to_z-of_z c.ranges.d in
-    let top =
-    held c.top.ensures
-    c.top.type_inv in
-    let bottom = held c.bottom.ensures c.bottom.type_inv in
-    rw (
-      ← simp (d, top) at c.same.ensures,
-      c.if-same.false,
-      ← simp (d, bottom) at c.same-2.ensures,
-      c.if-same-2.false,
+    simp (
+      other_is c.ranges.d c.top.ensures c.top.type_inv c.if-d-top.false,
+      other_is c.ranges.d c.bottom.ensures c.bottom.type_inv c.if-d-bottom.false,
     )

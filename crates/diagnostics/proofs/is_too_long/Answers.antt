@@ -20,7 +20,7 @@ overflow_add-head c =
 
 pub returns-then-head-events : goal.returns-then-head-events
 returns-then-head-events c = let a = c.args in
-    let asked = asks a.cfg.now a.asked (holding a.records.now a.debounce.now) in
+    let asked = asks a.cfg.now a.asked (holding a.state.now.records.now a.state.now.debounce.now) in
     let fits : a.head + 4 * count_below (events a.cfg.now) asked ≤ a.room =
     omega (arith, c.if-head-events.true, c.events.ensures, count_most asked (events a.cfg.now)) in
     sym (le-ltb _ _ fits)

@@ -1,17 +1,15 @@
-use Rattle.manual.specs.State.{lent}
+use Rattle.std.proofs.lemmas.Result.{err_from_is_err_and}
+use Rattle.manual.specs.Lent.{as_found}
 use Rattle.judgement.proofs.JudgedLaws.{judged_by, stopped_by}
 use Rattle.diagnostics.proofs.judge_begin.Goals as goal
 
-pub returns-in-Go : goal.returns-in-Go
-returns-in-Go c =
+pub returns : goal.returns
+returns c =
     let a = c.args in
-    let s = lent a.records.now a.debounce.now a.memory.now a.board in
-    let begin = c.begin in
-    judged_by a.cfg.now s a.fits begin.ensures _ c.in-Go.is c.judge_sizes.ensures
+    judged_by a.cfg.now (as_found a.state.now) a.fits c.begin.ensures _ c.in_ok-begin.was c.judge_sizes.ensures
 
-pub returns-in-Stop : goal.returns-in-Stop
-returns-in-Stop c =
+pub returns-in_err-begin : goal.returns-in_err-begin
+returns-in_err-begin c =
     let a = c.args in
-    let s = lent a.records.now a.debounce.now a.memory.now a.board in
-    let begin = c.begin in
-    stopped_by a.cfg.now s a.fits begin.ensures _ _ c.in-Stop.is
+    let p = err_from_is_err_and c.from_residual.result c.from_residual.ensures.1 in
+    rw (p.1, p.2) (stopped_by a.cfg.now (as_found a.state.now) a.fits c.begin.ensures _ _ c.in_err-begin.was)

@@ -21,8 +21,8 @@ is_too_long-too_long-requires c = (
 pub write-at-requires : goal.write-at-requires
 write-at-requires c =
     let a = c.args in
-    let n = count_below (events a.cfg.now) (asks a.cfg.now a.asked (holding a.records.now
-    a.debounce.now)) in
+    let n = count_below (events a.cfg.now) (asks a.cfg.now a.asked (holding a.state.now.records.now
+    a.state.now.debounce.now)) in
     let room : length a.head.now + 4 * n ≤ length a.room.now =
     ltb-false _ _ (sym c.is_too_long-too_long.ensures
     ∙ c.turn_of.ensures.fits c.in-Write.is) in
@@ -31,16 +31,16 @@ write-at-requires c =
 pub write_lines-requires : goal.write_lines-requires
 write_lines-requires c =
     let a = c.args in
-    let n = count_below (events a.cfg.now) (asks a.cfg.now a.asked (holding a.records.now
-    a.debounce.now)) in
+    let n = count_below (events a.cfg.now) (asks a.cfg.now a.asked (holding a.state.now.records.now
+    a.state.now.debounce.now)) in
     let room : length a.head.now + 4 * n ≤ length a.room.now =
     ltb-false _ _ (sym c.is_too_long-too_long.ensures ∙ c.turn_of.ensures.fits c.in-Write.is) in
     record {
       config = c.requires.accepted.config;
       within = omega (
         arith,
-        lines_length a.cfg.now a.asked (holding a.records.now
-            a.debounce.now),
+        lines_length a.cfg.now a.asked (holding a.state.now.records.now
+            a.state.now.debounce.now),
         append_next _ _ c.write-at.ensures,
         c.write-at.auto.room,
       );
@@ -65,7 +65,7 @@ returns-in-Suppressed c =
 pub returns-in-Write : goal.returns-in-Write
 returns-in-Write c =
     λ b. let a = c.args in
-    let s = lent a.records.now a.debounce.now a.memory.now b in
+    let s = lent a.state.now.records.now a.state.now.debounce.now a.state.now.memory.now b in
     let long = list_length a.cfg.now s a.head.now a.asked in
     let told = c.in-Write.is in
     by_turn _ a.room.now s _ a.request.now _ c.turn_of.ensures told

@@ -23,8 +23,8 @@ one_more_if-number-requires c =
     count_most
     (asks c.args.cfg.now
     c.args.asked
-    (holding c.args.records.now
-    c.args.debounce.now))
+    (holding c.args.state.now.records.now
+    c.args.state.now.debounce.now))
     c.loop-event.event in
     omega (arith, c.events-n.ensures, c.loop-event.invariant.1)
 

@@ -14,24 +14,24 @@ returns-then-request-ne-SHOW_LENGTH c b =
 pub show_event-requires : goal.show_event-requires
 show_event-requires c =
     let a = c.args in
-    let read = remembering a.records.now a.memory.now in (
+    let read = remembering a.state.now.records.now a.state.now.memory.now in (
       c.requires,
       asked_below _ a.request.now read _
-          (ap search_is (sym c.in-At.is) ∙ c.event_asked.ensures read),
+          (ap search_is (sym c.in-Some.is) ∙ c.event_asked.ensures read),
     )
 
-pub returns-in-At : goal.returns-in-At
-returns-in-At c b =
+pub returns-in-Some : goal.returns-in-Some
+returns-in-Some c b =
     let a = c.args in
-    let s = lent a.records.now a.debounce.now a.memory.now b in
+    let s = lent a.state.now.records.now a.state.now.debounce.now a.state.now.memory.now b in
     shows_event _ a.room.now s a.request.now a.told c.if-request-ne-SHOW_LENGTH.false _
-    (ap search_is (sym c.in-At.is) ∙ c.event_asked.ensures s)
+    (ap search_is (sym c.in-Some.is) ∙ c.event_asked.ensures s)
     (c.show_event.ensures b)
 
-pub returns-in-Nothing : goal.returns-in-Nothing
-returns-in-Nothing c b =
+pub returns-in-None : goal.returns-in-None
+returns-in-None c b =
     let a = c.args in
-    let s = lent a.records.now a.debounce.now a.memory.now b in
+    let s = lent a.state.now.records.now a.state.now.debounce.now a.state.now.memory.now b in
     shows_31 _ a.room.now s a.request.now a.told c.if-request-ne-SHOW_LENGTH.false
-    (ap search_is (sym c.in-Nothing.is) ∙ c.event_asked.ensures s)
-    (c.negative-in-Nothing.ensures _ _)
+    (ap search_is (sym c.in-None.is) ∙ c.event_asked.ensures s)
+    (c.negative-in-None.ensures _ _)

@@ -24,7 +24,7 @@ write_shown-requires c =
       within = c.requires.0.within;
       event_inside = c.requires.1;
       own_is =
-          own_is a.cfg.now a.told _ (remembering a.records.now a.memory.now) c.entry_frames.ensures
+          own_is a.cfg.now a.told _ (remembering a.state.now.records.now a.state.now.memory.now) c.entry_frames.ensures
           c.place_of-own.ensures;
       fits = omega (arith, c.shown_length.ensures);
     }
@@ -32,7 +32,7 @@ write_shown-requires c =
 pub returns-in-Negative : goal.returns-in-Negative
 returns-in-Negative c b =
     let a = c.args in
-    let s = lent a.records.now a.debounce.now a.memory.now b in
+    let s = lent a.state.now.records.now a.state.now.debounce.now a.state.now.memory.now b in
     fitted_by_turn a.cfg.now a.room.now s a.request.now _ c.turn_of.ensures
     c.in-Negative.is (c.suppresses.ensures a.cfg.now)
     (ap (ltb (length a.room.now))
@@ -43,7 +43,7 @@ returns-in-Negative c b =
 pub returns-in-Suppressed : goal.returns-in-Suppressed
 returns-in-Suppressed c b =
     let a = c.args in
-    let s = lent a.records.now a.debounce.now a.memory.now b in
+    let s = lent a.state.now.records.now a.state.now.debounce.now a.state.now.memory.now b in
     fitted_by_turn a.cfg.now a.room.now s a.request.now _ c.turn_of.ensures c.in-Suppressed.is
     (c.suppresses.ensures a.cfg.now)
     (ap (ltb (length a.room.now))
@@ -54,7 +54,7 @@ returns-in-Suppressed c b =
 pub returns-in-Write : goal.returns-in-Write
 returns-in-Write c b =
     let a = c.args in
-    let s = lent a.records.now a.debounce.now a.memory.now b in
+    let s = lent a.state.now.records.now a.state.now.debounce.now a.state.now.memory.now b in
     let told = c.in-Write.is in
     let size =
     size_is _ a.told _ s c.entry_frames.ensures c.place_of-own.ensures

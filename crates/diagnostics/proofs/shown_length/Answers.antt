@@ -9,8 +9,8 @@ pub overflow_add-result : goal.overflow_add-result
 overflow_add-result c =
     omega (arith, c.told_length.ensures, told_most _ c.requires c.args.told)
 
-pub returns-in-At : goal.returns-in-At
-returns-in-At c =
+pub returns-in-Some : goal.returns-in-Some
+returns-in-Some c =
     let a = c.args in
     ap (λ (k : ℕ). 7 + k) c.told_length.ensures
-    ∙ ap (shown_length a.cfg.now a.told) (sym c.in-At.is)
+    ∙ ap (shown_length a.cfg.now a.told) (sym c.in-Some.is)

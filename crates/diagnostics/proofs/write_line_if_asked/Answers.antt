@@ -17,7 +17,7 @@ pub write_line-requires : goal.write_line-requires
 write_line-requires c =
     let a = c.args in
     let fits = c.requires in
-    let is = ap (line_with a.cfg.now a.event.0) (sym c.in-Shown.is)
+    let is = ap (line_with a.cfg.now a.event.0) (sym c.in-Some.is)
     ∙ c.line_byte.ensures in
     record {
       config = fits.config;
@@ -25,15 +25,15 @@ write_line-requires c =
       within = subst (λ (l : List ℕ). a.at + length l ≤ length a.room.now) (sym is) fits.within;
     }
 
-pub returns-in-Shown : goal.returns-in-Shown
-returns-in-Shown c =
+pub returns-in-Some : goal.returns-in-Some
+returns-in-Some c =
     let a = c.args in
-    let is = ap (line_with a.cfg.now a.event.0) (sym c.in-Shown.is) ∙ c.line_byte.ensures in
+    let is = ap (line_with a.cfg.now a.event.0) (sym c.in-Some.is) ∙ c.line_byte.ensures in
     c.write_line.ensures ∙ ap (λ (l : List ℕ). append l (written a.at a.room.now)) is
 
-pub returns-in-Nothing : goal.returns-in-Nothing
-returns-in-Nothing c =
+pub returns-in-None : goal.returns-in-None
+returns-in-None c =
     let a = c.args in
-    let is = ap (line_with a.cfg.now a.event.0) (sym c.in-Nothing.is)
+    let is = ap (line_with a.cfg.now a.event.0) (sym c.in-None.is)
     ∙ c.line_byte.ensures in
     sym (append_none _) ∙ ap (λ (l : List ℕ). append l (written a.at a.room.now)) is

@@ -17,7 +17,7 @@ unfolding lines
 write_line_if_asked-next-requires c =
     let fits = c.requires in
     let a = c.args in
-    let asked = line_if_asked a.cfg.now a.asked (holding a.records.now a.debounce.now) in
+    let asked = line_if_asked a.cfg.now a.asked (holding a.state.now.records.now a.state.now.debounce.now) in
     let below = rw c.events-n.ensures at c.loop-event-test.true in
     record {
       config = fits.config;

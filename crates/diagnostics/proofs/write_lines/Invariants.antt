@@ -11,7 +11,7 @@ abbrev pub invariant-loop-event : goal.invariant-loop-event
 invariant-loop-event l =
     (l.event ≤ l.n) ×
     (written l.next l.room
-    ≡ append (join_below l.event (line_if_asked l.cfg l.asked (holding l.records l.debounce))) (written l.at l.initial.room))
+    ≡ append (join_below l.event (line_if_asked l.cfg l.asked (holding l.state.records.now l.state.debounce.now))) (written l.at l.initial.room))
     × (length l.room ≡ length l.initial.room)
 
 abbrev pub decreases-loop-event : goal.decreases-loop-event

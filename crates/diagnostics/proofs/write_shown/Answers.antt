@@ -30,6 +30,6 @@ write_behind_status-requires c = (
 pub returns : goal.returns
 returns c =
     let a = c.args in
-    shown_written a.cfg.now a.told a.event.0 a.records.now a.memory.now _ c.number_of.ensures
+    shown_written a.cfg.now a.told a.event.0 a.state.now.records.now a.state.now.memory.now _ c.number_of.ensures
     c.status_of-status.ensures c.write-at.ensures c.write_line-next.ensures
     c.write_behind_status.ensures

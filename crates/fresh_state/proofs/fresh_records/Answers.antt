@@ -5,9 +5,6 @@ use Rattle.manual.specs.Configuration.{events}
 use Rattle.fresh_state.proofs.FreshLaws.{fresh_none, fresh_more, fresh_all}
 use Rattle.fresh_state.proofs.fresh_records.Goals as goal
 
-pub events-event-end-requires : goal.events-event-end-requires
-events-event-end-requires c = tt
-
 pub loop-event-init : goal.loop-event-init
 loop-event-init c = (omega arith, fresh_none _ _, refl)
 
@@ -26,9 +23,6 @@ loop-event-preserved c =
       fresh_more _ _ c.requires _ h loop.invariant.1 c.write_fresh_record.ensures,
       c.write_fresh_record.auto.records ∙ loop.invariant.2,
     )
-
-pub shape_of-records : goal.shape_of-records
-shape_of-records c = c.loop-event.invariant.2
 
 pub returns : goal.returns
 returns c =

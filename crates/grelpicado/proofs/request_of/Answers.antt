@@ -1,12 +1,8 @@
 -- `request_of` meets its contract.
-use Rattle.manual.specs.State.{lent}
-use Rattle.manual.specs.Answers.{of_length}
-use Rattle.grelpicado.proofs.PanelLaws.{length_verdict, crossed}
+use Rattle.grelpicado.proofs.PanelLaws.{request_crosses}
 use Rattle.grelpicado.proofs.request_of.Goals as goal
 
 pub returns : goal.returns
 returns c = λ records debounce memory b.
-    let a = c.args.returned in
-    crossed (of_length a.answer) b (lent records debounce memory a.board)
-    c.args.found c.length_number-number.ensures
-    (length_verdict a.answer) c.written_length.ensures c.handed_back.ensures
+    rw (c.handed_back.ensures, c.number-number.ensures, c.unwrap_or.ensures)
+    (request_crosses records debounce memory b c.args.after c.args.found c.args.answer)

@@ -1,11 +1,7 @@
--- `any_runs` meets its contract: a board has four cycles.
-use mathlib.Core.Path.{◌≡◌}
-use lib.ListN.{length}
-use Rattle.image.proofs.SaveLaws.{any_of_four}
-use borrow.Author.Rules.{rules}
+-- `any_runs` meets its contract.
+use mathlib.Core.Path.{◌∙◌}
+use Rattle.image.proofs.SaveLaws.{any_is_true}
 use Rattle.image.proofs.any_runs.Goals as goal
 
 pub returns : goal.returns
-returns c =
-    let h : length c.args.board.running
-    ≡ 4 = search rules in any_of_four c.args.board.running h
+returns c = c.contains.ensures.value ∙ any_is_true c.args.board.running

@@ -1,6 +1,7 @@
 -- `fill_memory` meets its contract.
 use native.Mathlib.Omega.{arith}
 use Rattle.writing.proofs.WritingLaws.{append_next}
+use Rattle.image.specs.Editions.{edition_number}
 use Rattle.image.specs.Widened.{made_of}
 use Rattle.image.proofs.RestoreLaws.{front_written}
 use Rattle.image.proofs.fill_memory.Goals as goal
@@ -12,5 +13,5 @@ zero_from-requires c =
 pub returns : goal.returns
 returns c =
     let a = c.args in
-    front_written (made_of a.number a.frame_bytes a.used.now) a.memory.now c.requires.within
+    front_written (made_of (edition_number a.edition) a.frame_bytes a.used.now) a.memory.now c.requires.within
     c.write_entries-end.ensures c.zero_from.ensures

@@ -1,8 +1,7 @@
 -- `length_ok` meets its contract.
 use mathlib.Core.Path.{sym}
 use native.Mathlib.Omega.{arith}
-use Prim.Native.Nat.{◌+◌, ◌≤◌}
-use Rattle.image.proofs.LayoutLaws.{too_short, too_many, counted, end_most, few_enough}
+use Rattle.image.proofs.LayoutLaws.{too_short, too_many, counted, few_enough}
 use Rattle.image.proofs.length_ok.Goals as goal
 
 pub returns-then-image-start : goal.returns-then-image-start
@@ -22,24 +21,6 @@ bytes_in_use-requires c =
     c.memory_at-start.ensures c.entry_count.ensures
     (omega (arith, c.places.ensures, c.if-places-entry_count.false)) c.requires.0 c.requires.1
     c.if-image-start.false
-
-pub overflow_add-result : goal.overflow_add-result
-overflow_add-result c =
-    let most : c.memory_at-start.result + c.bytes_in_use.result ≤ 6357 =
-    end_most _ c.args.payload_bytes c.args.image.now
-    c.memory_at-start.ensures c.entry_count.ensures
-    (omega (arith, c.places.ensures, c.if-places-entry_count.false)) c.bytes_in_use.ensures
-    c.requires.0 c.requires.1 in
-    omega (arith, most)
-
-pub overflow_add-result-2 : goal.overflow_add-result-2
-overflow_add-result-2 c =
-    let most : c.memory_at-start.result + c.bytes_in_use.result ≤ 6357 =
-    end_most _ c.args.payload_bytes c.args.image.now
-    c.memory_at-start.ensures c.entry_count.ensures
-    (omega (arith, c.places.ensures, c.if-places-entry_count.false)) c.bytes_in_use.ensures
-    c.requires.0 c.requires.1 in
-    omega (arith, most)
 
 pub returns : goal.returns
 returns c =

@@ -1,61 +1,26 @@
-use mathlib.Core.Path.{sym, ◌∙◌}
+use mathlib.Core.Path.{◌∙◌}
 use native.Mathlib.Omega.{arith}
-use Rattle.image.proofs.WidenedLaws.{count_long, begins, makes_whole, entry_within, entry_long}
-use Rattle.image.proofs.WidenedLaws.{entry_room, goes_on, ends}
+use Rattle.image.proofs.WidenedLaws.{begins, goes_on, ends}
 use Rattle.image.proofs.widen.Goals as goal
 
-pub overflow_add-width : goal.overflow_add-width
-overflow_add-width c = record { fits = omega (arith, c.requires.small) }
+pub loop-entry-init : goal.loop-entry-init
+loop-entry-init c =
+    let items = c.chunks_exact-entry-items.ensures in (
+      rw c.into_iter-entry-iterator.ensures.into_iter_gives items.size,
+      begins _ _ _ c.requires c.write-at.ensures c.write-at.auto.room
+          (rw c.into_iter-entry-iterator.ensures.into_iter_gives items.rest),
+    )
 
-pub entry_count-left-requires : goal.entry_count-left-requires
-entry_count-left-requires c = omega (arith, c.requires.as_long)
-
-pub slice_bounds-write-end : goal.slice_bounds-write-end
-slice_bounds-write-end c = sym (count_long _ _ _ c.requires)
-
-pub write-at-requires : goal.write-at-requires
-write-at-requires c =
-    let pre = c.requires in omega (arith, pre.within, count_long _ _ _ pre)
-
-pub loop-left-init : goal.loop-left-init
-loop-left-init c =
-    let write = c.write-at in
-    begins _ _ _ c.requires c.entry_count-left.ensures write.ensures
-    write.auto.room
-
-pub overflow_add-from : goal.overflow_add-from
-overflow_add-from c =
-    let within = entry_within _ c.loop-left.invariant c.loop-left-test.true in
-    record { fits = omega (arith, within) }
-
-pub slice_bounds-write_both-end : goal.slice_bounds-write_both-end
-slice_bounds-write_both-end c = entry_within _ c.loop-left.invariant c.loop-left-test.true
-
-pub write_both-at-requires : goal.write_both-at-requires
-write_both-at-requires c =
-    let inv = c.loop-left.invariant in
-    let taken = c.loop-left-test.true in
-    (omega (arith, entry_long _ inv taken), entry_room _ inv taken)
-
-pub overflow_add-from-in-loop-left : goal.overflow_add-from-in-loop-left
-overflow_add-from-in-loop-left c =
-    let loop = c.loop-left in
-    let within = entry_within _ loop.invariant c.loop-left-test.true in
-    record { fits = omega (arith, within) }
-
-pub loop-left-preserved : goal.loop-left-preserved
-loop-left-preserved c =
-    let loop = c.loop-left in
-    let write-both = c.write_both-at in
-    goes_on _ loop.invariant c.loop-left-test.true write-both.auto.memory
-    write-both.ensures
-
-pub shape_of-memory : goal.shape_of-memory
-shape_of-memory c = c.loop-left.invariant.kept ∙ c.write-at.auto.room
+pub loop-entry-preserved : goal.loop-entry-preserved
+loop-entry-preserved c =
+    let inv = c.loop-entry.invariant in
+    let steps = c.in-Some.ensures.steps in (
+      steps.0 ∙ inv.0,
+      goes_on _ _ _ _ steps.1.0 (steps.1.1 ∙ inv.0) _ inv.1.1 c.write_both-at.auto.memory
+          c.write_both-at.ensures,
+    )
 
 pub returns : goal.returns
 returns c =
-    ends _ c.loop-left.invariant (omega arith)
-    ∙ makes_whole _ _ _ c.requires
-    c.entry_count-left.ensures
-    c.write-at.ensures
+    let inv = c.loop-entry.invariant in
+    ends _ _ inv.1.1 (omega (arith, c.in-None.ensures.steps.1.0, inv.0))

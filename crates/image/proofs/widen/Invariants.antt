@@ -1,14 +1,13 @@
--- `widen`: at each turn the entries that are left, written behind what is written, make the whole. The measure is
--- their number.
-use lib.ListN.{drop}
+-- `widen`: at each turn the entries that are left, written behind what is written, make the whole.
+use mathlib.Core.Path.{◌≡◌}
+use Rattle.manual.specs.Memory.{entry_width}
 use Rattle.writing.specs.Writing.{written, append}
-use Rattle.image.proofs.WidenedLaws.{next, Going}
+use Rattle.image.specs.Widened.{widened_bytes}
+use Rattle.image.proofs.WidenedLaws.{Turn}
 use Rattle.image.proofs.widen.Given as goal
 
-abbrev pub invariant-loop-left : goal.invariant-loop-left
-invariant-loop-left l =
-    Going l.frame_bytes l.used (append (next l.frame_bytes l.initial.left (drop l.initial.from l.used)) (written l.initial.at l.initial.memory)) l.initial.memory l.memory l.at
-    l.from l.left
-
-abbrev pub decreases-loop-left : goal.decreases-loop-left
-decreases-loop-left l = l.left
+abbrev pub invariant-loop-entry : goal.invariant-loop-entry
+invariant-loop-entry l =
+    (l.entry-iterator.size ≡ entry_width l.frame_bytes)
+    × Turn l.frame_bytes (append (widened_bytes l.frame_bytes l.used) (written 0 l.fn.memory)) l.fn.memory l.memory
+    l.entry-iterator.rest.now l.at

@@ -1,18 +1,9 @@
 -- `write_both` meets its contract.
-use mathlib.Core.Path.{sym}
 use native.Mathlib.Omega.{arith}
 use Rattle.writing.specs.Writing.{written}
 use Rattle.writing.proofs.WritingLaws.{append_next}
 use Rattle.image.proofs.WidenedLaws.{head_long, frames_written}
 use Rattle.image.proofs.write_both.Goals as goal
-
-pub slice_bounds-write-end : goal.slice_bounds-write-end
-slice_bounds-write-end c =
-    sym (head_long c.args.bytes.now c.requires.0)
-
-pub write-first_at-requires : goal.write-first_at-requires
-write-first_at-requires c =
-    omega (arith, head_long c.args.bytes.now c.requires.0, c.requires.1)
 
 pub write-latest_at-requires : goal.write-latest_at-requires
 write-latest_at-requires c =

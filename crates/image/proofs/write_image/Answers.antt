@@ -1,8 +1,9 @@
 -- `write_image` meets its contract.
+use mathlib.Core.Path.{◌∙◌}
 use native.Mathlib.Omega.{arith}
 use mathlib.Core.Bool.{cond}
 use Rattle.writing.proofs.WritingLaws.{append_next}
-use Rattle.image.proofs.SaveLaws.{bodies_written}
+use Rattle.image.proofs.SaveLaws.{bodies_written, flag_is}
 use Rattle.image.proofs.write_image.Goals as goal
 
 pub write-memory_at-requires : goal.write-memory_at-requires
@@ -26,6 +27,6 @@ returns c =
     let a = c.args in
     bodies_written a.records.now a.used.now a.room.now (cond a.overflow 1 0) c.requires.1
     c.header-head.ensures
-    c.flag.ensures c.write-records_at.ensures c.write-memory_at.ensures
+    (c.from.ensures ∙ flag_is a.overflow) c.write-records_at.ensures c.write-memory_at.ensures
     c.write-overflow_at.ensures
     c.write.ensures

@@ -13,7 +13,7 @@ returns c =
     let a = c.args in
     c.first_of.ensures
     ∙ judged_in_turn a.fits c.if-config_ok.state_ok
-    (well_formed a.cfg.now (lent a.records.now a.debounce.now a.memory.now a.board))
+    (well_formed a.cfg.now (lent a.state.now.records.now a.state.now.debounce.now a.state.now.memory.now a.state.now.board))
     c.config_ok-config_ok.ensures
     (elim c.if-config_ok.branch [
       | then-config_ok w ↦ rw w.if-config_ok.true (w.state_ok-is ∙ w.well_formed-state_ok.ensures)

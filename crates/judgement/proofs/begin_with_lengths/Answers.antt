@@ -11,12 +11,11 @@ lengths_fit-state_ok-requires c = sym c.config_ok-config_ok.ensures ∙ c.if-con
 pub returns : goal.returns
 returns c =
     let a = c.args in
-    λ b.
     c.first_of.ensures
     ∙ judged_in_turn a.fits c.if-config_ok.state_ok
-    (lengths_fit a.cfg.now (lent a.records.now a.debounce.now a.memory.now b))
+    (lengths_fit a.cfg.now (lent a.state.now.records.now a.state.now.debounce.now a.state.now.memory.now a.state.now.board))
     c.config_ok-config_ok.ensures
     (elim c.if-config_ok.branch [
-      | then-config_ok w ↦ rw w.if-config_ok.true (w.state_ok-is ∙ w.lengths_fit-state_ok.ensures b)
+      | then-config_ok w ↦ rw w.if-config_ok.true (w.state_ok-is ∙ w.lengths_fit-state_ok.ensures)
       | else-config_ok w ↦ rw (w.state_ok-is, w.if-config_ok.false)
     ])

@@ -17,7 +17,7 @@ overflow_mul-result c =
 pub returns : goal.returns
 unfolding lengths_fit_with
 returns c =
-    λ b. rw (
+    rw (
       c.memory_length-memory_length.ensures,
       c.entry_frames.ensures,
       c.places.ensures,

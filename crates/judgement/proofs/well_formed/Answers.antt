@@ -12,15 +12,15 @@ pub returns-then-not-lengths_fit : goal.returns-then-not-lengths_fit
 returns-then-not-lengths_fit c =
     sym
     (not_fitting _ _ _ _ _ _
-    (sym (c.lengths_fit.ensures c.args.board)
+    (sym (c.lengths_fit.ensures)
     ∙ c.if-not-lengths_fit.true))
 
 pub records_ok-requires : goal.records_ok-requires
 records_ok-requires c =
     let fits : let a = c.args in lengths_fit a.cfg.now
-    (lent a.records.now a.debounce.now a.memory.now a.board)
+    (lent a.state.now.records.now a.state.now.debounce.now a.state.now.memory.now a.state.now.board)
     ≡ true =
-    sym (c.lengths_fit.ensures c.args.board) ∙ c.if-not-lengths_fit.false in
+    sym (c.lengths_fit.ensures) ∙ c.if-not-lengths_fit.false in
     record {
       accepted = c.requires;
       as_long = (lengths_tell _ _ fits).records;
@@ -29,9 +29,9 @@ records_ok-requires c =
 pub numbers_ok-requires : goal.numbers_ok-requires
 numbers_ok-requires c =
     let fits : let a = c.args in lengths_fit a.cfg.now
-    (lent a.records.now a.debounce.now a.memory.now a.board)
+    (lent a.state.now.records.now a.state.now.debounce.now a.state.now.memory.now a.state.now.board)
     ≡ true =
-    sym (c.lengths_fit.ensures c.args.board) ∙ c.if-not-lengths_fit.false in
+    sym (c.lengths_fit.ensures) ∙ c.if-not-lengths_fit.false in
     record { accepted = c.requires; as_long = (lengths_tell _ _ fits).debounce }
 
 pub memory_ok-requires : goal.memory_ok-requires
@@ -46,13 +46,13 @@ memory_ok-requires c =
 pub returns : goal.returns
 returns c =
     let fits : let a = c.args in lengths_fit a.cfg.now
-    (lent a.records.now a.debounce.now a.memory.now a.board)
+    (lent a.state.now.records.now a.state.now.debounce.now a.state.now.memory.now a.state.now.board)
     ≡ true =
-    sym (c.lengths_fit.ensures c.args.board) ∙ c.if-not-lengths_fit.false in
+    sym (c.lengths_fit.ensures) ∙ c.if-not-lengths_fit.false in
     let a = c.args in
     let n = c.events-n.ensures in
     let m = c.places-m.ensures in
     let f = c.entry_frames-f.ensures in
     (λ i. c.records_ok.ensures i && c.numbers_ok.ensures i
-    && (c.memory_ok.ensures ∙ (λ j. block_ok (n j) (m j) (f j) a.records.now a.memory.now)) i)
+    && (c.memory_ok.ensures ∙ (λ j. block_ok (n j) (m j) (f j) a.state.now.records.now a.state.now.memory.now)) i)
     ∙ judged_in_passes _ _ _ _ _ _ fits

@@ -18,8 +18,8 @@ unfolding turns
 loop-preserved c = (
   omega arith,
   rw (add-one, ← c.loop.invariant.1)
-      c.turn-line.ensures,
-  c.turn-line.auto.room ∙ c.loop.invariant.2,
+      c.turn.ensures,
+  c.turn.auto.room ∙ c.loop.invariant.2,
 )
 
 pub shape_of-room : goal.shape_of-room
@@ -30,5 +30,5 @@ returns c =
     let a = c.args in
     let most = frames_at_most (length a.message.now) in
     ap ended c.loop.invariant.1
-    ∙ looped_back_lem (λ n. a.block) (λ n. a.separation) (λ n. 0) a.message.now a.room.now
+    ∙ looped_back_lem (λ n. a.flow.block) (λ n. a.flow.separation) (λ n. 0) a.message.now a.room.now
     c.loop.counter (omega arith)

@@ -8,7 +8,7 @@ use Rattle.loopback.proofs.loop_back.Given as goal
 abbrev pub invariant-loop : goal.invariant-loop
 invariant-loop l =
     (l.counter ≤ l.frames)
-    × (on_line l.line l.room ≡ turns (λ n. l.block) (λ n. l.separation) (λ n. 0) l.message l.counter (begun l.message l.initial.room))
+    × (on_line l.line l.room ≡ turns (λ n. l.flow.block) (λ n. l.flow.separation) (λ n. 0) l.message l.counter (begun l.message l.initial.room))
     × (length l.room ≡ length l.initial.room)
 
 abbrev pub decreases-loop : goal.decreases-loop

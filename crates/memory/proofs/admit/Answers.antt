@@ -37,8 +37,8 @@ returns-then-entry_count-places c =
     ap (λ (m : List ℕ). left_with m Added) c.append.ensures
     ∙ appends a.cfg.now a.records.now a.memory.now a.event.0 a.frame.now pre.0 pre.1 h
 
-pub victim-found-requires : goal.victim-found-requires
-victim-found-requires c =
+pub victim-requires : goal.victim-requires
+victim-requires c =
     let a = c.args in
     let pre = c.requires in
     may_search a.cfg.now a.records.now a.memory.now a.event.0 a.frame.now pre.0 pre.1
@@ -48,10 +48,10 @@ displace-requires c =
     let a = c.args in
     let pre = c.requires in
     may_displace a.cfg.now a.records.now a.memory.now a.event.0 a.frame.now pre.0 pre.1 _
-    (sym c.victim-found.ensures ∙ c.in-At.is)
+    (sym c.victim.ensures ∙ c.in-Some.is)
 
-pub returns-in-At : goal.returns-in-At
-returns-in-At c =
+pub returns-in-Some : goal.returns-in-Some
+returns-in-Some c =
     let a = c.args in
     let pre = c.requires in
     let h : places a.cfg.now ≤ entry_count a.memory.now =
@@ -63,11 +63,11 @@ returns-in-At c =
     ) in
     c.displace.ensures
     ∙ displaces a.cfg.now a.records.now a.memory.now a.event.0 a.frame.now pre.0 pre.1 h _
-    (sym c.victim-found.ensures
-    ∙ c.in-At.is)
+    (sym c.victim.ensures
+    ∙ c.in-Some.is)
 
-pub returns-in-Nothing : goal.returns-in-Nothing
-returns-in-Nothing c =
+pub returns-in-None : goal.returns-in-None
+returns-in-None c =
     let a = c.args in
     let pre = c.requires in
     let h : places a.cfg.now ≤ entry_count a.memory.now =
@@ -78,4 +78,4 @@ returns-in-Nothing c =
       c.if-entry_count-places.false,
     ) in
     loses a.cfg.now a.records.now a.memory.now a.event.0 a.frame.now pre.0 pre.1 h
-    (sym c.victim-found.ensures ∙ c.in-Nothing.is)
+    (sym c.victim.ensures ∙ c.in-None.is)

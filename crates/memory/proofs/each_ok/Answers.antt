@@ -10,8 +10,8 @@ use Rattle.memory.proofs.PlacesLaws.{entries_are_count}
 use Rattle.memory.proofs.JudgementLaws.{all_ends, all_goes_on, all_through}
 use Rattle.memory.proofs.each_ok.Goals as goal
 
-pub entry_count-entries-requires : goal.entry_count-entries-requires
-entry_count-entries-requires c = omega (arith, c.requires.1.within)
+pub entry_count-i-end-requires : goal.entry_count-i-end-requires
+entry_count-i-end-requires c = omega (arith, c.requires.1.within)
 
 pub loop-i-init : goal.loop-i-init
 loop-i-init c = (omega arith, refl)
@@ -20,14 +20,14 @@ pub event_at-event-requires : goal.event_at-event-requires
 event_at-event-requires c =
     record {
       entries = c.requires.1;
-      below = omega (arith, c.entry_count-entries.ensures, c.loop-i-test.true);
+      below = omega (arith, c.entry_count-i-end.ensures, c.loop-i-test.true);
     }
 
 pub count_at-count-requires : goal.count_at-count-requires
 count_at-count-requires c =
     record {
       entries = c.requires.1;
-      below = omega (arith, c.entry_count-entries.ensures, c.loop-i-test.true);
+      below = omega (arith, c.entry_count-i-end.ensures, c.loop-i-test.true);
     }
 
 pub entry_ok-requires : goal.entry_ok-requires
@@ -41,7 +41,7 @@ returns-then-not-entry_ok c =
     omega (
       arith,
       entries_are_count c.args.payload_bytes c.args.memory.now,
-      c.entry_count-entries.ensures,
+      c.entry_count-i-end.ensures,
       c.loop-i-test.true,
     ) in
     let e : q (at_place c.loop-i.i xs) ≡ false =
@@ -59,7 +59,7 @@ loop-i-preserved c =
     omega (
       arith,
       entries_are_count c.args.payload_bytes c.args.memory.now,
-      c.entry_count-entries.ensures,
+      c.entry_count-i-end.ensures,
       c.loop-i-test.true,
     ) in
     let e : q (at_place c.loop-i.i xs) ≡ true =
@@ -84,6 +84,6 @@ returns c =
       arith,
       entries_are_count c.args.payload_bytes
           c.args.memory.now,
-      c.entry_count-entries.ensures,
+      c.entry_count-i-end.ensures,
       c.loop-i-test.false,
     )))

@@ -8,9 +8,9 @@ use Rattle.memory.proofs.each_ok.Given as goal
 
 abbrev pub invariant-loop-i : goal.invariant-loop-i
 invariant-loop-i l =
-    (l.i ≤ l.entries) ×
+    (l.i ≤ l.i-end) ×
     (all_of (sound_entry l.events l.records) (entries_of l.payload_bytes l.memory)
     ≡ all_of (sound_entry l.events l.records) (drop l.i (entries_of l.payload_bytes l.memory)))
 
 abbrev pub decreases-loop-i : goal.decreases-loop-i
-decreases-loop-i l = l.entries - l.i
+decreases-loop-i l = l.i-end - l.i

@@ -22,8 +22,8 @@ loop-i-init c = (
   marks_past _ _ (long c.args.payload_bytes c.args.memory.now c.entry_count-i.ensures),
 )
 
-pub overflow_sub-i : goal.overflow_sub-i
-overflow_sub-i c = omega (arith, c.loop-i-test.true)
+pub overflow_step-i : goal.overflow_step-i
+overflow_step-i c = omega (arith, c.loop-i-test.true)
 
 pub event_at-event-requires : goal.event_at-event-requires
 event_at-event-requires c =

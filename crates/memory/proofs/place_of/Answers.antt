@@ -6,8 +6,8 @@ use Rattle.manual.specs.Memory.{is_of, entries_of}
 use Rattle.memory.proofs.PlacesLaws.{entries_are_count, first_hit, first_miss, first_end}
 use Rattle.memory.proofs.place_of.Goals as goal
 
-pub entry_count-entries-requires : goal.entry_count-entries-requires
-entry_count-entries-requires c = omega (arith, c.requires.within)
+pub entry_count-i-end-requires : goal.entry_count-i-end-requires
+entry_count-i-end-requires c = omega (arith, c.requires.within)
 
 pub loop-i-init : goal.loop-i-init
 loop-i-init c = (omega arith, refl)
@@ -16,7 +16,7 @@ pub is_of-requires : goal.is_of-requires
 is_of-requires c =
     record {
       entries = c.requires;
-      below = omega (arith, c.entry_count-entries.ensures, c.loop-i-test.true);
+      below = omega (arith, c.entry_count-i-end.ensures, c.loop-i-test.true);
     }
 
 pub returns-then-is_of : goal.returns-then-is_of
@@ -26,7 +26,7 @@ returns-then-is_of c =
     omega (
       arith,
       entries_are_count c.args.payload_bytes c.args.memory.now,
-      c.entry_count-entries.ensures,
+      c.entry_count-i-end.ensures,
       c.loop-i-test.true,
     ) in
     sym
@@ -41,7 +41,7 @@ loop-i-preserved c =
     omega (
       arith,
       entries_are_count c.args.payload_bytes c.args.memory.now,
-      c.entry_count-entries.ensures,
+      c.entry_count-i-end.ensures,
       c.loop-i-test.true,
     ) in (
       omega arith,
@@ -61,6 +61,6 @@ returns c =
       arith,
       entries_are_count c.args.payload_bytes
           c.args.memory.now,
-      c.entry_count-entries.ensures,
+      c.entry_count-i-end.ensures,
       c.loop-i-test.false,
     )))

@@ -8,8 +8,8 @@ use Rattle.memory.proofs.VictimLaws.{priority_at, best_of_none, best_stays, best
 use Rattle.memory.proofs.place_of_greatest.Goals as goal
 use Rattle.memory.proofs.place_of_greatest.Goals.{then-top-priority, else-top-priority}
 
-pub entry_count-entries-requires : goal.entry_count-entries-requires
-entry_count-entries-requires c = omega (arith, c.requires.0.entries.within)
+pub entry_count-i-end-requires : goal.entry_count-i-end-requires
+entry_count-i-end-requires c = omega (arith, c.requires.0.entries.within)
 
 pub priority_of-top-requires : goal.priority_of-top-requires
 priority_of-top-requires c = c.requires.1
@@ -27,7 +27,7 @@ pub event_at-requires : goal.event_at-requires
 event_at-requires c =
     record {
       entries = c.requires.0.entries;
-      below = omega (arith, c.entry_count-entries.ensures, c.loop-i-test.true);
+      below = omega (arith, c.entry_count-i-end.ensures, c.loop-i-test.true);
     }
 
 pub priority_of-priority-requires : goal.priority_of-priority-requires
@@ -36,7 +36,7 @@ priority_of-priority-requires c =
     (event_small c.args.payload_bytes c.loop-i.i
     c.args.memory.now
     c.requires.0
-    (omega (arith, c.entry_count-entries.ensures, c.loop-i-test.true)))
+    (omega (arith, c.entry_count-i-end.ensures, c.loop-i-test.true)))
 
 pub loop-i-preserved : goal.loop-i-preserved
 loop-i-preserved c =
@@ -68,7 +68,7 @@ returns c = let p = priority_of c.args.cfg.now in
       arith,
       entries_are_count c.args.payload_bytes
           c.args.memory.now,
-      c.entry_count-entries.ensures,
+      c.entry_count-i-end.ensures,
       c.loop-i-test.false,
       c.loop-i.invariant.0,
     ) in

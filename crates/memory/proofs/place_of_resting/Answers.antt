@@ -10,8 +10,8 @@ use Rattle.memory.specs.Store.{quiet_in}
 use Rattle.memory.proofs.PlacesLaws.{entries_are_count, event_small, first_hit, first_miss, first_end}
 use Rattle.memory.proofs.place_of_resting.Goals as goal
 
-pub entry_count-entries-requires : goal.entry_count-entries-requires
-entry_count-entries-requires c = omega (arith, c.requires.0.entries.within)
+pub entry_count-i-end-requires : goal.entry_count-i-end-requires
+entry_count-i-end-requires c = omega (arith, c.requires.0.entries.within)
 
 pub priority_of-p-requires : goal.priority_of-p-requires
 priority_of-p-requires c = c.requires.1
@@ -23,7 +23,7 @@ pub event_at-requires : goal.event_at-requires
 event_at-requires c =
     record {
       entries = c.requires.0.entries;
-      below = omega (arith, c.entry_count-entries.ensures, c.loop-i-test.true);
+      below = omega (arith, c.entry_count-i-end.ensures, c.loop-i-test.true);
     }
 
 pub gives_way-requires : goal.gives_way-requires
@@ -32,7 +32,7 @@ gives_way-requires c =
     (event_small c.args.payload_bytes
     c.loop-i.i c.args.memory.now
     c.requires.0
-    (omega (arith, c.entry_count-entries.ensures, c.loop-i-test.true)))
+    (omega (arith, c.entry_count-i-end.ensures, c.loop-i-test.true)))
 
 pub returns-then-gives_way : goal.returns-then-gives_way
 returns-then-gives_way c =
@@ -42,7 +42,7 @@ returns-then-gives_way c =
     omega (
       arith,
       entries_are_count c.args.payload_bytes c.args.memory.now,
-      c.entry_count-entries.ensures,
+      c.entry_count-i-end.ensures,
       c.loop-i-test.true,
     ) in
     sym
@@ -62,7 +62,7 @@ loop-i-preserved c =
     omega (
       arith,
       entries_are_count c.args.payload_bytes c.args.memory.now,
-      c.entry_count-entries.ensures,
+      c.entry_count-i-end.ensures,
       c.loop-i-test.true,
     ) in (
       omega arith,
@@ -85,7 +85,7 @@ returns c =
       arith,
       entries_are_count c.args.payload_bytes
           c.args.memory.now,
-      c.entry_count-entries.ensures,
+      c.entry_count-i-end.ensures,
       c.loop-i-test.false,
     )))
     ∙ ap (λ (k : ℕ). first_place (q k) xs) c.priority_of-p.ensures

@@ -10,9 +10,9 @@ use Rattle.memory.proofs.place_of_resting.Given as goal
 
 abbrev pub invariant-loop-i : goal.invariant-loop-i
 invariant-loop-i l =
-    (l.i ≤ l.entries) ×
+    (l.i ≤ l.i-end) ×
     (first_place (rests_at (priority_of l.cfg) (quiet_in l.records) l.p) (entries_of l.payload_bytes l.memory)
     ≡ first_place_from (rests_at (priority_of l.cfg) (quiet_in l.records) l.p) l.i (drop l.i (entries_of l.payload_bytes l.memory)))
 
 abbrev pub decreases-loop-i : goal.decreases-loop-i
-decreases-loop-i l = l.entries - l.i
+decreases-loop-i l = l.i-end - l.i

@@ -6,8 +6,8 @@ use Rattle.memory.specs.Store.{left_with}
 use Rattle.memory.proofs.StoreLaws.{may_find, may_renew, renews, has_none}
 use Rattle.memory.proofs.store.Goals as goal
 
-pub place_of-own-requires : goal.place_of-own-requires
-place_of-own-requires c =
+pub place_of-requires : goal.place_of-requires
+place_of-requires c =
     let a = c.args in
     may_find a.cfg.now a.records.now a.memory.now a.event.0 a.frame.now
     c.requires c.entry_frames-payload_bytes.ensures
@@ -17,22 +17,22 @@ renew-requires c =
     let a = c.args in
     may_renew a.cfg.now a.records.now a.memory.now a.event.0 a.frame.now
     c.requires c.entry_frames-payload_bytes.ensures _
-    (sym c.place_of-own.ensures ∙ c.in-At.is)
+    (sym c.place_of.ensures ∙ c.in-Some.is)
 
-pub returns-in-At : goal.returns-in-At
-returns-in-At c =
+pub returns-in-Some : goal.returns-in-Some
+returns-in-Some c =
     let a = c.args in
     ap (λ (m : List ℕ). left_with m Renewed) c.renew.ensures
     ∙ renews a.cfg.now a.records.now a.memory.now a.event.0 a.frame.now
     c.requires c.entry_frames-payload_bytes.ensures _
-    (sym c.place_of-own.ensures
-    ∙ c.in-At.is)
+    (sym c.place_of.ensures
+    ∙ c.in-Some.is)
 
-pub returns-in-Nothing : goal.returns-in-Nothing
-returns-in-Nothing c =
+pub returns-in-None : goal.returns-in-None
+returns-in-None c =
     let a = c.args in
     c.admit.ensures
     ∙ has_none a.cfg.now a.records.now a.memory.now a.event.0 a.frame.now
     c.requires c.entry_frames-payload_bytes.ensures
-    (sym c.place_of-own.ensures
-    ∙ c.in-Nothing.is)
+    (sym c.place_of.ensures
+    ∙ c.in-None.is)

@@ -2,25 +2,24 @@
 use Rattle.one_event.proofs.LentLaws.{fails_told, fails_untold}
 use Rattle.one_event.proofs.fails.Goals as goal
 
-pub returns-then-after : goal.returns-then-after
-returns-then-after c =
+pub returns-then-after-clause-promise : goal.returns-then-after-clause-promise
+returns-then-after-clause-promise c =
     let a = c.args in
-    let Limits-of = c.limits_of-limits in
-    let read-record = c.read_record-before in
+    let s = a.state.now in
+    let limits = c.limits_of-limits in
+    let before = c.read_record-before in
     let failed = c.failed-after in
-    fails_told a.cfg.now a.event.0 a.frame.now a.records.now a.memory.now a.board
-    Limits-of.result read-record.result
-    failed.result Limits-of.ensures read-record.ensures failed.ensures
-    c.write_record.ensures c.if-after.true
-    c.tell_memory.ensures
+    fails_told a.cfg.now a.event.0 a.frame.now s.records.now s.memory.now s.board
+    limits.result before.result failed.result limits.ensures before.ensures failed.ensures
+    c.write_record.ensures c.if-after.true s.debounce.now c.tell_memory.ensures.promise
 
-pub returns-else-after : goal.returns-else-after
-returns-else-after c =
+pub returns-else-after-clause-promise : goal.returns-else-after-clause-promise
+returns-else-after-clause-promise c =
     let a = c.args in
-    let Limits-of = c.limits_of-limits in
-    let read-record = c.read_record-before in
+    let s = a.state.now in
+    let limits = c.limits_of-limits in
+    let before = c.read_record-before in
     let failed = c.failed-after in
-    fails_untold a.cfg.now a.event.0 a.frame.now a.records.now a.memory.now a.board
-    Limits-of.result read-record.result
-    failed.result Limits-of.ensures read-record.ensures failed.ensures
-    c.write_record.ensures c.if-after.false
+    fails_untold a.cfg.now a.event.0 a.frame.now s.records.now s.memory.now s.board
+    limits.result before.result failed.result limits.ensures before.ensures failed.ensures
+    c.write_record.ensures c.if-after.false s.debounce.now

@@ -1,3 +1,4 @@
+-- `stops` meets its contract.
 use Rattle.one_event.proofs.LentLaws.{stops_is}
 use Rattle.one_event.proofs.stops.Goals as goal
 
@@ -11,10 +12,11 @@ stop_record-aged-requires c =
       kept = fits.kept;
     }
 
-pub returns : goal.returns
-returns c =
+pub returns-clause-promise : goal.returns-clause-promise
+returns-clause-promise c =
     let a = c.args in
-    stops_is a.cfg.now a.event.0 a.records.now a.debounce.now a.memory.now
+    let s = a.state.now in
+    stops_is a.cfg.now a.event.0 s.records.now s.debounce.now s.memory.now
     c.reset_number.ensures
     c.stop_record-aged.ensures.0 c.stop_record-aged.ensures.1
-    c.entry_leaves_if.ensures
+    c.entry_leaves_if.ensures s.board

@@ -4,8 +4,7 @@ use Rattle.config.proofs.PartLaws.{row_within}
 use Rattle.debounce.specs.Rows.{RowOf, answered}
 use Rattle.debounce.proofs.SmallNumbersLaws.{held}
 use Rattle.debounce.proofs.RowOfPart.{row_is}
-use Rattle.manual.specs.State.{lent}
-use Rattle.one_event.specs.Ready.{flagged}
+use Rattle.manual.specs.Lent.{as_lent}
 use Rattle.one_event.proofs.LentLaws.{may_tick, ticks_is}
 use Rattle.one_event.proofs.ticks.Goals as goal
 
@@ -16,30 +15,22 @@ part_of-requires c =
 
 pub tick_step-d-requires : goal.tick_step-d-requires
 tick_step-d-requires c =
-    let row : let a = c.args in
-    RowOf a.cfg.now a.event.0 c.row_of-row.result =
     let a = c.args in
+    let number = c.read_number in
+    let row : RowOf a.cfg.now a.event.0 c.row_of-row.result =
     row_is a.cfg.now a.event.0
     (subst (λ p. RowOf p 0 c.row_of-row.result) c.part_of.ensures c.row_of-row.ensures) in
-    let a = c.args in
-    let read_number = c.read_number in
-    may_tick a.cfg.now a.event.0
-    (lent a.records.now a.debounce.now a.memory.now (flagged a.board a.overflow))
-    c.requires.0 c.row_of-row.result
-    (row) (held read_number.ensures read_number.type_inv) a.ms c.requires.1.1
+    may_tick a.cfg.now a.event.0 (as_lent a.state.now)
+    c.requires.0 c.row_of-row.result row (held number.ensures number.type_inv) a.ms c.requires.1.1
 
-pub returns : goal.returns
-returns c =
-    let row : let a = c.args in
-    RowOf a.cfg.now a.event.0 c.row_of-row.result =
+pub returns-clause-promise : goal.returns-clause-promise
+returns-clause-promise c =
     let a = c.args in
+    let number = c.read_number in
+    let step = c.tick_step-d in
+    let row : RowOf a.cfg.now a.event.0 c.row_of-row.result =
     row_is a.cfg.now a.event.0
     (subst (λ p. RowOf p 0 c.row_of-row.result) c.part_of.ensures c.row_of-row.ensures) in
-    let a = c.args in
-    let read_number = c.read_number in
-    let tick-step = c.tick_step-d in
-    ticks_is a.cfg.now a.event.0
-    (lent a.records.now a.debounce.now a.memory.now (flagged a.board a.overflow))
-    a.frame.now c.row_of-row.result
-    (row) (held read_number.ensures read_number.type_inv) (answered tick-step.result)
-    c.moves.ensures a.ms tick-step.ensures
+    ticks_is a.cfg.now a.event.0 (as_lent a.state.now) a.frame.now c.row_of-row.result
+    row (held number.ensures number.type_inv) (answered step.result)
+    c.applies.ensures.promise a.ms step.ensures

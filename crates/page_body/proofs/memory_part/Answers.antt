@@ -2,7 +2,7 @@
 use Rattle.page_body.proofs.BodyLaws.{memory_begins, taken_most}
 use Rattle.page_body.specs.Body.{memory_part}
 use Rattle.manual.proofs.ConfigurationLaws.{config_tells}
-use Rattle.page_text.proofs.TextLaws.{puts_then, puts_most}
+use Rattle.page_text.proofs.PageLaws.{◌and_then◌, adds_most}
 use Rattle.page_text.specs.Text.{text}
 use native.Mathlib.Omega.{arith}
 use Rattle.page_body.proofs.memory_part.Goals as goal
@@ -37,4 +37,4 @@ returns c =
     rw (
       ← c.entry_count-taken.ensures,
       ← c.places-places.ensures,
-    ) (puts_most (omega arith) (puts_then c.put-a.ensures c.memory.ensures))
+    ) (adds_most (omega arith) (c.put.ensures and_then c.memory.ensures))

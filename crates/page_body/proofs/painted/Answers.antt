@@ -1,6 +1,6 @@
 use Rattle.page_body.proofs.BodyLaws.{painted_in, painted_by}
 use Rattle.page_body.specs.Body.{painted}
-use Rattle.page_rows.specs.Rows.{is_painted}
+use Rattle.page_rows.specs.Rows.{paint_number, is_painted}
 use Rattle.untested.specs.Page.{holding}
 use Rattle.untested.proofs.PageLaws.{event_within}
 use Rattle.manual.proofs.BelowLaws.{count_none, count_more, count_most}
@@ -15,8 +15,8 @@ events-n-requires c = tt
 pub loop-event-init : goal.loop-event-init
 loop-event-init c = (omega arith, sym (count_none _))
 
-pub paint_of-paint-requires : goal.paint_of-paint-requires
-paint_of-paint-requires c =
+pub paint_of-own-requires : goal.paint_of-own-requires
+paint_of-own-requires c =
     event_within _ _ c.requires _
     (rw c.events-n.ensures at c.loop-event-test.true)
 
@@ -27,7 +27,7 @@ pub one_more_if-number-requires : goal.one_more_if-number-requires
 one_more_if-number-requires c =
     let t = config_tells _ c.requires.accepted in
     let most = count_most (λ e. is_painted c.args.cfg.now (holding
-    c.args.records.now c.args.board) e c.args.which) c.loop-event.event in
+    c.args.records.now c.args.board) e (paint_number c.args.paint)) c.loop-event.event in
     omega (
       arith,
       c.events-n.ensures,
@@ -40,9 +40,10 @@ loop-event-preserved c = (
   omega arith,
   rw (
     count_more,
-    ← c.paint_of-paint.ensures,
-    ← c.paint_number.ensures,
     ← c.loop-event.invariant.1,
+    ← c.paint_of-own.ensures,
+    ← c.paint_number.ensures,
+    ← c.paint_number-in-loop-event.ensures,
   ) c.one_more_if-number.ensures,
 )
 
@@ -50,7 +51,7 @@ pub overflow_cast-result : goal.overflow_cast-result
 overflow_cast-result c =
     let a = c.args in
     let t = config_tells _ c.requires.accepted in
-    let most = count_most (λ e. is_painted a.cfg.now (holding a.records.now a.board) e a.which)
+    let most = count_most (λ e. is_painted a.cfg.now (holding a.records.now a.board) e (paint_number a.paint))
     c.loop-event.event in
     record {
       fits = omega (
@@ -66,5 +67,5 @@ overflow_cast-result c =
 pub returns : goal.returns
 returns c =
     let e : c.loop-event.event ≡ c.events-n.result = omega arith in
-    let is : c.loop-event.number ≡ painted c.args.cfg.now (holding c.args.records.now c.args.board) c.args.which = painted_by _ _ _ _ _ _ (e ∙ c.events-n.ensures) c.loop-event.invariant.1 in
-    λ d m. is ∙ painted_in c.args.cfg.now c.args.records.now c.args.board c.args.which d m
+    let is : c.loop-event.number ≡ painted c.args.cfg.now (holding c.args.records.now c.args.board) (paint_number c.args.paint) = painted_by _ _ _ _ _ _ (e ∙ c.events-n.ensures) c.loop-event.invariant.1 in
+    λ d m. is ∙ painted_in c.args.cfg.now c.args.records.now c.args.board (paint_number c.args.paint) d m

@@ -1,7 +1,7 @@
 -- `top` meets its contract.
 use Rattle.page_body.specs.Body.{top}
 use Rattle.manual.proofs.ConfigurationLaws.{config_tells}
-use Rattle.page_text.proofs.TextLaws.{puts_then, puts_most}
+use Rattle.page_text.proofs.PageLaws.{◌and_then◌, adds_most}
 use native.Mathlib.Omega.{arith}
 use Rattle.page_rows.proofs.RowsLaws.{records_for}
 use Rattle.page_body.proofs.top.Goals as goal
@@ -29,10 +29,9 @@ pub returns : goal.returns
 unfolding top
 returns c =
     rw (
-      ← c.painted-untested.ensures c.args.debounce.now c.args.memory.now,
-      ← c.painted-failed.ensures c.args.debounce.now
-          c.args.memory.now,
-      ← c.painted-live.ensures c.args.debounce.now c.args.memory.now,
+      ← c.painted-untested.ensures c.args.state.now.debounce.now c.args.state.now.memory.now,
+      ← c.painted-failed.ensures c.args.state.now.debounce.now
+          c.args.state.now.memory.now,
+      ← c.painted-live.ensures c.args.state.now.debounce.now c.args.state.now.memory.now,
       ← c.events-n.ensures,
-    ) (puts_most (omega arith) (puts_then
-    (puts_then c.title-a.ensures c.headline-b.ensures) c.tiles.ensures))
+    ) (adds_most (omega arith) (c.title.ensures and_then c.headline.ensures and_then c.tiles.ensures))

@@ -1,10 +1,10 @@
 -- `upper` meets its contract.
-use Rattle.page_body.specs.Body.{upper}
-use Rattle.page_text.proofs.TextLaws.{puts_then, puts_most}
 use native.Mathlib.Omega.{arith}
+use Rattle.page_text.specs.Text.{text}
+use Rattle.page_text.proofs.PageLaws.{adds_most, ◌and_then◌}
+use Rattle.page_body.specs.Body.{upper, untested_section, untested_list, failed_section, failed_list, paint_section}
 use Rattle.page_body.proofs.upper.Goals as goal
 
 pub returns : goal.returns
-unfolding upper
-returns c =
-    puts_most (omega arith) (puts_then (puts_then (puts_then c.top-a.ensures c.messages-b.ensures) c.untested_section-c.ensures) c.failed_section.ensures)
+unfolding upper untested_section untested_list failed_section failed_list paint_section text
+returns c = adds_most (omega arith) (c.top.ensures and_then c.messages.ensures and_then c.paint_section.ensures and_then c.paint_section-2.ensures)

@@ -1,6 +1,6 @@
 -- `last_answer` meets its contract.
 use Rattle.page_heads.specs.Heads.{last_answer}
-use Rattle.page_text.proofs.TextLaws.{puts_most}
+use Rattle.page_text.proofs.PageLaws.{adds_most}
 use Rattle.page_text.specs.Text.{text}
 use borrow.Author.Tests.{eq-eqb, ne_eqb}
 use native.Mathlib.Omega.{arith}
@@ -9,8 +9,8 @@ use Rattle.page_heads.proofs.last_answer.Goals as goal
 pub returns-then-made-eq0 : goal.returns-then-made-eq0
 unfolding last_answer text
 returns-then-made-eq0 c =
-    rw (eq-eqb _ _ c.if-made-eq0.true) (puts_most (omega arith) c.put.ensures)
+    rw (eq-eqb _ _ c.if-made-eq0.true) (adds_most (omega arith) c.put.ensures)
 
-pub returns : goal.returns
+pub returns-else-made-eq0 : goal.returns-else-made-eq0
 unfolding last_answer
-returns c = rw (ne_eqb _ _ c.if-made-eq0.false) c.put_answer.ensures
+returns-else-made-eq0 c = rw (ne_eqb _ _ c.if-made-eq0.false) c.put_answer.ensures

@@ -1,6 +1,6 @@
 -- `put_answer` meets its contract.
 use Rattle.page_heads.specs.Heads.{answered_with}
-use Rattle.page_text.proofs.TextLaws.{puts_then, puts_most}
+use Rattle.page_text.proofs.PageLaws.{◌and_then◌, adds_most}
 use Rattle.page_text.specs.Text.{text}
 use native.Mathlib.Omega.{arith}
 use Rattle.page_heads.proofs.put_answer.Goals as goal
@@ -8,4 +8,9 @@ use Rattle.page_heads.proofs.put_answer.Goals as goal
 pub returns : goal.returns
 unfolding answered_with text
 returns c =
-    puts_most (omega arith) (puts_then (puts_then (puts_then (puts_then c.put-a.ensures c.put_decimal-b.ensures) c.put_if-c.ensures) c.put_if-d.ensures) c.put.ensures)
+    adds_most (omega arith)
+    (c.put.ensures
+    and_then c.put_decimal.ensures
+    and_then c.put_if.ensures
+    and_then c.put_if-2.ensures
+    and_then c.put-2.ensures)

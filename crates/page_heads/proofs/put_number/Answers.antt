@@ -1,15 +1,12 @@
 -- `put_number` meets its contract.
 use native.Mathlib.Omega.{arith}
 use Rattle.page_text.specs.Text.{text}
-use Rattle.page_text.proofs.TextLaws.{puts_then, puts_most}
+use Rattle.page_text.proofs.PageLaws.{◌and_then◌, adds_most}
 use Rattle.page_heads.specs.Heads.{number}
 use Rattle.page_heads.proofs.put_number.Goals as goal
 
 pub returns : goal.returns
 unfolding number text
 returns c =
-    puts_most (omega arith)
-    (puts_then
-    (puts_then c.put-a.ensures
-    c.put_decimal-b.ensures)
-    c.put.ensures)
+    adds_most (omega arith)
+    (c.put.ensures and_then c.put_decimal.ensures and_then c.put-2.ensures)

@@ -1,7 +1,7 @@
 -- `put_overflow` meets its contract.
 use native.Mathlib.Omega.{arith}
 use Rattle.page_text.specs.Text.{text}
-use Rattle.page_text.proofs.TextLaws.{puts_most}
+use Rattle.page_text.proofs.PageLaws.{adds_most}
 use Rattle.page_heads.specs.Heads.{overflowed}
 use Rattle.page_heads.proofs.put_overflow.Goals as goal
 
@@ -9,10 +9,10 @@ pub returns-then-overflow : goal.returns-then-overflow
 unfolding overflowed text
 returns-then-overflow c =
     rw c.if-overflow.true
-    (puts_most (omega arith) c.put.ensures)
+    (adds_most (omega arith) c.put.ensures)
 
-pub returns : goal.returns
+pub returns-else-overflow : goal.returns-else-overflow
 unfolding overflowed text
-returns c =
+returns-else-overflow c =
     rw c.if-overflow.false
-    (puts_most (omega arith) c.put-2.ensures)
+    (adds_most (omega arith) c.put-else-overflow.ensures)

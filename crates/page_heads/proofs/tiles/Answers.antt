@@ -1,22 +1,18 @@
 -- `tiles` meets its contract.
 use native.Mathlib.Omega.{arith}
 use Rattle.page_text.specs.Text.{text}
-use Rattle.page_text.proofs.TextLaws.{puts_then, puts_most}
+use Rattle.page_text.proofs.PageLaws.{◌and_then◌, adds_most}
 use Rattle.page_heads.specs.Heads.{tiles}
 use Rattle.page_heads.proofs.tiles.Goals as goal
 
 pub returns : goal.returns
 unfolding tiles text
 returns c =
-    puts_most (omega arith)
-    (puts_then
-    (puts_then
-    (puts_then
-    (puts_then
-    (puts_then
-    (puts_then c.put-a.ensures c.put_decimal-b.ensures)
-    c.put-c.ensures)
-    c.put_decimal-d.ensures)
-    c.put-e.ensures)
-    c.put_decimal-f.ensures)
-    c.put.ensures)
+    adds_most (omega arith)
+    (c.put.ensures
+    and_then c.put_decimal.ensures
+    and_then c.put-2.ensures
+    and_then c.put_decimal-2.ensures
+    and_then c.put-3.ensures
+    and_then c.put_decimal-3.ensures
+    and_then c.put-4.ensures)

@@ -1,134 +1,57 @@
-use Rattle.page_names.proofs.NamesLaws.{line_ends, stop_within, kept_is, bad_hit, bad_miss, no_bad}
-use Rattle.page_names.specs.Names.{first_bad, is_bad}
-use Prim.Native.Nat.{◌+◌}
-use native.Mathlib.Omega.{arith}
+use Rattle.std.proofs.Common.{rules}
+use Rattle.std.proofs.lemmas.Iterator.Consumers.{YieldsList-turn, YieldsList-end, YieldsList-at}
+use Rattle.std.proofs.lemmas.Iterator.Splits.{YieldsList-from_slice_split}
+use Rattle.std.proofs.lemmas.List.{length_push}
 use mathlib.Core.Path.{refl, sym, ap, ◌∙◌}
+use native.Mathlib.Omega.{arith}
+use Rattle.page_names.specs.Names.{is_newline, is_bad, first_bad}
+use Rattle.page_names.proofs.NamesLaws.{lines_are, bad_turn, bad_end, bad_within}
 use Rattle.page_names.proofs.first_bad.Goals as goal
 
-pub loop-at-init : goal.loop-at-init
+pub loop-line-init : goal.loop-line-init
 unfolding first_bad
-loop-at-init c = (refl, omega arith)
+loop-line-init c = (refl, refl)
 
-pub run_end-end-requires : goal.run_end-end-requires
-run_end-end-requires c = tt
-
-pub slice_bounds-kept-count : goal.slice_bounds-kept-count
-slice_bounds-kept-count c = omega (arith, c.run_end-end.ensures)
-
-pub slice_bounds-kept-start : goal.slice_bounds-kept-start
-slice_bounds-kept-start c =
-    omega (
-      arith,
-      c.run_end-end.ensures,
-      line_ends c.args.file.now c.loop-at.at _ c.loop-at-test.true c.run_end-end.ensures,
-    )
-
-pub slice_bounds-kept-end : goal.slice_bounds-kept-end
-slice_bounds-kept-end c =
-    line_ends c.args.file.now c.loop-at.at _ c.loop-at-test.true c.run_end-end.ensures
-
-pub kept-requires : goal.kept-requires
-kept-requires c = tt
-
-pub overflow_add-stop : goal.overflow_add-stop
-overflow_add-stop c =
-    let file = c.args.file.now in
-    let at = c.loop-at.at in
-    let h = c.loop-at-test.true in
-    let e = c.run_end-end.ensures in
-    let s = ap (λ k. at + k) c.kept.ensures in
-    omega (
-      arith,
-      line_ends file at _ h e,
-      stop_within file at _ h e _ s,
-      c.requires,
-    )
-
-pub slice_bounds-is_bad-start : goal.slice_bounds-is_bad-start
-slice_bounds-is_bad-start c =
-    let file = c.args.file.now in
-    let at = c.loop-at.at in
-    let h = c.loop-at-test.true in
-    let e = c.run_end-end.ensures in
-    let s = ap (λ k. at + k) c.kept.ensures in
-    omega (
-      arith,
-      line_ends file at _ h e,
-      stop_within file at _ h e _ s,
-      c.requires,
-    )
-
-pub slice_bounds-is_bad-end : goal.slice_bounds-is_bad-end
-slice_bounds-is_bad-end c =
-    let file = c.args.file.now in
-    let at = c.loop-at.at in
-    let h = c.loop-at-test.true in
-    let e = c.run_end-end.ensures in
-    let s = ap (λ k. at + k) c.kept.ensures in
-    omega (arith, line_ends file at _ h e, stop_within file at _ h e _ s)
-
-pub is_bad-requires : goal.is_bad-requires
-is_bad-requires c = tt
+pub overflow_cast-result : goal.overflow_cast-result
+overflow_cast-result c =
+    let t = rw (lines_are c.args.file.now) at
+    (YieldsList-turn
+    (YieldsList-at c.into_iter-line-iterator.ensures.into_iter_gives
+    (YieldsList-from_slice_split _ is_newline c.args.file.now c.split-line-items.ensures.rest
+    c.split-line-items.ensures.done c.split-line-items.ensures.closure (λ x b q k. search rules)))
+    c.loop-line.yielded _ c.loop-line.yielded_by _ _ c.in-Some.line c.in-Some.is c.next.ensures.steps) in
+    let few = bad_within c.args.file.now _ _ t.0 t.1 (ap is_bad (sym c.kept.ensures) ∙ sym c.is_bad.ensures ∙ c.if-is_bad.true) in
+    record { fits = omega (arith, few, c.loop-line.invariant.0, c.requires) }
 
 pub returns-then-is_bad : goal.returns-then-is_bad
 returns-then-is_bad c =
-    let file = c.args.file.now in
-    let at = c.loop-at.at in
-    let h = c.loop-at-test.true in
-    let e = c.run_end-end.ensures in
-    let s = ap (λ k. at + k) c.kept.ensures in
-    let is = kept_is file at _ h e _ s in (
-      sym (c.loop-at.invariant.0 ∙ bad_hit file at _ h e _ (ap is_bad
-          (sym is) ∙ sym c.is_bad.ensures ∙ c.if-is_bad.true)),
-      omega (
-        arith,
-        c.loop-at.invariant.1,
-        h,
-        c.requires,
-      ),
-    )
+    let t = rw (lines_are c.args.file.now) at
+    (YieldsList-turn
+    (YieldsList-at c.into_iter-line-iterator.ensures.into_iter_gives
+    (YieldsList-from_slice_split _ is_newline c.args.file.now c.split-line-items.ensures.rest
+    c.split-line-items.ensures.done c.split-line-items.ensures.closure (λ x b q k. search rules)))
+    c.loop-line.yielded _ c.loop-line.yielded_by _ _ c.in-Some.line c.in-Some.is c.next.ensures.steps) in
+    let is = ap is_bad (sym c.kept.ensures) ∙ sym c.is_bad.ensures ∙ c.if-is_bad.true in
+    sym (c.loop-line.invariant.1 ∙ bad_turn _ _ _ _ t.0 t.1 ∙ rw is)
 
-pub overflow_add-at : goal.overflow_add-at
-overflow_add-at c =
-    let file = c.args.file.now in
-    let at = c.loop-at.at in
-    let h = c.loop-at-test.true in
-    let e = c.run_end-end.ensures in
-    omega (arith, line_ends file at _ h e, c.requires)
-
-pub overflow_add-number : goal.overflow_add-number
-overflow_add-number c =
-    omega (
-      arith,
-      c.loop-at.invariant.1,
-      c.loop-at-test.true,
-      c.requires,
-    )
-
-pub loop-at-smaller : goal.loop-at-smaller
-loop-at-smaller c =
-    omega (
-      arith,
-      c.run_end-end.ensures,
-      c.loop-at-test.true,
-    )
-
-pub loop-at-preserved : goal.loop-at-preserved
-loop-at-preserved c =
-    let file = c.args.file.now in
-    let at = c.loop-at.at in
-    let h = c.loop-at-test.true in
-    let e = c.run_end-end.ensures in
-    let s = ap (λ k. at + k) c.kept.ensures in
-    let is = kept_is file at _ h e _ s in (
-      c.loop-at.invariant.0 ∙ bad_miss file at _ h e _ (ap is_bad (sym
-          is) ∙ sym c.is_bad.ensures ∙ c.if-is_bad.false),
-      omega (
-        arith,
-        c.loop-at.invariant.1,
-        e,
-      ),
-    )
+pub loop-line-preserved : goal.loop-line-preserved
+loop-line-preserved c =
+    let t = rw (lines_are c.args.file.now) at
+    (YieldsList-turn
+    (YieldsList-at c.into_iter-line-iterator.ensures.into_iter_gives
+    (YieldsList-from_slice_split _ is_newline c.args.file.now c.split-line-items.ensures.rest
+    c.split-line-items.ensures.done c.split-line-items.ensures.closure (λ x b q k. search rules)))
+    c.loop-line.yielded _ c.loop-line.yielded_by _ _ c.in-Some.line c.in-Some.is c.next.ensures.steps) in
+    let is = ap is_bad (sym c.kept.ensures) ∙ sym c.is_bad.ensures ∙ c.if-is_bad.false in
+    let n = length_push c.loop-line.yielded c.in-Some.line in
+    (omega (arith, n, c.loop-line.invariant.0), c.loop-line.invariant.1 ∙ bad_turn _ _ _ _ t.0 t.1 ∙ rw (is, n))
 
 pub returns : goal.returns
-returns c = (sym (c.loop-at.invariant.0 ∙ no_bad _ _ _ c.loop-at-test.false), omega arith)
+returns c =
+    let t = rw (lines_are c.args.file.now) at
+    (YieldsList-end
+    (YieldsList-at c.into_iter-line-iterator.ensures.into_iter_gives
+    (YieldsList-from_slice_split _ is_newline c.args.file.now c.split-line-items.ensures.rest
+    c.split-line-items.ensures.done c.split-line-items.ensures.closure (λ x b q k. search rules)))
+    c.loop-line.yielded _ c.loop-line.yielded_by _ _ c.in-None.is c.next.ensures.steps) in
+    sym (c.loop-line.invariant.1 ∙ bad_end _ _ _ t.1)

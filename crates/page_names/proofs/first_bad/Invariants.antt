@@ -1,12 +1,11 @@
 -- `first_bad` meets its contract.
-use Rattle.page_names.specs.Names.{bad_among, lines_of, first_bad}
-use lib.ListN.{length, drop}
-use Prim.Native.Nat.{◌+◌, ◌-◌, ◌≤◌}
 use mathlib.Core.Path.{◌≡◌}
+use Prim.Native.Nat.{◌+◌}
+use lib.ListN.{length, drop}
+use Rattle.page_names.specs.Names.{lines_of, bad_among, first_bad}
 use Rattle.page_names.proofs.first_bad.Given as goal
 
-abbrev pub invariant-loop-at : goal.invariant-loop-at
-invariant-loop-at l = (first_bad l.file ≡ bad_among l.number (lines_of (drop l.at l.file))) × (l.number ≤ l.at + 1)
-
-abbrev pub decreases-loop-at : goal.decreases-loop-at
-decreases-loop-at l = length l.file - l.at
+abbrev pub invariant-loop-line : goal.invariant-loop-line
+invariant-loop-line l =
+    (l.number ≡ length l.yielded + 1)
+    × (first_bad l.file ≡ bad_among l.number (drop (length l.yielded) (lines_of l.file)))

@@ -4,4 +4,4 @@ use Rattle.page_names.proofs.is_bad.Goals as goal
 
 pub returns : goal.returns
 unfolding is_bad
-returns c = rw c.is_good.ensures
+returns c = rw (c.is_empty.ensures, c.is_good.ensures)

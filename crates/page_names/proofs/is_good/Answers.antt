@@ -17,4 +17,4 @@ slice_bounds-name-start c =
 
 pub returns : goal.returns
 returns c =
-    good_is c.args.line.now c.run_end-digits.ensures c.code_end-end.ensures c.name_start-start.ensures c.is_text.ensures
+    good_is c.args.line.now c.digits_in-digits.ensures c.code_end-end.ensures c.name_start-start.ensures c.is_text.ensures

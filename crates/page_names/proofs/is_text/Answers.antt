@@ -1,27 +1,20 @@
-use Rattle.page_names.proofs.Utf8Laws.{all_more, all_end}
-use Rattle.page_names.specs.Utf8.{is_text, after_all}
-use Rattle.page_names.specs.declared.Awaited.{Awaited}
-use lib.ListN.{drop}
+-- `is_text` meets its contract.
+use Rattle.std.proofs.Common.{rules}
+use mathlib.Core.Path.{◌≡◌, ap, ◌∙◌}
 use lib.Dec.{eqb}
-use Prim.Native.Nat.{◌+◌}
-use mathlib.Core.Path.{sym, ap, ◌∙◌}
+use Rattle.std.specs.List.{fold}
+use Rattle.std.proofs.lemmas.Iterator.{YieldsList-from_slice}
+use Rattle.std.proofs.lemmas.Iterator.Consumers.{fold_from_yields_List}
+use Rattle.page_names.specs.declared.Awaited.{Awaited}
+use Rattle.page_names.specs.Utf8.{after, is_text}
+use Rattle.page_names.proofs.Utf8Laws.{all_is}
 use Rattle.page_names.proofs.is_text.Goals as goal
-
-pub awaits-a-requires : goal.awaits-a-requires
-awaits-a-requires c = tt
-
-pub loop-i-init : goal.loop-i-init
-loop-i-init c = ap (λ (a : Awaited). after_all a c.args.bytes.now) (sym c.awaits-a.ensures)
-
-pub after-a-requires : goal.after-a-requires
-after-a-requires c = tt
-
-pub loop-i-preserved : goal.loop-i-preserved
-loop-i-preserved c =
-    c.loop-i.invariant ∙ all_more _ _ _ c.loop-i-test.true ∙ ap (λ (a : Awaited).
-    after_all a (drop (c.loop-i.i + 1) c.args.bytes.now)) (sym c.after-a.ensures)
 
 pub returns : goal.returns
 unfolding is_text
 returns c =
-    ap (λ (a : Awaited). eqb a.left 0) (sym (c.loop-i.invariant ∙ all_end _ _ _ c.loop-i-test.false))
+    let bytes = c.args.bytes.now in
+    let e : c.fold.result ≡ fold after c.awaits-whole.result bytes =
+    fold_from_yields_List _ after _ _ c.fold.ensures.ran (YieldsList-from_slice bytes c.iter.ensures.rest)
+    (λ a x b q k. search rules) in
+    ap (λ (a : Awaited). eqb a.left 0) (e ∙ ap (λ (a : Awaited). fold after a bytes) c.awaits-whole.ensures ∙ all_is _ bytes)

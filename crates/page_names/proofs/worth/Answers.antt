@@ -1,37 +1,46 @@
-use lib.ListN.{get_or}
-use Rattle.page_names.proofs.NamesLaws.{digit_few, worth_none, worth_more, worth_few}
+use mathlib.Core.Path.{sym}
 use native.Mathlib.Omega.{arith}
-use mathlib.Core.Path.{◌≡◌, sym}
+use lib.ListN.{get_or, take}
+use lib.Seq.{length-take-le}
+use Rattle.std.proofs.lemmas.List.{get_or-take}
+use Rattle.page_names.proofs.NamesLaws.{digit_few, worth_none, worth_more, worth_few}
 use Rattle.page_names.proofs.worth.Goals as goal
 
-pub loop-i-init : goal.loop-i-init
-loop-i-init c = (omega arith, sym (worth_none _))
+pub loop-b-init : goal.loop-b-init
+loop-b-init c = sym (worth_none _)
 
 pub overflow_mul-n : goal.overflow_mul-n
 overflow_mul-n c =
-    omega (
-      arith,
-      worth_few c.args.line.now c.loop-i.i (omega arith),
-      c.loop-i.invariant.1,
-    )
-
-pub worth_of-requires : goal.worth_of-requires
-worth_of-requires c = tt
+    let long = length-take-le c.args.digits c.args.line.now c.requires.1 in
+    record {
+      fits = omega (
+        arith,
+        long,
+        worth_few c.args.line.now c.loop-b.b-index (omega (arith, long)),
+        c.loop-b.invariant,
+      );
+    }
 
 pub overflow_add-n : goal.overflow_add-n
 overflow_add-n c =
-    omega (
-      arith,
-      worth_few c.args.line.now c.loop-i.i (omega arith),
-      c.loop-i.invariant.1,
-      c.worth_of.ensures,
-      digit_few (get_or c.args.line.now c.loop-i.i 0),
+    let long = length-take-le c.args.digits c.args.line.now c.requires.1 in
+    record {
+      fits = omega (
+        arith,
+        long,
+        worth_few c.args.line.now c.loop-b.b-index (omega (arith, long)),
+        c.loop-b.invariant,
+        c.worth_of.ensures,
+        digit_few (get_or (take c.args.digits c.args.line.now) c.loop-b.b-index 0),
+      );
+    }
+
+pub loop-b-preserved : goal.loop-b-preserved
+loop-b-preserved c =
+    let long = length-take-le c.args.digits c.args.line.now c.requires.1 in
+    rw (
+      worth_more,
+      ← c.loop-b.invariant,
+      ← get_or-take c.args.digits c.args.line.now c.loop-b.b-index 0 (omega (arith, long)),
+      ← c.worth_of.ensures,
     )
-
-pub loop-i-preserved : goal.loop-i-preserved
-loop-i-preserved c = (omega arith, rw (worth_more, ← c.loop-i.invariant.1, ← c.worth_of.ensures))
-
-pub returns : goal.returns
-returns c =
-    let e : c.loop-i.i ≡ c.args.digits = omega arith in
-    rw (← e) c.loop-i.invariant.1

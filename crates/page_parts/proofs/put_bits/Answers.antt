@@ -1,19 +1,17 @@
 -- `put_bits` meets its contract.
 use native.Mathlib.Omega.{arith}
 use Rattle.page_text.specs.Text.{text}
-use Rattle.page_text.proofs.TextLaws.{puts_then, puts_most}
+use Rattle.page_text.proofs.PageLaws.{◌and_then◌, adds_most}
 use Rattle.page_parts.specs.Signals.{bits}
 use Rattle.page_parts.proofs.put_bits.Goals as goal
 
 pub returns : goal.returns
 unfolding bits text
 returns c =
-    puts_most (omega arith)
-    (puts_then
-    (puts_then
-    (puts_then
-    (puts_then (puts_then c.put-cell.ensures c.put_hex_byte-byte.ensures)
-    c.put_if-none.ensures)
-    c.put_low_names-low.ensures)
-    c.put_high_names-high.ensures)
-    c.put.ensures)
+    adds_most (omega arith)
+    (c.put.ensures
+    and_then c.put_hex_byte.ensures
+    and_then c.put_if.ensures
+    and_then c.put_low_names.ensures
+    and_then c.put_high_names.ensures
+    and_then c.put-2.ensures)

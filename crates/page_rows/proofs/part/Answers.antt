@@ -27,5 +27,5 @@ put_listed-requires c = (
 pub returns : goal.returns
 unfolding part_of
 returns c =
-    let s = lent c.args.records.now c.args.debounce.now c.args.memory.now c.args.board in
+    let s = lent c.args.state.now.records.now c.args.state.now.debounce.now c.args.state.now.memory.now c.args.state.now.board in
     row_put c.args.cfg.now c.args.names.now s c.args.event.0 (listed c.args.listing c.args.event.0) c.signal_of-x.ensures c.name_of-name.ensures c.put_listed.ensures

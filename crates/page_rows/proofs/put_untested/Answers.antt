@@ -1,14 +1,12 @@
 -- `put_untested` meets its contract.
-use Rattle.page_text.proofs.TextLaws.{puts_none}
 use borrow.Author.Tests.{eq-eqb, ne_eqb}
+use Rattle.page_text.proofs.PageLaws.{adds_none}
 use Rattle.page_rows.proofs.put_untested.Goals as goal
 
-pub returns-then-paint_number-ne0 : goal.returns-then-paint_number-ne0
-returns-then-paint_number-ne0 c = rw (← c.paint_number.ensures, ne_eqb _ _ c.if-paint_number-ne0.true) puts_none
+pub returns-then-paint_number-eq0 : goal.returns-then-paint_number-eq0
+returns-then-paint_number-eq0 c =
+    rw (← c.paint_number.ensures, eq-eqb _ _ c.if-paint_number-eq0.true) c.untested_row.ensures
 
-pub returns : goal.returns
-returns c =
-    rw (
-      ← c.paint_number.ensures,
-      eq-eqb _ _ c.if-paint_number-ne0.false,
-    ) c.untested_row.ensures
+pub returns-else-paint_number-eq0 : goal.returns-else-paint_number-eq0
+returns-else-paint_number-eq0 c =
+    rw (← c.paint_number.ensures, ne_eqb _ _ c.if-paint_number-eq0.false) adds_none

@@ -13,7 +13,7 @@ counter_of-counter-requires c = event_most _ _ _ c.requires
 
 pub overflow_cast-counter : goal.overflow_cast-counter
 overflow_cast-counter c =
-    let is = c.counter_of-counter.ensures c.args.memory.now c.args.board in
+    let is = c.counter_of-counter.ensures c.args.state.now.memory.now c.args.state.now.board in
     let fits : SFits w8 c.counter_of-counter.result = rw is (counter_fits _ _ _ c.requires) in
     rw (to_z-of_z {w = w64} (record { sfits = c.counter_of-counter.type_inv })) fits
 
@@ -23,6 +23,6 @@ returns c =
     let wide : to_z w64 (of_z w64 c.counter_of-counter.result) ≡ c.counter_of-counter.result = to_z-of_z {w = w64} (record {
       sfits = c.counter_of-counter.type_inv;
     }) in
-    let is = c.counter_of-counter.ensures c.args.memory.now c.args.board in
+    let is = c.counter_of-counter.ensures c.args.state.now.memory.now c.args.state.now.board in
     let fits : SFits w8 c.counter_of-counter.result = rw is (counter_fits _ _ _ c.requires) in
     rw (← is) (rw (wide, to_z-of_z fits) at c.raised.ensures)

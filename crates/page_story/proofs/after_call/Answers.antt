@@ -3,4 +3,4 @@ use Rattle.page_story.proofs.after_call.Goals as goal
 
 pub returns : goal.returns
 returns c =
-    λ records debounce memory. rw (← c.one_more_if.ensures)
+    λ s t. rw (← c.one_more_if.ensures)

@@ -1,11 +1,14 @@
 -- `put_head` meets its contract.
 use Rattle.page_story.specs.Page.{head}
-use Rattle.page_text.proofs.TextLaws.{puts_then, puts_most}
+use Rattle.page_text.proofs.PageLaws.{◌and_then◌, adds_most}
 use native.Mathlib.Omega.{arith}
 use Rattle.page_story.proofs.put_head.Goals as goal
 
 pub returns : goal.returns
 unfolding head
 returns c =
-    puts_most (omega arith) (puts_then (puts_then (puts_then c.put_meta-a.ensures c.put_texts-b.ensures)
-    c.put_paints-c.ensures) c.put_tables.ensures)
+    adds_most (omega arith)
+    (c.put_meta.ensures
+    and_then c.put_texts.ensures
+    and_then c.put_paints.ensures
+    and_then c.put_tables.ensures)

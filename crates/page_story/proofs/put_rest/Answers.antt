@@ -6,9 +6,9 @@ use Rattle.replay_step.specs.Beginning.{beginning}
 use Rattle.replay_step.proofs.BeginningLaws.{length_of_front, ready_tells, ready_is}
 use Rattle.replay_step.proofs.EachCallTakesAByte.{BeginningAhead, beginning_ahead}
 use Rattle.page_text.specs.Text.{text}
-use Rattle.page_text.proofs.TextLaws.{puts_most}
+use Rattle.page_text.proofs.PageLaws.{adds_as, adds_most}
 use Rattle.page_story.specs.Page.{refused_configuration}
-use Rattle.page_story.proofs.PageLaws.{put_as, rest_ready, rest_refused, rest_unreadable}
+use Rattle.page_story.proofs.PageLaws.{rest_ready, rest_refused, rest_unreadable}
 use Rattle.page_story.proofs.put_rest.Goals as goal
 
 pub slice_bounds-cfg-end : goal.slice_bounds-cfg-end
@@ -46,7 +46,7 @@ story-requires c =
 pub returns-in-Ready : goal.returns-in-Ready
 returns-in-Ready c =
     let a = c.args in
-    put_as (rest_ready a.longer a.text.now a.names.now a.unused _
+    adds_as (rest_ready a.longer a.text.now a.names.now a.unused _
     (beginning a.longer a.text.now)
     (rw c.in-Ready.is at
     c.begin.ensures))
@@ -56,14 +56,14 @@ pub returns-in-Refused : goal.returns-in-Refused
 unfolding refused_configuration text
 returns-in-Refused c =
     let a = c.args in
-    puts_most (omega arith) (put_as (rest_refused a.longer a.text.now a.names.now a.unused _
+    adds_most (omega arith) (adds_as (rest_refused a.longer a.text.now a.names.now a.unused _
     (beginning a.longer a.text.now) (rw c.in-Refused.is at
     c.begin.ensures)) c.put_bad.ensures)
 
 pub returns-in-Unreadable : goal.returns-in-Unreadable
 returns-in-Unreadable c =
     let a = c.args in
-    puts_most (omega arith) (put_as (rest_unreadable a.longer a.text.now a.names.now a.unused _
+    adds_most (omega arith) (adds_as (rest_unreadable a.longer a.text.now a.names.now a.unused _
     (beginning a.longer a.text.now) (rw c.in-Unreadable.is at
     c.begin.ensures))
     c.put_unreadable.ensures)

@@ -1,6 +1,6 @@
 -- `put_tables` meets its contract.
 use Rattle.page_story.specs.Page.{table_style}
-use Rattle.page_text.proofs.TextLaws.{puts_then, puts_most}
+use Rattle.page_text.proofs.PageLaws.{◌and_then◌, adds_most}
 use Rattle.page_text.specs.Text.{text}
 use native.Mathlib.Omega.{arith}
 use Rattle.page_story.proofs.put_tables.Goals as goal
@@ -8,6 +8,10 @@ use Rattle.page_story.proofs.put_tables.Goals as goal
 pub returns : goal.returns
 unfolding table_style text
 returns c =
-    puts_most (omega arith) (puts_then (puts_then (puts_then (puts_then
-    (puts_then c.put-a.ensures c.put-b.ensures) c.put-c.ensures) c.put-d.ensures)
-    c.put-e.ensures) c.put.ensures)
+    adds_most (omega arith)
+    (c.put.ensures
+    and_then c.put-2.ensures
+    and_then c.put-3.ensures
+    and_then c.put-4.ensures
+    and_then c.put-5.ensures
+    and_then c.put-6.ensures)

@@ -1,6 +1,6 @@
 -- `put_texts` meets its contract.
 use Rattle.page_story.specs.Page.{text_style}
-use Rattle.page_text.proofs.TextLaws.{puts_then, puts_most}
+use Rattle.page_text.proofs.PageLaws.{◌and_then◌, adds_most}
 use Rattle.page_text.specs.Text.{text}
 use native.Mathlib.Omega.{arith}
 use Rattle.page_story.proofs.put_texts.Goals as goal
@@ -8,6 +8,9 @@ use Rattle.page_story.proofs.put_texts.Goals as goal
 pub returns : goal.returns
 unfolding text_style text
 returns c =
-    puts_most (omega arith) (puts_then (puts_then (puts_then (puts_then
-    c.put-a.ensures c.put-b.ensures)
-    c.put-c.ensures) c.put-d.ensures) c.put.ensures)
+    adds_most (omega arith)
+    (c.put.ensures
+    and_then c.put-2.ensures
+    and_then c.put-3.ensures
+    and_then c.put-4.ensures
+    and_then c.put-5.ensures)

@@ -8,7 +8,7 @@ unfolding unreadable_log text
 returns-then-longer c =
     rw c.if-longer.true c.put_bad.ensures
 
-pub returns : goal.returns
+pub returns-else-longer : goal.returns-else-longer
 unfolding unreadable_log text
-returns c =
-    rw c.if-longer.false c.put_bad-2.ensures
+returns-else-longer c =
+    rw c.if-longer.false c.put_bad-else-longer.ensures

@@ -1,7 +1,9 @@
 -- `story` meets its contract.
+use mathlib.Core.Path.{ap, ◌∙◌}
 use native.Mathlib.Omega.{arith}
 use lib.ListN.{length}
 use Rattle.manual.specs.Calls.{fresh_state}
+use Rattle.manual.specs.WellFormed.{well_formed}
 use Rattle.manual.proofs.ConfigurationLaws.{config_tells}
 use Rattle.replay_step.proofs.TurnLaws.{blocks_within}
 use Rattle.replay_step.proofs.BeginningLaws.{length_of_front}
@@ -15,20 +17,20 @@ memory_length-used-requires c =
     let t = config_tells c.args.cfg.now c.requires.0.accepted in
     (rw c.places.ensures t.M_most, rw c.entry_frames.ensures t.payload_most)
 
-pub overflow_mul-records : goal.overflow_mul-records
-overflow_mul-records c =
+pub overflow_mul-state : goal.overflow_mul-state
+overflow_mul-state c =
     let t = config_tells c.args.cfg.now c.requires.0.accepted in omega
     (arith, c.events-n.ensures, t.n_most)
 
-pub slice_bounds-records-end : goal.slice_bounds-records-end
-slice_bounds-records-end c =
+pub slice_bounds-state-end : goal.slice_bounds-state-end
+slice_bounds-state-end c =
     let a = c.args in
     (blocks_within a.cfg.now c.requires.0 c.events-n.ensures
     (rw (c.places.ensures, c.entry_frames.ensures) at c.memory_length-used.ensures)
     ).records_within
 
-pub slice_bounds-records-end-2 : goal.slice_bounds-records-end-2
-slice_bounds-records-end-2 c =
+pub slice_bounds-state-end-2 : goal.slice_bounds-state-end-2
+slice_bounds-state-end-2 c =
     let a = c.args in
     length_of_front _ _ (blocks_within a.cfg.now c.requires.0
     c.events-n.ensures
@@ -36,16 +38,16 @@ slice_bounds-records-end-2 c =
     c.memory_length-used.ensures)
     ).records_within
 
-pub slice_bounds-debounce-end : goal.slice_bounds-debounce-end
-slice_bounds-debounce-end c =
+pub slice_bounds-state-end-3 : goal.slice_bounds-state-end-3
+slice_bounds-state-end-3 c =
     let a = c.args in
     (blocks_within a.cfg.now c.requires.0 c.events-n.ensures
     (rw (c.places.ensures, c.entry_frames.ensures) at
     c.memory_length-used.ensures)
     ).numbers_within
 
-pub slice_bounds-debounce-end-2 : goal.slice_bounds-debounce-end-2
-slice_bounds-debounce-end-2 c =
+pub slice_bounds-state-end-4 : goal.slice_bounds-state-end-4
+slice_bounds-state-end-4 c =
     let a = c.args in
     length_of_front _ _ (blocks_within a.cfg.now c.requires.0
     c.events-n.ensures
@@ -53,8 +55,8 @@ slice_bounds-debounce-end-2 c =
     c.memory_length-used.ensures)
     ).numbers_within
 
-pub slice_bounds-memory-end : goal.slice_bounds-memory-end
-slice_bounds-memory-end c =
+pub slice_bounds-state-end-5 : goal.slice_bounds-state-end-5
+slice_bounds-state-end-5 c =
     let a = c.args in
     (blocks_within a.cfg.now c.requires.0
     c.events-n.ensures
@@ -62,8 +64,8 @@ slice_bounds-memory-end c =
     c.memory_length-used.ensures)
     ).memory_within
 
-pub slice_bounds-memory-end-2 : goal.slice_bounds-memory-end-2
-slice_bounds-memory-end-2 c =
+pub slice_bounds-state-end-6 : goal.slice_bounds-state-end-6
+slice_bounds-state-end-6 c =
     let a = c.args in
     length_of_front _ _ (blocks_within a.cfg.now c.requires.0
     c.events-n.ensures
@@ -112,7 +114,8 @@ body-requires c =
     c.memory_length-used.ensures) in (
       record {
         accepted = c.requires.0.accepted;
-        formed = formed a.cfg.now a.text.now (fresh_state a.cfg.now) a.from.at
+        formed = ap (well_formed a.cfg.now) c.as_found.ensures
+            ∙ formed a.cfg.now a.text.now (fresh_state a.cfg.now) a.from.at
             (length a.text.now) c.play-told.ensures
             (fresh_formed a.cfg.now b (fresh_state a.cfg.now).board);
       },
@@ -125,4 +128,4 @@ returns c =
     let a = c.args in
     shown_put a.cfg.now a.names.now a.unused c.play-told.result _
     c.log_of-log.ensures c.play-told.ensures
-    c.body.ensures
+    c.as_found.ensures c.body.ensures

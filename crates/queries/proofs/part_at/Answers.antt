@@ -1,21 +1,16 @@
 -- `part_at` meets its contract.
-use native.Mathlib.Nat.{add-sub_cancel_left}
+use mathlib.Core.Path.{refl}
 use native.Mathlib.Omega.{arith}
-use Rattle.queries.proofs.ReadingLaws.{part_within, part_beyond}
+use Rattle.queries.specs.Reading.{part_at}
+use Rattle.queries.proofs.ReadingLaws.{part_got}
 use Rattle.queries.proofs.part_at.Goals as goal
 
-pub returns-then-memory-start : goal.returns-then-memory-start
-returns-then-memory-start c =
-    part_beyond c.args.start c.args.length
-    c.args.memory.now (omega arith)
+pub returns-in-Some : goal.returns-in-Some
+returns-in-Some c =
+    let (behind, _) = c.in-Some.ensures.lookup in
+    rw c.unwrap_or.ensures
+    (part_got _ _ _ _ c.get-in-Some.result _ refl behind.2 behind.3 c.get-in-Some.ensures.lookup)
 
-pub returns-then-memory-start-2 : goal.returns-then-memory-start-2
-returns-then-memory-start-2 c =
-    part_beyond c.args.start c.args.length
-    c.args.memory.now (omega arith)
-
-pub returns : goal.returns
-returns c =
-    rw add-sub_cancel_left
-    (part_within c.args.start c.args.length
-    c.args.memory.now (omega arith))
+pub returns-in-None : goal.returns-in-None
+unfolding part_at
+returns-in-None c = grind arith

@@ -1,21 +1,13 @@
 -- `read_status` meets its contract.
-use mathlib.Core.Path.{sym, ap, ◌∙◌}
-use Rattle.manual.specs.State.{lent}
-use Rattle.judgement.specs.Checks.{check_number}
+use mathlib.Core.Path.{sym}
+use Rattle.std.proofs.lemmas.Result.{err_from_is_err_and}
 use Rattle.queries.proofs.ReadingLaws.{status_is, status_refused}
 use Rattle.queries.proofs.read_status.Goals as goal
 
-pub returns-in-Go : goal.returns-in-Go
-returns-in-Go c =
-    let a = c.args in
-    let s = lent a.records.now a.debounce.now a.memory.now a.board in
-    status_is a.cfg.now s a.event.0
-    (sym c.judge.ensures ∙ ap check_number c.in-Go.is)
-    c.status_of.ensures
+pub returns-in_err-judge : goal.returns-in_err-judge
+returns-in_err-judge c =
+    let p = err_from_is_err_and c.from_residual.result c.from_residual.ensures.1 in
+    rw (p.1, p.2) (status_refused _ _ _ _ c.in_err-judge.ensures)
 
-pub returns-in-Stop : goal.returns-in-Stop
-returns-in-Stop c =
-    let a = c.args in
-    let s = lent a.records.now a.debounce.now a.memory.now a.board in
-    status_refused a.cfg.now s a.event.0 c.in-Stop.refusal
-    (ap check_number (sym c.in-Stop.is) ∙ c.judge.ensures)
+pub returns : goal.returns
+returns c = status_is _ _ _ (sym c.in_ok-judge.ensures) c.status_of.ensures

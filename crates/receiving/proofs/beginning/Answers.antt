@@ -17,7 +17,6 @@ pub returns-then-takes_single : goal.returns-then-takes_single
 unfolding beginning
 returns-then-takes_single c =
     simp (
-      c.complete.ensures,
       c.store.ensures,
       ← c.takes_single.ensures,
       c.if-takes_single.true,
@@ -34,7 +33,7 @@ pub returns-then-takes_first : goal.returns-then-takes_first
 unfolding beginning
 returns-then-takes_first c =
     simp (
-      c.asks.ensures,
+      c.control.ensures,
       c.announced.ensures,
       c.store-then-takes_first.ensures,
       ← c.takes_single.ensures,
@@ -47,7 +46,6 @@ pub returns : goal.returns
 unfolding beginning
 returns c =
     simp (
-      c.refused.ensures,
       ← c.takes_single.ensures,
       c.if-takes_single.false,
       ← c.takes_first.ensures,

@@ -10,7 +10,6 @@ pub returns-then-not-takes_next : goal.returns-then-not-takes_next
 unfolding collecting
 returns-then-not-takes_next c =
     simp (
-      c.refused.ensures,
       ← c.takes_next.ensures,
       c.if-not-takes_next.true,
     )
@@ -52,9 +51,9 @@ pub returns : goal.returns
 unfolding collecting
 returns c =
     simp (
-      c.received.ensures,
+      ← c.received.ensures,
       c.store.ensures,
-      c.smaller.ensures,
+      c.min.ensures,
       ← c.takes_next.ensures,
       c.if-not-takes_next.false,
     )

@@ -7,7 +7,7 @@ use Rattle.receiving.proofs.received.Goals as goal
 
 pub returns-then-k-size : goal.returns-then-k-size
 unfolding received
-returns-then-k-size c = simp (eq-eqb _ _ c.if-k-size.true) c.complete.ensures
+returns-then-k-size c = simp (eq-eqb _ _ c.if-k-size.true)
 
 pub overflow_add-k : goal.overflow_add-k
 overflow_add-k c = omega (arith, has_tells c.args.size c.args.k c.requires)

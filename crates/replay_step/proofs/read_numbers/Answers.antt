@@ -13,20 +13,13 @@ pub read_into-requires : goal.read_into-requires
 read_into-requires c =
     omega (arith, c.loop-place.invariant.1, c.loop-place-test.true, c.requires)
 
-pub returns-in-Unreadable : goal.returns-in-Unreadable
-returns-in-Unreadable c =
-    turn_unread c.args.text.now c.args.from.at
-    c.loop-place.place _ _
-    (omega (
-      arith,
-      c.loop-place.invariant.1,
-      c.loop-place-test.true,
-      c.requires,
-    ))
-    c.loop-place.invariant.2
-    c.loop-place.invariant.3 c.args.count
-    c.loop-place-test.true _ refl
-    (rw c.in-Unreadable.is at c.read_into.ensures)
+pub returns-in_err-next : goal.returns-in_err-next
+returns-in_err-next c =
+    rw c.from_residual.ensures
+    (turn_unread c.args.text.now c.args.from.at c.loop-place.place _ _
+    (omega (arith, c.loop-place.invariant.1, c.loop-place-test.true, c.requires)) c.loop-place.invariant.2
+    c.loop-place.invariant.3 c.args.count c.loop-place-test.true _ refl
+    (rw c.in_err-next.was at c.read_into.ensures))
 
 pub overflow_step-place : goal.overflow_step-place
 overflow_step-place c =
@@ -48,7 +41,7 @@ loop-place-preserved c =
     ))
     c.loop-place.invariant.2
     c.loop-place.invariant.3 _ refl
-    (rw c.in-Read.is at c.read_into.ensures) in (
+    (rw c.in_ok-next.was at c.read_into.ensures) in (
       omega (arith, c.loop-place-test.true),
       c.read_into.auto.cfg
           ∙ c.loop-place.invariant.1,

@@ -1,27 +1,27 @@
 -- `judge_tick` meets its contract: 2 and 3 first.
-use Rattle.manual.specs.State.{lent}
+use Rattle.std.proofs.lemmas.Result.{err_from_is_err_and}
+use Rattle.manual.specs.Lent.{as_found}
 use Rattle.manual.specs.Calls.{tick_rules}
 use Rattle.reporting.proofs.CountedLaws.{has_begun, judged_counted, stopped_counted}
 use Rattle.reporting.proofs.judge_tick.Goals as goal
 
 pub all_tick_tests-requires : goal.all_tick_tests-requires
 all_tick_tests-requires c =
-    let a = c.args in
-    has_begun _ _ a.counts.now c.fit-fits.ensures c.begin.ensures
-    c.in-Go.is
+    has_begun _ _ c.args.counts.now c.fit.ensures c.begin.ensures
+    c.in_ok-begin.was
 
-pub returns-in-Go : goal.returns-in-Go
+pub returns : goal.returns
 unfolding tick_rules
-returns-in-Go c =
+returns c =
     let a = c.args in
-    let s = lent a.records.now a.debounce.now a.memory.now a.board in
-    judged_counted a.cfg.now s a.counts.now c.fit-fits.ensures
-    c.begin.ensures _ c.in-Go.is c.all_tick_tests.ensures
+    judged_counted a.cfg.now (as_found a.state.now) a.counts.now c.fit.ensures
+    c.begin.ensures _ c.in_ok-begin.was c.all_tick_tests.ensures
 
-pub returns-in-Stop : goal.returns-in-Stop
+pub returns-in_err-begin : goal.returns-in_err-begin
 unfolding tick_rules
-returns-in-Stop c =
+returns-in_err-begin c =
     let a = c.args in
-    let s = lent a.records.now a.debounce.now a.memory.now a.board in
-    stopped_counted a.cfg.now s a.counts.now c.fit-fits.ensures
-    c.begin.ensures _ _ c.in-Stop.is
+    let p = err_from_is_err_and c.from_residual.result c.from_residual.ensures.1 in
+    rw (p.1, p.2)
+    (stopped_counted a.cfg.now (as_found a.state.now) a.counts.now c.fit.ensures
+    c.begin.ensures _ _ c.in_err-begin.was)

@@ -45,4 +45,4 @@ returns c =
     framed_one (0x20 + k % 16) part short
     (c.framed.ensures
     ∙ ap (λ l. frame_of (sets ((0x20 + k % 16) ∷ replicate 7 0) 1 l))
-    (part_is m (place k) c.smaller.result c.smaller.ensures))
+    (part_is m (place k) _ c.min.ensures))

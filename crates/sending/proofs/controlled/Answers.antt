@@ -1,16 +1,16 @@
 -- `controlled` meets its contract.
-use borrow.Author.Tests.{eq-eqb, ne_eqb}
+use Rattle.std.proofs.Common.{rules}
 use Rattle.transport.specs.Sending.{controlled}
 use Rattle.sending.proofs.controlled.Goals as goal
 
-pub returns-then-frame-eq48 : goal.returns-then-frame-eq48
+pub returns-in-48 : goal.returns-in-48
 unfolding controlled
-returns-then-frame-eq48 c = simp (eq-eqb _ _ c.if-frame-eq48.true)
+returns-in-48 c = search rules
 
-pub returns-then-frame-eq49 : goal.returns-then-frame-eq49
+pub returns-in-49 : goal.returns-in-49
 unfolding controlled
-returns-then-frame-eq49 c = simp (ne_eqb _ _ c.if-frame-eq48.false, eq-eqb _ _ c.if-frame-eq49.true)
+returns-in-49 c = search rules
 
-pub returns : goal.returns
+pub returns-in_default : goal.returns-in_default
 unfolding controlled
-returns c = simp (ne_eqb _ _ c.if-frame-eq48.false, ne_eqb _ _ c.if-frame-eq49.false)
+returns-in_default c = search rules

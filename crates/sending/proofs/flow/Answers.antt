@@ -1,11 +1,11 @@
 -- `flow` meets its contract.
+use Rattle.transport.specs.Sending.{waiting}
 use Rattle.sending.proofs.flow.Goals as goal
 
-pub returns-in-Idle : goal.returns-in-Idle
-returns-in-Idle c = rw c.in-Idle.is c.refused.ensures
+pub returns-then-not-has : goal.returns-then-not-has
+unfolding waiting
+returns-then-not-has c = simp (c.in-Waiting.is, ← c.has.ensures, c.if-not-has.true)
 
-pub returns-in-Waiting : goal.returns-in-Waiting
-returns-in-Waiting c = rw c.in-Waiting.is c.waiting.ensures
-
-pub returns-in-Running : goal.returns-in-Running
-returns-in-Running c = rw c.in-Running.is c.refused-in-Running.ensures
+pub returns : goal.returns
+unfolding waiting
+returns c = simp (c.in-Waiting.is, ← c.has.ensures, c.if-not-has.false) c.controlled-answer.ensures

@@ -1,16 +1,16 @@
 -- `goes_on` meets its contract.
-use borrow.Author.Tests.{eq-eqb, ne_eqb}
+use Rattle.std.proofs.Common.{rules}
 use Rattle.transport.specs.Sending.{carries_on}
 use Rattle.sending.proofs.goes_on.Goals as goal
 
-pub returns-then-left-eq0 : goal.returns-then-left-eq0
+pub returns-in-0 : goal.returns-in-0
 unfolding carries_on
-returns-then-left-eq0 c = simp (eq-eqb _ _ c.if-left-eq0.true)
+returns-in-0 c = search rules
 
-pub returns-then-left-eq1 : goal.returns-then-left-eq1
+pub returns-in-1 : goal.returns-in-1
 unfolding carries_on
-returns-then-left-eq1 c = simp (ne_eqb _ _ c.if-left-eq0.false, eq-eqb _ _ c.if-left-eq1.true)
+returns-in-1 c = search rules
 
-pub returns : goal.returns
+pub returns-in_default : goal.returns-in_default
 unfolding carries_on
-returns c = simp (ne_eqb _ _ c.if-left-eq0.false, ne_eqb _ _ c.if-left-eq1.false)
+returns-in_default c = search rules

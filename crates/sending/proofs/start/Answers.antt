@@ -1,10 +1,6 @@
 -- `start` meets its contract.
-use native.Mathlib.Omega.{arith}
-use mathlib.Core.Path.{sym, ◌∙◌}
-use lib.ListN.{length}
 use borrow.Author.Tests.{le-leb, lt-leb}
 use Rattle.transport.specs.Sending.{start}
-use Rattle.sending.proofs.FramedLaws.{allowed_tells}
 use Rattle.sending.proofs.start.Goals as goal
 
 pub returns-then-not-allowed : goal.returns-then-not-allowed
@@ -20,13 +16,6 @@ returns-then-message-le7 c =
       c.if-not-allowed.false,
       le-leb _ _ c.if-message-le7.true,
     )
-
-pub first-requires : goal.first-requires
-first-requires c =
-    let so =
-    sym c.allowed.ensures ∙ c.if-not-allowed.false in
-    let t = allowed_tells (length c.args.message.now) so in
-    omega (arith, t.1)
 
 pub returns : goal.returns
 unfolding start

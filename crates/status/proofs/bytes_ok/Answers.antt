@@ -8,33 +8,6 @@ use Rattle.status.proofs.MasksLaws.{contains_is}
 use Rattle.status.proofs.ClausesLaws.{seven_hold}
 use Rattle.status.proofs.bytes_ok.Goals as goal
 
-pub contains-warns-requires : goal.contains-warns-requires
-contains-warns-requires c = tt
-
-pub contains-confirmed-requires : goal.contains-confirmed-requires
-contains-confirmed-requires c = tt
-
-pub untested_is_fresh-requires : goal.untested_is_fresh-requires
-untested_is_fresh-requires c = tt
-
-pub faulty_has_failed-requires : goal.faulty_has_failed-requires
-faulty_has_failed-requires c = tt
-
-pub failed_is_pending-requires : goal.failed_is_pending-requires
-failed_is_pending-requires c = tt
-
-pub implies-requires : goal.implies-requires
-implies-requires c = tt
-
-pub pending_has_cycles-requires : goal.pending_has_cycles-requires
-pending_has_cycles-requires c = tt
-
-pub implies-requires-2 : goal.implies-requires-2
-implies-requires-2 c = tt
-
-pub implies-requires-3 : goal.implies-requires-3
-implies-requires-3 c = tt
-
 pub returns : goal.returns
 unfolding bytes_ok
 returns c =

@@ -7,9 +7,6 @@ use Rattle.history.specs.StatusByte.{test_failed_this_operation_cycle, test_not_
 use Rattle.status.proofs.MasksLaws.{mask_of, shares_is, neither_set}
 use Rattle.status.proofs.clean_cycle.Goals as goal
 
-pub shares-requires : goal.shares-requires
-shares-requires c = tt
-
 pub returns : goal.returns
 returns c =
     let s = c.args.s.0 in

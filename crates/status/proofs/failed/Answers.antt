@@ -15,27 +15,6 @@ use Rattle.status.proofs.CountsLaws.{K_risen}
 use Rattle.status.proofs.RecordsLaws.{bytes_are}
 use Rattle.status.proofs.failed.Goals as goal
 
-pub contains-requires : goal.contains-requires
-contains-requires c = tt
-
-pub risen_if-k-requires : goal.risen_if-k-requires
-risen_if-k-requires c = tt
-
-pub set-requires : goal.set-requires
-set-requires c = tt
-
-pub clear-tested-requires : goal.clear-tested-requires
-clear-tested-requires c = tt
-
-pub set_if-requires : goal.set_if-requires
-set_if-requires c = tt
-
-pub set_if-requires-2 : goal.set_if-requires-2
-set_if-requires-2 c = tt
-
-pub contains-requires-2 : goal.contains-requires-2
-contains-requires-2 c = tt
-
 pub returns : goal.returns
 returns c =
     let tested = c.contains in

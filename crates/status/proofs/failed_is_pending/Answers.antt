@@ -6,18 +6,6 @@ use Rattle.history.specs.StatusByte.{test_failed_this_operation_cycle, pending_d
 use Rattle.status.proofs.MasksLaws.{contains_is}
 use Rattle.status.proofs.failed_is_pending.Goals as goal
 
-pub contains-requires : goal.contains-requires
-contains-requires c = tt
-
-pub contains-requires-2 : goal.contains-requires-2
-contains-requires-2 c = tt
-
-pub contains-requires-3 : goal.contains-requires-3
-contains-requires-3 c = tt
-
-pub implies-requires : goal.implies-requires
-implies-requires c = tt
-
 pub returns : goal.returns
 returns c =
     let s = c.args.s.0 in

@@ -8,15 +8,6 @@ use Rattle.history.specs.StatusByte.{test_failed, pending_dtc, confirmed_dtc, te
 use Rattle.status.proofs.MasksLaws.{mask_of, contains_is, shares_is, one_of_three}
 use Rattle.status.proofs.faulty_has_failed.Goals as goal
 
-pub shares-requires : goal.shares-requires
-shares-requires c = tt
-
-pub contains-requires : goal.contains-requires
-contains-requires c = tt
-
-pub implies-requires : goal.implies-requires
-implies-requires c = tt
-
 pub returns : goal.returns
 returns c =
     let s = c.args.s.0 in

@@ -5,9 +5,6 @@ use Rattle.history.specs.StatusByte.{confirmed_dtc, warning_indicator_requested,
 use Rattle.status.proofs.MasksLaws.{mask_of, shares_is, one_of_two}
 use Rattle.status.proofs.is_limited.Goals as goal
 
-pub shares-requires : goal.shares-requires
-shares-requires c = tt
-
 pub returns : goal.returns
 returns c = let s = c.args.r.status.0 in
     shares_is s (mask_of (confirmed_dtc ∷ warning_indicator_requested ∷ [])) (lit< tt) c.shares.ensures

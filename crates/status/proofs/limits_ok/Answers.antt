@@ -8,12 +8,6 @@ use Rattle.status.proofs.MasksLaws.{contains_is}
 use Rattle.status.proofs.ClausesLaws.{three_hold}
 use Rattle.status.proofs.limits_ok.Goals as goal
 
-pub contains-requires : goal.contains-requires
-contains-requires c = tt
-
-pub implies-requires : goal.implies-requires
-implies-requires c = tt
-
 pub returns : goal.returns
 unfolding limits_ok
 returns c =

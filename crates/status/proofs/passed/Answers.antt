@@ -7,9 +7,6 @@ use Rattle.status.proofs.MasksLaws.{clear_is}
 use Rattle.status.proofs.RecordsLaws.{bytes_are}
 use Rattle.status.proofs.passed.Goals as goal
 
-pub clear-requires : goal.clear-requires
-clear-requires c = tt
-
 pub returns : goal.returns
 returns c =
     λ n. bytes_are (search rules)

@@ -5,12 +5,6 @@ use Rattle.status.specs.Clauses.{bytes_ok, limits_ok}
 use Rattle.status.proofs.ClausesLaws.{parted}
 use Rattle.status.proofs.record_ok.Goals as goal
 
-pub bytes_ok-requires : goal.bytes_ok-requires
-bytes_ok-requires c = tt
-
-pub limits_ok-requires : goal.limits_ok-requires
-limits_ok-requires c = tt
-
 pub returns : goal.returns
 returns c =
     let a = c.args in

@@ -6,12 +6,6 @@ use Rattle.history.specs.StatusByte.{pending_dtc, confirmed_dtc, warning_indicat
 use Rattle.status.proofs.MasksLaws.{mask_of, shares_is, one_of_three}
 use Rattle.status.proofs.rests_at_stop.Goals as goal
 
-pub shares-to_do-requires : goal.shares-to_do-requires
-shares-to_do-requires c = tt
-
-pub clean_cycle-requires : goal.clean_cycle-requires
-clean_cycle-requires c = tt
-
 pub returns : goal.returns
 returns c =
     let r = c.args.r in

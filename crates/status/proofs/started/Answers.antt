@@ -7,12 +7,6 @@ use Rattle.status.proofs.MasksLaws.{set_is, clear_is}
 use Rattle.status.proofs.RecordsLaws.{bytes_are}
 use Rattle.status.proofs.started.Goals as goal
 
-pub clear-requires : goal.clear-requires
-clear-requires c = tt
-
-pub set-requires : goal.set-requires
-set-requires c = tt
-
 pub returns : goal.returns
 returns c =
     λ n. bytes_are (search rules)

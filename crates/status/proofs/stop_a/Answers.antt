@@ -9,27 +9,6 @@ use Rattle.status.proofs.CountsLaws.{counted}
 use Rattle.status.proofs.RecordsLaws.{bytes_are}
 use Rattle.status.proofs.stop_a.Goals as goal
 
-pub clean_cycle-clean-requires : goal.clean_cycle-clean-requires
-clean_cycle-clean-requires c = tt
-
-pub contains-requires : goal.contains-requires
-contains-requires c = tt
-
-pub rises_if-h-requires : goal.rises_if-h-requires
-rises_if-h-requires c = c.requires
-
-pub clear_if-requires : goal.clear_if-requires
-clear_if-requires c = tt
-
-pub clear_if-requires-2 : goal.clear_if-requires-2
-clear_if-requires-2 c = tt
-
-pub zero_if-requires : goal.zero_if-requires
-zero_if-requires c = tt
-
-pub zero_if-requires-2 : goal.zero_if-requires-2
-zero_if-requires-2 c = tt
-
 pub returns : goal.returns
 returns c =
     let clean_is = c.clean_cycle-clean.ensures in

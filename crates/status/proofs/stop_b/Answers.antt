@@ -9,24 +9,6 @@ use Rattle.status.proofs.CountsLaws.{counted}
 use Rattle.status.proofs.RecordsLaws.{bytes_are}
 use Rattle.status.proofs.stop_b.Goals as goal
 
-pub counts_for_ageing-requires : goal.counts_for_ageing-requires
-counts_for_ageing-requires c = tt
-
-pub contains-requires : goal.contains-requires
-contains-requires c = tt
-
-pub rises_if-g-requires : goal.rises_if-g-requires
-rises_if-g-requires c = c.requires
-
-pub clear_if-requires : goal.clear_if-requires
-clear_if-requires c = tt
-
-pub zero_if-requires : goal.zero_if-requires
-zero_if-requires c = tt
-
-pub zero_if-requires-2 : goal.zero_if-requires-2
-zero_if-requires-2 c = tt
-
 pub returns : goal.returns
 returns c =
     let r = c.args.r in

@@ -8,19 +8,10 @@ use Rattle.history.proofs.StatusByteLaws.{byte_of_status}
 use Rattle.status.proofs.MasksLaws.{contains_is}
 use Rattle.status.proofs.untested_is_fresh.Goals as goal
 
-pub fresh-fresh-requires : goal.fresh-fresh-requires
-fresh-fresh-requires c = tt
-
-pub contains-requires : goal.contains-requires
-contains-requires c = tt
-
-pub implies-requires : goal.implies-requires
-implies-requires c = tt
-
 pub returns : goal.returns
 returns c =
     let s = c.args.s.0 in
     let bit4-is = contains_is s test_not_completed_since_last_clear c.contains.ensures in
     let byte_is = sym (byte_of_status s (search rules)) in
     c.implies.ensures
-    ∙ (λ i. implies (bit4-is i) (eqb (byte_is i) (c.fresh-fresh.ensures i)))
+    ∙ (λ i. implies (bit4-is i) ((c.eq.ensures ∙ (λ j. eqb (byte_is j) (c.fresh.ensures j))) i))

@@ -1,29 +1,25 @@
-use mathlib.Core.Path.{refl, sym, ◌∙◌}
-use Rattle.transcript.proofs.TextLaws.{differ, agree, run_more, run_stop, run_end}
+-- `run_end`: the bytes that the iterator counts are the run.
+use Rattle.std.proofs.Common.{rules, tests, ℕ, ◌+◌, Bool, ap, ◌∙◌, drop}
+use Rattle.std.specs.Bool.{beq}
+use Rattle.std.proofs.lemmas.Iterator.{YieldsList-from_slice}
+use Rattle.std.proofs.lemmas.Iterator.Adapters.{YieldsList-from_skip}
+use Rattle.std.proofs.lemmas.Iterator.Consumers.{YieldsList-at, count_from_yields_List}
+use Rattle.std.proofs.lemmas.Iterator.Search.{YieldsList-from_take_while}
+use Rattle.std.proofs.lemmas.List.Folds.{length-prefix_len}
+use Rattle.transcript.specs.Text.{is_separator}
+use Rattle.transcript.proofs.TextLaws.{run_counted}
 use Rattle.transcript.proofs.run_end.Goals as goal
 
-pub loop-i-init : goal.loop-i-init
-loop-i-init c = refl
-
-pub is_separator-requires : goal.is_separator-requires
-is_separator-requires c = tt
-
-pub returns-then-is_separator-separators : goal.returns-then-is_separator-separators
-returns-then-is_separator-separators c =
-    let other =
-    differ c.is_separator.result c.args.separators
-    c.if-is_separator-separators.true in
-    sym
-    (c.loop-i.invariant
-    ∙ run_stop _ _ _ c.loop-i-test.true (rw (← c.is_separator.ensures) other))
-
-pub loop-i-preserved : goal.loop-i-preserved
-loop-i-preserved c =
-    let like =
-    agree c.is_separator.result c.args.separators
-    c.if-is_separator-separators.false in
-    c.loop-i.invariant
-    ∙ run_more _ _ _ c.loop-i-test.true (rw (← c.is_separator.ensures) like)
-
 pub returns : goal.returns
-returns c = sym (c.loop-i.invariant ∙ run_end _ _ _ c.loop-i-test.false)
+returns c =
+    let a = c.args in
+    let text = a.text.now in
+    let test : ℕ → Bool = λ b. beq (is_separator b) a.separators in
+    ap (λ n. a.at + n)
+    (count_from_yields_List _ c.count.result c.count.ensures.ran
+    (YieldsList-from_take_while _ test
+    (YieldsList-at c.take_while.ensures.source
+    (YieldsList-from_skip a.at (YieldsList-from_slice text (cc)) c.skip.ensures.count))
+    c.take_while.ensures.closure c.take_while.ensures.done (λ x b q k. search (rules, tests)))
+    ∙ length-prefix_len test (drop a.at text)
+    ∙ run_counted a.separators (drop a.at text))

@@ -1,26 +1,20 @@
 -- `read_table` meets its contract.
 use mathlib.Core.Bool.{true}
-use mathlib.Core.Path.{sym, ap, ◌∙◌}
-use Rattle.manual.specs.State.{lent}
-use Rattle.judgement.specs.Checks.{check_number}
-use Rattle.judgement.proofs.JudgedLaws.{begun_by_lem}
+use mathlib.Core.Path.{sym}
+use Rattle.std.proofs.lemmas.Result.{err_from_is_err_and}
+use Rattle.judgement.proofs.BeginLaws.{begun}
 use Rattle.untested.proofs.PageLaws.{table_is, table_refused}
 use Rattle.untested.proofs.read_table.Goals as goal
 
+pub returns-in_err-begin : goal.returns-in_err-begin
+returns-in_err-begin c =
+    let p = err_from_is_err_and c.from_residual.result c.from_residual.ensures.1 in
+    rw (p.1, p.2) (table_refused _ _ _ c.in_err-begin.ensures)
+
 pub table_of-requires : goal.table_of-requires
-table_of-requires c = begun_by_lem _ _ true c.begin.ensures c.in-Go.is
+table_of-requires c = let (ok, _) = begun _ _ true (sym c.in_ok-begin.ensures) in ok
 
-pub returns-in-Go : goal.returns-in-Go
-returns-in-Go c =
-    let a = c.args in
-    let s = lent a.records.now a.debounce.now a.memory.now a.board in
-    table_is a.cfg.now s
-    (sym c.begin.ensures ∙ ap check_number c.in-Go.is)
-    (c.table_of.ensures a.debounce.now a.memory.now a.board)
-
-pub returns-in-Stop : goal.returns-in-Stop
-returns-in-Stop c =
-    let a = c.args in
-    let s = lent a.records.now a.debounce.now a.memory.now a.board in
-    table_refused a.cfg.now s c.in-Stop.refusal
-    (ap check_number (sym c.in-Stop.is) ∙ c.begin.ensures)
+pub returns : goal.returns
+returns c =
+    let s = c.args.state.now in
+    table_is _ _ (sym c.in_ok-begin.ensures) (c.table_of.ensures s.debounce.now s.memory.now s.board)

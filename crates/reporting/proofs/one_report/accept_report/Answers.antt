@@ -1,18 +1,9 @@
 -- `accept_report` meets its contract.
-use mathlib.Core.Path.{ap}
-use Rattle.manual.specs.Answers.{Outcome}
-use Rattle.one_event.specs.Steps.{Stepped}
 use Rattle.reporting.proofs.ReportLaws.{report_ready, report_rise}
 use Rattle.reporting.proofs.one_report.accept_report.Goals as goal
 
 pub reports-after-requires : goal.reports-after-requires
-reports-after-requires c =
-    let m = c.requires in
-    report_ready _ _ _ _ m
+reports-after-requires c = report_ready _ _ _ _ c.requires
 
-pub returns : goal.returns
-returns c =
-    let reports = c.reports-after in (
-      ap (λ (x : Stepped Outcome). x.left) reports.ensures,
-      report_rise _ _ _ _ _ reports.ensures c.rise_of-rise.ensures,
-    )
+pub returns-clause-rise : goal.returns-clause-rise
+returns-clause-rise c = report_rise _ _ _ _ _ c.reports-after.ensures.promise c.rise_of.ensures

@@ -1,7 +1,7 @@
 -- `report_tests` meets its contract: an event below n has a row.
 -- Each answer finds the tests that were passed by itself, in whatever order they stand.
 use native.Mathlib.Omega.{arith}
-use borrow.Author.Tests.{lt-ltb, le-ltb, lt-leb, le-leb}
+use borrow.Author.Tests.{le-ltb, lt-leb}
 use Rattle.manual.specs.Answers.{first_that_applies}
 use Rattle.manual.proofs.ConfigurationLaws.{config_tells}
 use Rattle.reporting.proofs.tests.report_tests.Goals as goal

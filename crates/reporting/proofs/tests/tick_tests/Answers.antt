@@ -1,16 +1,17 @@
 -- `tick_tests` meets its contract: each test in turn.
+-- Each answer finds the tests that were passed by itself, in whatever order they stand.
+use native.Mathlib.Omega.{arith}
 use Rattle.manual.specs.Answers.{first_that_applies}
-use borrow.Author.Tests.{lt-ltb, le-ltb}
 use Rattle.reporting.proofs.tests.tick_tests.Goals as goal
 
-pub returns-then-ms_refused : goal.returns-then-ms_refused
+pub returns-then-given-gt-LONGEST_TICK : goal.returns-then-given-gt-LONGEST_TICK
 unfolding first_that_applies
-returns-then-ms_refused c = simp (lt-ltb _ _ c.if-ms_refused.true)
+returns-then-given-gt-LONGEST_TICK c = grind arith
 
-pub returns-then-frame_refused : goal.returns-then-frame_refused
+pub returns-then-wrong_frame : goal.returns-then-wrong_frame
 unfolding first_that_applies
-returns-then-frame_refused c = simp (← c.wrong_frame-frame_refused.ensures, le-ltb _ _ c.if-ms_refused.false, c.if-frame_refused.true)
+returns-then-wrong_frame c = grind arith
 
-pub returns-else-frame_refused : goal.returns-else-frame_refused
+pub returns-else-wrong_frame : goal.returns-else-wrong_frame
 unfolding first_that_applies
-returns-else-frame_refused c = simp (← c.wrong_frame-frame_refused.ensures, le-ltb _ _ c.if-ms_refused.false, c.if-frame_refused.false)
+returns-else-wrong_frame c = grind arith

@@ -1,9 +1,0 @@
-use mathlib.Core.Path.{◌∙◌, ap}
-use Rattle.manual.specs.Words.{nat_of}
-use Rattle.config.proofs.SignedInCode.{back}
-use Rattle.config.proofs.count_at.Goals as goal
-
-pub returns : goal.returns
-returns c =
-    c.count_of.ensures
-    ∙ ap nat_of (back c.number_at.result c.number_at.type_inv ∙ c.number_at.ensures)

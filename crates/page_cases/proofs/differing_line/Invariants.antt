@@ -1,9 +1,0 @@
--- `differing_line` meets its contract.
-use Prim.Native.Nat.{◌-◌, ◌≤◌}
-use Rattle.page_cases.proofs.differing_line.Given as goal
-
-abbrev pub invariant-loop-i : goal.invariant-loop-i
-invariant-loop-i l = l.i ≤ l.i-end
-
-abbrev pub decreases-loop-i : goal.decreases-loop-i
-decreases-loop-i l = l.i-end - l.i

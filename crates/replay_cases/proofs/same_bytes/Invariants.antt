@@ -1,9 +1,0 @@
--- `same_bytes` runs safely and returns.
-use Prim.Native.Nat.{◌-◌, ◌≤◌}
-use Rattle.replay_cases.proofs.same_bytes.Given as goal
-
-abbrev pub invariant-loop-i : goal.invariant-loop-i
-invariant-loop-i l = l.i ≤ l.i-end
-
-abbrev pub decreases-loop-i : goal.decreases-loop-i
-decreases-loop-i l = l.i-end - l.i

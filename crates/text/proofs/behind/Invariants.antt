@@ -1,9 +1,0 @@
--- `behind` runs safely and returns.
-use Prim.Native.Nat.{◌-◌, ◌≤◌}
-use Rattle.text.proofs.behind.Given as goal
-
-abbrev pub invariant-loop-i : goal.invariant-loop-i
-invariant-loop-i l = 0 ≤ l.i
-
-abbrev pub decreases-loop-i : goal.decreases-loop-i
-decreases-loop-i l = l.i-end - l.i

@@ -1,8 +1,0 @@
--- `one_more_if` meets its contract.
-use Rattle.writing.proofs.one_more_if.Goals as goal
-
-pub returns-then-test : goal.returns-then-test
-returns-then-test c = rw c.if-test.true
-
-pub returns-else-test : goal.returns-else-test
-returns-else-test c = rw c.if-test.false
