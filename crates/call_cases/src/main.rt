@@ -20,6 +20,7 @@ use reporting::{Report, Tick};
 use std::fs::File;
 use std::os::fd::AsRawFd;
 use std::rt::Files;
+use text::Tally;
 
 // How much of each block is lent, and the board.
 #[derive(Clone, Copy)]
@@ -72,14 +73,6 @@ struct Case {
     line: u32,
 }
 
-// The calls that ran, the cases that differed, and the line of the one that was last found to differ, until it is told.
-#[derive(Clone, Copy)]
-struct Tally {
-    ran: u32,
-    differed: u32,
-    line: Option<u32>,
-}
-
 // A story so far.
 #[derive(Clone, Copy)]
 struct Story {
@@ -87,7 +80,10 @@ struct Story {
     // how much of the configuration is lent to the next call, where it is lent one of its own
     other: Option<usize>,
     case: Option<Case>,
+    // the calls that ran, the cases that differed
     tally: Tally,
+    // the line of the case that was last found to differ, until it is told
+    differing: Option<u32>,
     // the line that was read last, and whether the file is at its end
     line: u32,
     ended: bool,
@@ -123,18 +119,6 @@ enum Plain {
     Stop,
     Clear,
     Restore,
-}
-
-fn one_more(count: u32) -> u32 {
-    if count < 1_000_000_000 {
-        count + 1
-    } else {
-        count
-    }
-}
-
-fn count_if(count: u32, test: bool) -> u32 {
-    if test { one_more(count) } else { count }
 }
 
 // The first n of these, or all where there are fewer.
@@ -486,21 +470,21 @@ fn begin() -> Story {
         loan: nothing_lent(),
         other: None,
         case: None,
-        tally: Tally {
-            ran: 0,
-            differed: 0,
-            line: None,
-        },
+        tally: Tally::new(),
+        differing: None,
         line: 0,
         ended: false,
     }
 }
 
-fn counted(tally: Tally, case: Case, agrees: bool) -> Tally {
-    Tally {
-        ran: count_if(tally.ran, case.is_call),
-        differed: count_if(tally.differed, !agrees),
-        line: if agrees { tally.line } else { Some(case.line) },
+// The fresh state that opens a story is no call: it counts only where it differs.
+fn count(now: &mut Story, case: Case, agrees: bool) {
+    if case.is_call {
+        now.tally.ran = text::one_more(now.tally.ran);
+    }
+    if !agrees {
+        now.tally.differed = text::one_more(now.tally.differed);
+        now.differing = Some(case.line);
     }
 }
 
@@ -508,7 +492,7 @@ fn counted(tally: Tally, case: Case, agrees: bool) -> Tally {
 fn close(now: &mut Story, want: &[u8], blocks: &Blocks) {
     if let Some(case) = now.case {
         let agrees = case.agrees && as_awaited(&now.loan, want, blocks);
-        now.tally = counted(now.tally, case, agrees);
+        count(now, case, agrees);
         now.case = None;
     }
 }
@@ -614,7 +598,7 @@ fn run_case(now: &mut Story, asked: &Asked, configs: &Configs, blocks: &mut Bloc
     let cfg = lent_config(now, configs);
     let agrees = run_on(&mut now.loan, asked, cfg, blocks);
     after_case(now, true, agrees);
-    now.line = one_more(now.line);
+    now.line = text::one_more(now.line);
 }
 
 // Any line but one that begins with =.
@@ -632,7 +616,7 @@ fn take_other(now: &mut Story, asked: &Asked, configs: &mut Configs, blocks: &mu
 // One line more, none at the end of the file. What is open before it is compared now, but where it has the state that
 // is awaited.
 fn settle(now: &mut Story, line: &[u8], want: &mut [u8], blocks: &Blocks) {
-    now.line = one_more(now.line);
+    now.line = text::one_more(now.line);
     now.ended = line.is_empty();
     match text::byte_at(line, 0) {
         b'=' => copy(line, want),
@@ -669,19 +653,12 @@ fn next_line(
     take_other(now, &Asked { line, says }, configs, blocks);
 }
 
-fn say(words: &[u8]) {
-    io::write_all(1, words);
-}
-
 // Says of a case that is found to differ where it stands, once.
-fn tell(name: &[u8], tally: &mut Tally) {
-    if let Some(line) = tally.line {
-        say(name);
-        say(b":");
-        io::print_decimal(1, u64::from(line));
-        say(b" differs\n");
+fn tell(name: &[u8], now: &mut Story) {
+    if let Some(line) = now.differing {
+        text::say_differs(name, line);
     }
-    tally.line = None;
+    now.differing = None;
 }
 
 fn run_lines(name: &[u8], fd: i32) -> Tally {
@@ -703,7 +680,7 @@ fn run_lines(name: &[u8], fd: i32) -> Tally {
     let mut now = begin();
     for _ in 0..1_000_000_000usize {
         next_line(&mut now, fd, &mut texts, &mut configs, &mut blocks);
-        tell(name, &mut now.tally);
+        tell(name, &mut now);
         if now.ended {
             return now.tally;
         }
@@ -713,18 +690,13 @@ fn run_lines(name: &[u8], fd: i32) -> Tally {
 
 fn run_file(rt: &impl Files<File = File>, name: &[u8]) {
     let Some(file) = files::open_read(rt, name) else {
-        say(name);
-        say(b": cannot be read\n");
+        io::write_all(1, name);
+        io::write_all(1, b": cannot be read\n");
         return;
     };
     let tally = run_lines(name, file.as_raw_fd());
     drop(file);
-    say(name);
-    say(b": ");
-    io::print_decimal(1, u64::from(tally.ran));
-    say(b" ran, ");
-    io::print_decimal(1, u64::from(tally.differed));
-    say(b" differed\n");
+    tally.say(name);
 }
 
 fn main(rt: HostRuntime) {

@@ -15,14 +15,13 @@ use Rattle.manual.specs.declared.StoreAnswer.TheVariants.{Untold}
 use Rattle.manual.specs.declared.Verdict.{Verdict}
 use Rattle.manual.specs.Configuration.{Configuration, places, entry_frames, priority_of, limits_of}
 use Rattle.manual.specs.State.{State, record_width, Stored, opened, stored, stored_at, with_stored, D, with_d}
-use Rattle.manual.specs.State.{with_memory, with_board, lent}
+use Rattle.manual.specs.State.{with_memory, lent}
 use Rattle.manual.specs.Memory.{entries_of, memory_of, without, is_lost}
 use Rattle.manual.specs.OneEvent.{happens, entry_leaves, keeps, stored_for, memory_told, fails, fails_did, stops, clears}
 use Rattle.manual.specs.Debouncing.{Debounced, reported}
 use Rattle.manual.specs.Calls.{applied, applied_did}
 use Rattle.manual.specs.Counts.{raised}
 use Rattle.manual.proofs.ConfigurationLaws.{config_tells}
-use Rattle.manual.proofs.OneEventLaws.{applied_running}
 use Rattle.config.specs.declared.Limits.{Limits}
 use Rattle.config.specs.Rows.{limits_is}
 use Rattle.debounce.specs.declared.Row.{Row}

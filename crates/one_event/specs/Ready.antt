@@ -1,6 +1,5 @@
 -- What a step on one event may count on, and what an accepted report leaves. Assumes nothing.
-use Rattle.std.specs.Prelude.{◌≡◌, Bool, true, List, [], ℕ, ◌*◌, ◌<◌, ℤ, length}
-use Rattle.manual.specs.declared.Board.{Board}
+use Rattle.std.specs.Prelude.{◌≡◌, true, List, [], ℕ, ◌*◌, ◌<◌, length}
 use Rattle.manual.specs.declared.Verdict.{Verdict}
 use Rattle.manual.specs.Configuration.{Configuration, events, places, entry_frames, config_ok}
 use Rattle.manual.specs.State.{State, record_width, opened, stored_at, D}

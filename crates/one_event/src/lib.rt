@@ -220,6 +220,28 @@ pub fn reports(
     }
 }
 
+// As `applies`. Most events of a tick have no verdict: for them nothing but the number is written, and nothing called.
+fn moves(
+    cfg: &[i32],
+    state: &mut LentMut,
+    event: EventNumber,
+    frame: &[u8],
+    d: Debounced,
+) -> StoreAnswer
+    requires { (EventFits cfg.now (as_lent state.old) event.0) × (length frame.now ≡ frame_bytes cfg.now) }
+    ensures loans { keeps_loans state.old state.new }
+    ensures promise { stepped (as_lent state.new) result
+        ≡ applying cfg.now frame.now event.0 (answered d) (as_lent state.old) }
+{
+    match d.verdict {
+        Verdict::None => {
+            status::write_number(state.debounce, event, d.number);
+            StoreAnswer::Untold
+        }
+        _ => applies(cfg, state, event, frame, d),
+    }
+}
+
 // "Tick of d ms", for an event of kind 2 whose cycle runs: "Every event so qualified takes the lent frame." Answers
 // what memory did.
 pub fn ticks(
@@ -238,5 +260,5 @@ pub fn ticks(
     let row = debounce::row_of(config::part_of(cfg, event), EventNumber(0));
     let numbers = &mut *state.debounce;
     let d = debounce::tick_step(row, ms, status::read_number(numbers, event));
-    applies(cfg, state, event, frame, d)
+    moves(cfg, state, event, frame, d)
 }

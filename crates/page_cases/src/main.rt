@@ -48,17 +48,16 @@ fn part<'a>(text: &'a [u8], from: usize, to: usize) -> &'a [u8]
 
 // The place of the first space or newline from a place on.
 fn word_end(text: &[u8], from: usize) -> usize {
-    for i in from..text.len() {
-        if text[i] <= b' ' {
-            return i;
-        }
-    }
-    text.len()
+    from + text
+        .iter()
+        .skip(from)
+        .take_while(|byte| b' ' < **byte)
+        .count()
 }
 
-// The place behind a space or newline; no list of names is a million bytes long.
+// The place behind a space or newline.
 fn behind(at: usize) -> usize {
-    if at < 1_000_000 { at + 1 } else { at }
+    at.saturating_add(1)
 }
 
 // Reads the front of a file, and answers how many bytes; 0 where it cannot be read.

@@ -21,7 +21,8 @@ impl<'a> Page<'a> {
         requires { HasRoom (length bytes.now) self.old }
         ensures { Adds bytes.now (length bytes.now) self.old self.new }
     {
-        self.at = writing::write(self.buffer, self.at, bytes);
+        let end = writing::write(self.buffer, self.at, bytes);
+        self.at = end;
     }
 
     // Puts them where a test holds.

@@ -1,31 +1,27 @@
 -- What a tick finds where its tests pass, at its start and at each event, and what it leaves.
 use mathlib.Core.Path.{◌≡◌, refl, sym, ap, subst, ◌∙◌}
 use mathlib.Core.Logic.{◌≢◌}
-use mathlib.Core.Bool.{Bool, true, false, ◌&&◌, cond}
+use mathlib.Core.Bool.{Bool, true, false, cond}
 use mathlib.Core.List.{List, []}
 use Prim.Native.Nat.{ℕ, ◌+◌, ◌<◌}
-use native.Mathlib.Nat.{zero-add, le_refl}
+use native.Mathlib.Nat.{zero-add}
 use native.Mathlib.Numerals.{add-one}
 use native.Mathlib.Omega.{arith}
-use lib.ListN.{get_or}
 use borrow.Author.Tests.{eqb-true, eq-eqb, ne_eqb, ltb-false, not-false}
 use Rattle.manual.specs.declared.Board.{Board}
 use Rattle.manual.specs.declared.Rise.{Rise}
 use Rattle.manual.specs.declared.StoreAnswer.{StoreAnswer}
 use Rattle.manual.specs.declared.StoreAnswer.TheVariants.{Untold}
 use Rattle.manual.specs.Words.{nat_of, for_below, count_those}
-use Rattle.manual.specs.Configuration.{Configuration, events, cycle_of, kind_of, is_time}
+use Rattle.manual.specs.Configuration.{Configuration, events, kind_of}
 use Rattle.manual.specs.State.{State, runs}
 use Rattle.manual.specs.WellFormed.{well_formed}
 use Rattle.manual.specs.Answers.{Beside, lent_counts, done, first_that_applies}
 use Rattle.manual.specs.Counts.{Happening, of_store, log_below, rise_of, numbers, raised, carries_past, with_rise}
 use Rattle.manual.specs.Counts.{counts_fit, no_counts}
-use Rattle.manual.specs.Conditions.{enabled}
 use Rattle.manual.specs.Calls.{cycle_runs, time_runs, tick_moves, ticks, ticks_did, tick_log, tick_rules}
 use Rattle.manual.proofs.AnswersLaws.{none_applies, three_passed}
 use Rattle.manual.proofs.ConfigurationLaws.{config_tells}
-use Rattle.manual.proofs.WordsLaws.{by, for_below_keeps}
-use Rattle.manual.proofs.OneEventLaws.{applied_running}
 use Rattle.manual.proofs.CountsLaws.{AtMost, rise_append, store_once, log_most}
 use Rattle.manual.proofs.StaysWellFormed.{ticks_keep}
 use Rattle.config.specs.Rows.{part_of}
@@ -111,36 +107,19 @@ module _ (cfg : Configuration) (s : State) (ms : ℕ) (frame : List ℕ) (presen
   none_ticked = refl
 
   -- "only kind 2 with its cycle running": which cycles run stays as it was at the tick's start
-  running_below : (i : ℕ) → (ticked_below i).board.running ≡ s.board.running
-  running_below i =
-      for_below_keeps (λ (t : State). t.board.running ≡ s.board.running) (turn moved (ticks cfg ms frame)) i i (le_refl i)
-      (λ k t h q. by (moved k) (λ (t : State). t.board.running ≡ s.board.running)
-      (λ r. applied_running cfg frame k _ t ∙ q) (λ r. q))
-      s refl
-
-  moves_as : (e : ℕ) (b : Board) → b.running ≡ s.board.running → tick_moves cfg present b e ≡ moved e
-  moves_as e b r =
-      ap (λ (l : List Bool). (is_time cfg e && get_or l (cycle_of cfg e) false) && enabled cfg present e) r
-
   module _ (i : ℕ) {t u : State} {did : StoreAnswer} (p : t ≡ ticked_below i)
-      (q : stepped u did ≡ tick_part cfg ms frame present t.board i t) where
-    as_begun : stepped u did ≡ tick_part cfg ms frame present s.board i t
-    as_begun =
-        q
-        ∙ ap (λ (b : Bool). cond b (ticking cfg frame i ms t) (stepped t Untold))
-        (moves_as i t.board (ap (λ (v : State). v.board.running) p ∙ running_below i))
-
+      (q : stepped u did ≡ tick_part cfg ms frame present s.board i t) where
     pub next_ticked : u ≡ ticked_below (i + 1)
     next_ticked =
         next_turn moved (ticks cfg ms frame) i s p
-        (ap (λ (x : Stepped State). x.left) as_begun ∙ part_left (moved i) i t)
+        (ap (λ (x : Stepped State). x.left) q ∙ part_left (moved i) i t)
 
     pub next_logged : {k l : List ℕ} → k ≡ rise_of (logged_below i) → ((e : ℕ) → l ≡ raised (rise_of (of_store e did)) k)
         → l ≡ rise_of (logged_below (i + 1))
     unfolding log_below
     next_logged h r =
         let log : of_store i did ≡ logs i (ticked_below i) =
-        ap (λ (x : Stepped State). of_store i x.did) as_begun ∙ part_log (moved i) i t ∙ ap (logs i) p in
+        ap (λ (x : Stepped State). of_store i x.did) q ∙ part_log (moved i) i t ∙ ap (logs i) p in
         rw add-one
         (r i ∙ (λ j. raised (rise_of (log j)) (h j)) ∙ sym (rise_append (logs i (ticked_below i)) (logged_below i)))
 

@@ -11,19 +11,25 @@ ghost use Rattle.reporting.specs.Accepted.{MayTick, tick_part, ticked};
 
 use crate::Tick;
 use crate::tests::tick_moves;
-use manual::{EventNumber, Lent, LentMut, Rise, StoreAnswer};
+use manual::{Board, EventNumber, Lent, LentMut, Rise, StoreAnswer};
 
-// The event's part of a tick: answers what memory did. A tick changes nothing of the board but the overflow flag, so
-// the board still tells which cycles ran at the tick's start.
-fn tick_event(cfg: &[i32], state: &mut LentMut, event: EventNumber, given: &Tick) -> StoreAnswer
+// The event's part of a tick: answers what memory did. Which cycles run is read off the board at the tick's start, once
+// for all events: behind the state it would be read again for each.
+fn tick_event(
+    cfg: &[i32],
+    state: &mut LentMut,
+    board: Board,
+    event: EventNumber,
+    given: &Tick,
+) -> StoreAnswer
     requires { (Ready cfg.now (as_lent state.old) event.0) ×
         ((length given.now.frame.now ≡ frame_bytes cfg.now) × (given.now.ms ≤ 60000)) }
     ensures loans { keeps_loans state.old state.new }
     ensures promise { stepped (as_lent state.new) result
-        ≡ tick_part cfg.now given.now.ms given.now.frame.now given.now.present state.old.board
-        event.0 (as_lent state.old) }
+        ≡ tick_part cfg.now given.now.ms given.now.frame.now given.now.present board event.0
+        (as_lent state.old) }
 {
-    if !tick_moves(cfg, state.board, event, given.present) {
+    if !tick_moves(cfg, board, event, given.present) {
         return StoreAnswer::Untold;
     }
     one_event::ticks(cfg, state, event, given.ms, given.frame)
@@ -52,9 +58,10 @@ pub(crate) fn tick_events(cfg: &[i32], state: &mut LentMut, given: &Tick) -> Ris
         (as_lent state.old)) }
 {
     let n = config::events(cfg);
+    let board = state.board;
     let mut rise = counts::no_rise();
     for event in 0..n {
-        let did = tick_event(cfg, state, EventNumber(event), given);
+        let did = tick_event(cfg, state, board, EventNumber(event), given);
         rise = with_event(rise, did);
     }
     rise

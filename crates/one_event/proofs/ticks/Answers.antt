@@ -33,4 +33,4 @@ returns-clause-promise c =
     (subst (λ p. RowOf p 0 c.row_of-row.result) c.part_of.ensures c.row_of-row.ensures) in
     ticks_is a.cfg.now a.event.0 (as_lent a.state.now) a.frame.now c.row_of-row.result
     row (held number.ensures number.type_inv) (answered step.result)
-    c.applies.ensures.promise a.ms step.ensures
+    c.moves.ensures.promise a.ms step.ensures

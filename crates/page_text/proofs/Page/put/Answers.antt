@@ -5,4 +5,4 @@ use Rattle.page_text.proofs.Page.put.Goals as goal
 
 pub returns : goal.returns
 returns c =
-    record { same_buffer = refl; same_length = c.write-self.auto.room; puts = puts_of c.write-self.ensures }
+    record { same_buffer = refl; same_length = c.write-end.auto.room; puts = puts_of c.write-end.ensures }
