@@ -81,9 +81,11 @@ module _ (cfg : Configuration) (names : List ℕ) (s : State) where
   unfoldable pub list_of : Listing → List ℕ
   list_of listing = text "<div class=\"wide\"><table>\n" ++ rows_of listing ++ table_end
 
+  -- the rows of one paint, or the sentence that says there are none
   unfoldable pub paint_list : Listing → ℕ → List ℕ → List ℕ
   paint_list listing which none = cond (eqb (painted cfg s which) 0) none (list_of listing)
 
+  -- that list below its heading
   unfoldable pub paint_section : List ℕ → Listing → ℕ → List ℕ → List ℕ
   paint_section heading listing which none = heading ++ paint_list listing which none
 
