@@ -37,7 +37,8 @@
  * Two calls may run at the same time if they share no block that either may
  * write; the configuration may be shared.
  *
- * The archive is for x86-64 Linux. Of the C library it needs memset alone.
+ * The archive is for x86-64 Linux. Of the C library it needs memcpy and memset
+ * alone.
  */
 #ifndef GRELPICADO_H
 #define GRELPICADO_H

@@ -1,14 +1,13 @@
 -- A list that is written place by place, over any elements: what stands in it after each turn of the loop, and at the
 -- end.
 use mathlib.Core.Path.{◌≡◌, refl, sym, ap, ◌∙◌}
-use mathlib.Core.List.{List, [], ◌∷◌, ◌++◌, append-nil, append_assoc}
-use Prim.Native.Nat.{ℕ, zero, suc, ◌+◌, ◌-◌, ◌≤◌, ◌<◌}
+use mathlib.Core.List.{List, [], ◌∷◌, ◌++◌, append-nil}
+use Prim.Native.Nat.{ℕ, zero, suc, ◌+◌, ◌≤◌, ◌<◌}
 use native.Mathlib.Nat.{add-zero, zero-add, add-suc, suc-add, le_of_suc-le-suc, not-suc-le-zero}
 use native.Mathlib.Numerals.{add-one, one-add}
 use native.Mathlib.Omega.{arith}
 use lib.ListN.{length, take, drop, get_or, set, take-append-drop, drop_of_length-le, length-append}
-use lib.Seq.{sets, sets-eq, take_all, length-take-le, drop_at, set_split, append_snoc, drop-append_seam}
-use borrow.Rule.Slice.PartMut.{put_mid, post_of, Post-is}
+use lib.Seq.{sets, sets-eq, take-suc, take_all, length-take-le, drop_at, set_split, append_snoc, drop-append_seam}
 use Rattle.writing.specs.Writing.{laid}
 
 -- ---- xs is stored in l from a place on: after i turns the list is sets l at (take i xs)
@@ -20,13 +19,21 @@ module _ {A : Type 0} where
       ap (λ k. sets (sets (set l at x) (suc at) xs) k ys) (add-suc at (length xs) ∙ sym (suc-add at (length xs)))
       ∙ sets_append xs ys (set l at x) (suc at)
 
-  -- a part that came back with xs in it
-  pub part_written : (xs l : List A) (at : ℕ) {part : List A} → at + length xs ≤ length l → part ≡ xs
-      → put_mid at (at + length xs - at) l part ≡ sets l at xs
-  part_written xs l at fits e =
-      ap (λ (p : List A). take at l ++ (p ++ post_of at (at + length xs - at) l)) e
-      ∙ ap (λ (r : List A). take at l ++ (xs ++ r)) (Post-is at (at + length xs) l (omega arith))
-      ∙ sym (append_assoc (take at l) xs (drop (at + length xs) l)) ∙ sym (sets-eq xs l at fits)
+  -- a turn
+  pub sets_more : (d : A) (xs l : List A) (at i : ℕ) {v : A} → i < length xs → v ≡ get_or xs i d
+      → set (sets l at (take i xs)) (at + i) v ≡ sets l at (take (i + 1) xs)
+  sets_more d xs l at i h q =
+      let e : length (take i xs) ≡ i = length-take-le i xs (omega arith) in
+      (λ j. set (sets l at (take i xs)) (at + sym e j) (q j))
+      ∙ sets_append (take i xs) (get_or xs i d ∷ []) l at ∙ rw (add-one, take-suc xs i d h)
+
+  pub sets_first : (d : A) (xs l : List A) (i : ℕ) {v : A} → i < length xs → v ≡ get_or xs i d
+      → set (sets l 0 (take i xs)) i v ≡ sets l 0 (take (i + 1) xs)
+  sets_first d xs l i {v} h q = ap (λ k. set (sets l 0 (take i xs)) k v) (sym (zero-add i)) ∙ sets_more d xs l 0 i h q
+
+  -- the end
+  pub sets_all : (xs l : List A) (at i : ℕ) → i ≡ length xs → sets l at (take i xs) ≡ sets l at xs
+  sets_all xs l at i e = ap (sets l at) (take_all i xs (omega arith))
 
   -- from the front on
   pub sets_laid : (xs l : List A) → length xs ≤ length l → sets l 0 xs ≡ laid xs l
