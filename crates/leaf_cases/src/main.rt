@@ -124,8 +124,10 @@ fn in_rows(place: usize) -> i32 {
 }
 
 fn fill_rows(cfg: &mut [i32]) {
-    for (place, number) in cfg.iter_mut().skip(3).enumerate() {
-        *number = in_rows(place);
+    if let Some(rows) = cfg.get_mut(3..) {
+        for (place, number) in rows.iter_mut().enumerate() {
+            *number = in_rows(place);
+        }
     }
 }
 
@@ -173,11 +175,17 @@ fn search_agrees(case: &[i32]) -> bool {
     code_agrees(&cfg, case)
 }
 
-// Whether each trouble code is at the event that the number behind it says.
+// Whether each of the ten trouble codes is at the event that the number behind it says, 0 where the last is missing. A
+// case of fewer does not agree.
 fn pairs_agree(cfg: &[i32], pairs: &[i32]) -> bool
     requires { config_ok cfg.now ≡ true }
 {
-    pairs.chunks(2).all(|pair| is_at(cfg, wide_code(0, count_at(pair, 0)), count_at(pair, 1)))
+    19 <= pairs.len()
+        && pairs.chunks(2).all(|pair| is_at(
+            cfg,
+            wide_code(0, count_at(pair, 0)),
+            count_at(pair, 1),
+        ))
 }
 
 // The same of the first n rows, once they are judged.

@@ -48,9 +48,8 @@ fn part<'a>(text: &'a [u8], from: usize, to: usize) -> &'a [u8]
 
 // The place of the first space or newline from a place on.
 fn word_end(text: &[u8], from: usize) -> usize {
-    from + text
+    from + text::rest(text, from)
         .iter()
-        .skip(from)
         .take_while(|byte| b' ' < **byte)
         .count()
 }

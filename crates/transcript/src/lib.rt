@@ -38,13 +38,20 @@ fn is_separator(byte: u8) -> bool
     (byte == b' ') | (byte == b'\n')
 }
 
+// What stands from a place on; nothing past the end. A slice: an iterator that skips so many bytes would step over each
+// of them, for every word of the text.
+fn from_on(text: &[u8], at: usize) -> &[u8]
+    ensures { result.now ≡ drop at text.now }
+{
+    text.get(at..).unwrap_or(&[])
+}
+
 // Behind the bytes from `at` on that are separators, or that are none.
 fn run_end(text: &[u8], at: usize, separators: bool) -> usize
     ensures { result ≡ at + run separators (drop at text.now) }
 {
-    at + text
+    at + from_on(text, at)
         .iter()
-        .skip(at)
         .take_while(|byte| is_separator(**byte) == separators)
         .count()
 }
