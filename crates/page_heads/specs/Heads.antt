@@ -87,7 +87,12 @@ abbrev pub bad_name : Option ℕ → List ℕ
 bad_name None = []
 bad_name (Some line) = bad_line line
 
--- why no name is shown
+-- why no name is shown, by its number: 0 stands for no reason, 1 for a file that cannot be read, any other for one that
+-- is too long
+abbrev pub unused_numbered : ℕ → Option Unused
+unused_numbered why = cond (eqb why 0) None (cond (eqb why 1) (Some Unreadable) (Some TooLong))
+
+-- what is said of it
 abbrev pub unused : Unused → List ℕ
 unused Unreadable = text "<p class=\"message\">The names file cannot be read: signals have no names here.</p>\n"
 unused TooLong =

@@ -2,11 +2,11 @@
 #![tactic(auto)]
 
 ghost use mathlib.Core.List.{flat_map};
-ghost use Rattle.std.specs.Prelude.{◌+◌, ◌*◌, ◌≤◌, length};
+ghost use Rattle.std.specs.Prelude.{◌≡◌, ◌+◌, ◌*◌, ◌≤◌, length};
 ghost use Rattle.page_text.specs.Page.{HasRoom, Adds};
 ghost use Rattle.page_heads.specs.Heads.{summary, title, headline, tiles, number, cycle_head, cycle_row, memory};
 ghost use Rattle.page_heads.specs.Heads.{overflowed, calls, unreadable, unreadable_if, answered_with, last_answer};
-ghost use Rattle.page_heads.specs.Heads.{bad_line, bad_name, unused, names_unused};
+ghost use Rattle.page_heads.specs.Heads.{bad_line, bad_name, unused_numbered, unused, names_unused};
 
 use page_text::Page;
 
@@ -23,6 +23,17 @@ pub struct Totals {
 pub enum Unused {
     Unreadable,
     TooLong,
+}
+
+// The same by its number: 0 for no reason, 1 for a file that cannot be read, any other for one that is too long.
+pub fn unused_numbered(why: u16) -> Option<Unused>
+    ensures { result ≡ unused_numbered why }
+{
+    match why {
+        0 => None,
+        1 => Some(Unused::Unreadable),
+        _ => Some(Unused::TooLong),
+    }
 }
 
 fn put_summary(page: &mut Page, x: Totals)

@@ -249,21 +249,36 @@ impl Tally {
         }
     }
 
+    // What is told of the cases: how many ran, and how many differed.
+    pub fn told(self) -> (u64, u64)
+        ensures { (result.0 ≡ self.ran) × (result.1 ≡ self.differed) }
+    {
+        (u64::from(self.ran), u64::from(self.differed))
+    }
+
     // Says at the end of these cases how many ran and how many differed.
     pub fn say(self, name: &[u8]) {
+        let (ran, differed) = self.told();
         io::write_all(1, name);
         io::write_all(1, b": ");
-        io::print_decimal(1, u64::from(self.ran));
+        io::print_decimal(1, ran);
         io::write_all(1, b" ran, ");
-        io::print_decimal(1, u64::from(self.differed));
+        io::print_decimal(1, differed);
         io::write_all(1, b" differed\n");
     }
+}
+
+// What is told of the line where a case stands: its number.
+pub fn line_told(line: u32) -> u64
+    ensures { result ≡ line }
+{
+    u64::from(line)
 }
 
 // Says of a case that differs where it stands.
 pub fn say_differs(name: &[u8], line: u32) {
     io::write_all(1, name);
     io::write_all(1, b":");
-    io::print_decimal(1, u64::from(line));
+    io::print_decimal(1, line_told(line));
     io::write_all(1, b" differs\n");
 }
